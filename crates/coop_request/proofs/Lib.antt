@@ -1,0 +1,2 @@
+pub mod PieceRow
+pub mod Histories

@@ -1,0 +1,4 @@
+pub mod Piece
+pub mod Edit
+pub mod Request
+pub mod History

@@ -1,0 +1,2 @@
+pub mod EachAfterLemmas
+pub mod CaseLemmas

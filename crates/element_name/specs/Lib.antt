@@ -1,0 +1,7 @@
+pub mod Cases
+pub mod Growing
+pub mod Numbered
+pub mod Rows
+pub mod Name
+pub mod Tree
+pub mod Places

@@ -1,0 +1,15 @@
+//! Names of requests and elements, and the places of elements in text order.
+#![tactic(auto)]
+
+mod limits;
+mod name;
+mod no_memory;
+mod places;
+
+pub use limits::{MAX_STAMP, MAX_VERSION};
+pub use name::Name;
+pub use no_memory::NoMemory;
+pub use places::Places;
+
+#[cfg(test)]
+mod tests;
