@@ -1,0 +1,77 @@
+//! What no contract says: that memory is found, and what is done with a real stream's errors.
+use crate::{Failed, MemSink, MemSource, OutFail, ReadSource, Sink, Source, WriteSink};
+use std::io;
+use std::io::{Error, ErrorKind, Read, Write};
+use std::test::Fail;
+
+// Is interrupted at its first call, gives `ab` at the second, and fails from then on.
+#[derive(Drop)]
+struct Flaky {
+    calls: u8,
+}
+
+impl Read for Flaky {
+    fn read(&mut self, buf: &mut [u8]) -> io::Result<usize> {
+        self.calls = self.calls.saturating_add(1);
+        match self.calls {
+            1 => Err(Error::from(ErrorKind::Interrupted)),
+            2 if buf.len() >= 2 => {
+                buf[0] = b'a';
+                buf[1] = b'b';
+                Ok(2)
+            }
+            _ => Err(Error::from(ErrorKind::BrokenPipe)),
+        }
+    }
+}
+
+// Is interrupted at its first call, takes all at the second, and nothing from then on.
+#[derive(Drop)]
+struct Sticky {
+    calls: u8,
+}
+
+impl Write for Sticky {
+    fn write(&mut self, piece: &[u8]) -> io::Result<usize> {
+        self.calls = self.calls.saturating_add(1);
+        match self.calls {
+            1 => Err(Error::from(ErrorKind::Interrupted)),
+            2 => Ok(piece.len()),
+            _ => Ok(0),
+        }
+    }
+
+    fn flush(&mut self) -> io::Result<()> {
+        Ok(())
+    }
+}
+
+#[test]
+fn memory_gives_and_keeps_in_pieces(rt: HostRuntime) -> Result<(), Fail> {
+    let alloc = rt.alloc();
+    let mut source = MemSource::new(Vec::from_slice(alloc, b"abc")?, 2, vec![in alloc; 2]?);
+    let mut sink = MemSink::new(alloc, 2, vec![in alloc; 2]?);
+    let mut buf = [0; 4];
+    for wanted in [Ok(2), Err(Failed), Ok(1), Ok(0)] {
+        assert_eq!(rt; source.read(&mut buf), wanted);
+    }
+    for wanted in [Ok(2), Err(OutFail::Failed), Ok(2)] {
+        assert_eq!(rt; sink.write(b"xyz"), wanted);
+    }
+    assert_eq!(rt; sink.written(), b"xyxy".as_slice());
+    Ok(())
+}
+
+#[test]
+fn streams_go_on_after_an_interruption(rt: HostRuntime) -> Result<(), Fail> {
+    let mut source = ReadSource::new(Flaky { calls: 0 });
+    let mut buf = [0; 4];
+    assert_eq!(rt; source.read(&mut buf), Ok(2));
+    assert_eq!(rt; &buf[..2], b"ab".as_slice());
+    assert_eq!(rt; source.read(&mut buf), Err(Failed));
+
+    let mut sink = WriteSink::new(Sticky { calls: 0 });
+    assert_eq!(rt; sink.write(b"ab"), Ok(2));
+    assert_eq!(rt; sink.write(b"ab"), Err(OutFail::Failed));
+    Ok(())
+}
