@@ -1,0 +1,23 @@
+use Rattle.std.proofs.Common.{rules, ◌≡◌, ◌∙◌, insert, false, None, ap}
+use Rattle.tomb_seq.specs.Insert.{insert_fault}
+use Rattle.tomb_seq.specs.Slots.{names_in, with_new}
+use Rattle.tomb_seq.proofs.SlotLemmas.{insert_names}
+use Rattle.tomb_seq.proofs.SlotEdits.{IsFree-no_fault, IsSeq-insert}
+use Rattle.tomb_seq.proofs.seq.TombSeq.insert.Goals as goal
+
+put : (c : goal.In_ok-map_err) → c.insert.new.self.items ≡ insert c.self.inside.slots.items c.skip-place.result (record { name = c.args.name; shows = false })
+put c = search rules
+
+no_fault : (c : goal.In_ok-map_err) → insert_fault (names_in c.self.inside.slots.items) c.args.name c.args.after ≡ None
+no_fault c = search rules
+
+new_slots : (c : goal.In_ok-map_err) → c.insert.new.self.items ≡ with_new c.args.self.now c.args.name c.args.after
+new_slots c = search rules
+
+pub invariant_of-self-2 : goal.invariant_of-self-2
+invariant_of-self-2 c =
+    let free = IsFree-no_fault (names_in c.self.inside.slots.items) c.args.name c.args.after (no_fault c) in
+    rw (put c) (IsSeq-insert c.self.inside.slots.items c.skip-place.result (record { name = c.args.name; shows = false }) c.self.invariant free.new free.element)
+
+pub returns-clause-names : goal.returns-clause-names
+returns-clause-names c = ap names_in (new_slots c) ∙ insert_names c.args.self.now _ (record { name = c.args.name; shows = false })

@@ -1,0 +1,9 @@
+//! The sequence of elements in text order, and which of them show.
+#![tactic(auto)]
+
+mod fault;
+mod seq;
+mod slot;
+
+pub use fault::SeqFault;
+pub use seq::TombSeq;
