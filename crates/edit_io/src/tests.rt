@@ -25,7 +25,7 @@ impl Read for Flaky {
     }
 }
 
-// Is interrupted at its first call, takes all at the second, and nothing from then on.
+// Is interrupted at its first call, takes `ab` at the second, and nothing from then on.
 #[derive(Drop)]
 struct Sticky {
     calls: u8,
@@ -36,7 +36,7 @@ impl Write for Sticky {
         self.calls = self.calls.saturating_add(1);
         match self.calls {
             1 => Err(Error::from(ErrorKind::Interrupted)),
-            2 => Ok(piece.len()),
+            2 if piece == b"ab".as_slice() => Ok(2),
             _ => Ok(0),
         }
     }
