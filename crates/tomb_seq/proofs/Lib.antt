@@ -1,3 +1,10 @@
 pub mod NameOrder
 pub mod SlotLemmas
 pub mod SlotEdits
+pub mod Has
+pub mod PathOrder
+pub mod TreePaths
+pub mod InOrder
+pub mod Skipping
+pub mod Theorems
+pub mod Meaning

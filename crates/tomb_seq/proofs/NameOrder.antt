@@ -1,5 +1,5 @@
 -- The laws of `name_eq` and `name_lt`.
-use Rattle.std.proofs.Common.{◌≡◌, ◌<◌, ◌⊎◌, inl, inr, ⊎_elim, true, false, arith, subst, eqb-true}
+use Rattle.std.proofs.Common.{◌≡◌, ◌<◌, ◌⊎◌, inl, inr, ⊎_elim, Bool, true, false, arith, subst, eqb-true}
 use Rattle.std.proofs.lemmas.Bool.{and_parts, false_from_ne_true, both_ways, cases_Bool}
 use Rattle.std.proofs.lemmas.Bool.Decides.{nat_tests}
 use Rattle.element_name.specs.Name.{Name, name_eq, name_lt}
@@ -47,3 +47,13 @@ name_lt_up a b c up h =
     (λ (e : b ≡ a). subst (λ x. name_lt c x ≡ true) e h)
     (λ (l : b.stamp < a.stamp). name_lt_trans c b a h (name_lt_by_stamp b a l))
     up
+
+-- a is the greater
+abbrev pub greater : Name → Name → Bool
+greater a b = name_lt b a
+
+pub greater_trans : (a b c : Name) → greater a b ≡ true → greater b c ≡ true → greater a c ≡ true
+greater_trans a b c h k = name_lt_trans c b a k h
+
+pub greater_total : (a b : Name) → name_eq a b ≡ false → greater a b ≡ false → greater b a ≡ true
+greater_total a b h k = name_lt_total a b h k

@@ -1,2 +1,4 @@
 pub mod Slots
 pub mod Insert
+pub mod Order
+pub mod Laws

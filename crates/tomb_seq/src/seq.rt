@@ -6,6 +6,7 @@ ghost use Rattle.element_name.specs.Places.{is_anchor, place_in};
 ghost use Rattle.element_name.specs.Tree.{skip, with_fresh};
 ghost use Rattle.tomb_seq.specs.declared.fault.SeqFault.TheVariants.{NoMemory};
 ghost use Rattle.tomb_seq.specs.Insert.{insert_fault};
+ghost use Rattle.tomb_seq.specs.Order.{KeepsOrder};
 ghost use Rattle.tomb_seq.specs.Slots.{IsSeq, names_in, with_new, without, without_name};
 
 use crate::fault::SeqFault;
@@ -82,6 +83,7 @@ impl TombSeq {
         ensures place { IfOk result (λ place. place ≡ skip (names_in self.old) name after) }
         ensures slots { OnOk result (self.new ≡ with_new self.old name after) }
         ensures names { OnOk result (names_in self.new ≡ with_fresh (names_in self.old) name after) }
+        ensures order { OnOk result (KeepsOrder (names_in self.old) (names_in self.new) name after) }
         ensures fault { IfErr result (λ fault. fault ≡ unwrap_or (insert_fault (names_in self.old) name after) NoMemory) }
         ensures unchanged { OnErr result (self.new ≡ self.old) }
     {
