@@ -1,8 +1,8 @@
 -- What becomes of slots, and of their names, when one is put in or taken out.
-use Rattle.std.proofs.Common.{◌≡◌, ℕ, zero, suc, ⊎_elim, Bool, true, false, not, ◌||◌, List, [], ◌∷◌, insert, remove, refl, ap, ◌∙◌, sym, subst, arith}
+use Rattle.std.proofs.Common.{set, get_or, ◌≡◌, ℕ, zero, suc, ⊎_elim, Bool, true, false, not, ◌||◌, List, [], ◌∷◌, insert, remove, refl, ap, ◌∙◌, sym, subst, arith}
 use Rattle.std.proofs.lemmas.Bool.{and_parts, cases_Bool}
 use Rattle.element_name.specs.Name.{Name, start, name_eq, has_name, are_distinct}
-use Rattle.std.specs.Prelude.{nat_le, None}
+use Rattle.std.specs.Prelude.{nat_le, None, if◌then◌else◌}
 use Rattle.std.specs.declared.option.Option.{Option}
 use Rattle.element_name.proofs.CaseLemmas.{when-None, first_of-None}
 use Rattle.element_name.specs.Cases.{when}
@@ -11,7 +11,7 @@ use Rattle.tomb_seq.specs.declared.fault.SeqFault.{SeqFault}
 use Rattle.tomb_seq.specs.declared.fault.SeqFault.TheVariants.{There, NoAnchor, StampOrder}
 use Rattle.tomb_seq.specs.Insert.{insert_fault}
 use Rattle.tomb_seq.specs.declared.slot.Slot.{Slot}
-use Rattle.tomb_seq.specs.Slots.{names_in, without, without_name, IsSeq}
+use Rattle.tomb_seq.specs.Slots.{names_in, shown_in, without, without_name, with_mark, IsSeq}
 use Rattle.tomb_seq.proofs.NameOrder.{name_eq_comm, name_eq-true}
 use Rattle.tomb_seq.proofs.SlotLemmas.{insert_names}
 
@@ -142,3 +142,68 @@ IsFree-no_fault names n anchor e =
       anchored = true_of_not (is_anchor names anchor) (when-None (not (is_anchor names anchor)) NoAnchor b.0);
       rising = when-None (nat_le n.stamp anchor.stamp) StampOrder c.0;
     }
+
+-- the marks
+
+shown_put : (slots : List Slot) (s : Slot) (b : Bool) → s.shows ≡ b → shown_in (s ∷ slots) ≡ (if b then s.name ∷ shown_in slots else shown_in slots)
+shown_put slots s true e = rw e
+shown_put slots s false e = rw e
+
+pub shown_insert : (slots : List Slot) (k : ℕ) (n : Name) → shown_in (insert slots k (record { name = n; shows = false })) ≡ shown_in slots
+shown_insert [] zero n = refl
+shown_insert [] (suc k) n = refl
+shown_insert (s ∷ slots) zero n = refl
+shown_insert (s ∷ slots) (suc k) n =
+    shown_put (insert slots k (record { name = n; shows = false })) s s.shows refl
+    ∙ ap (λ (names : List Name). if s.shows then s.name ∷ names else names) (shown_insert slots k n)
+    ∙ sym (shown_put slots s s.shows refl)
+
+pub shown_without : (slots : List Slot) (n : Name) → shown_in (without slots n) ≡ without_name (shown_in slots) n
+shown_without [] n = refl
+shown_without (s ∷ slots) n =
+    ⊎_elim
+    (λ (t : name_eq n s.name ≡ true). ⊎_elim
+    (λ (u : s.shows ≡ true). rw (t, u, t) (shown_without slots n))
+    (λ (u : s.shows ≡ false). rw (t, u) (shown_without slots n))
+    (cases_Bool s.shows))
+    (λ (f : name_eq n s.name ≡ false). ⊎_elim
+    (λ (u : s.shows ≡ true). rw (f, u, f) (ap (λ (names : List Name). s.name ∷ names) (shown_without slots n)))
+    (λ (u : s.shows ≡ false). rw (f, u) (shown_without slots n))
+    (cases_Bool s.shows))
+    (cases_Bool (name_eq n s.name))
+
+pub names_mark : (slots : List Slot) (n : Name) (shows : Bool) → names_in (with_mark slots n shows) ≡ names_in slots
+names_mark [] n shows = refl
+names_mark (s ∷ slots) n shows =
+    ⊎_elim
+    (λ (t : name_eq n s.name ≡ true). rw t (ap (λ (names : List Name). s.name ∷ names) (names_mark slots n shows)))
+    (λ (f : name_eq n s.name ≡ false). rw f (ap (λ (names : List Name). s.name ∷ names) (names_mark slots n shows)))
+    (cases_Bool (name_eq n s.name))
+
+pub IsSeq-mark : (slots : List Slot) (n : Name) (shows : Bool) → IsSeq slots → IsSeq (with_mark slots n shows)
+IsSeq-mark slots n shows h = record { distinct = rw (names_mark slots n shows) h.distinct; elements = rw (names_mark slots n shows) h.elements }
+
+-- where the name isn't, no mark changes
+mark_none : (slots : List Slot) (n : Name) (shows : Bool) → has_name (names_in slots) n ≡ false → with_mark slots n shows ≡ slots
+mark_none [] n shows h = refl
+mark_none (s ∷ slots) n shows h =
+    let p = neither (name_eq n s.name) (has_name (names_in slots) n) h in
+    rw p.0 (ap (λ (rest : List Slot). s ∷ rest) (mark_none slots n shows p.1))
+
+-- a mark set at its place is that of the element of a name
+pub set_mark : (slots : List Slot) (n : Name) (shows : Bool) (k : ℕ) (x : Slot) → are_distinct (names_in slots) ≡ true → has_name (names_in slots) n ≡ true → k ≡ place_in (names_in slots) n
+    → x ≡ get_or slots k x → set slots k (record { name = x.name; shows = shows }) ≡ with_mark slots n shows
+set_mark [] n shows k x d h e is = absurd (cc)
+set_mark (s ∷ slots) n shows k x d h e is =
+    ⊎_elim
+    (λ (t : name_eq n s.name ≡ true).
+    let here : k ≡ 0 = e ∙ rw t in
+    let one : x ≡ s = is ∙ ap (λ (i : ℕ). get_or (s ∷ slots) i x) here in
+    let rest : with_mark slots n shows ≡ slots = mark_none slots n shows (subst (λ m. has_name (names_in slots) m ≡ false) (sym (name_eq-true n s.name t)) (distinct_head s.name (names_in slots) d)) in
+    rw (here, t) (λ i. record { name = (one i).name; shows = shows } ∷ sym rest i))
+    (λ (f : name_eq n s.name ≡ false).
+    let there : k ≡ suc (place_in (names_in slots) n) = e ∙ rw f (omega arith) in
+    let rest : has_name (names_in slots) n ≡ true = rw f at h in
+    let one : x ≡ get_or slots (place_in (names_in slots) n) x = is ∙ ap (λ (i : ℕ). get_or (s ∷ slots) i x) there in
+    rw (there, f) (ap (λ (ss : List Slot). s ∷ ss) (set_mark slots n shows (place_in (names_in slots) n) x (distinct_tail s.name (names_in slots) d) rest refl one)))
+    (cases_Bool (name_eq n s.name))

@@ -1,14 +1,17 @@
 -- Slots, and the list of their names.
-use Rattle.std.proofs.Common.{◌≡◌, ℕ, zero, suc, ◌+◌, ◌<◌, ◌≤◌, ⊎_elim, Bool, true, false, cond, not, List, [], ◌∷◌, insert, drop, length, Some, None, refl, ap, ◌∙◌, arith}
-use Rattle.std.specs.Prelude.{◌||◌}
+use Rattle.std.proofs.Common.{filter, sym, ◌≡◌, ℕ, zero, suc, ◌+◌, ◌<◌, ◌≤◌, ⊎_elim, Bool, true, false, cond, not, List, [], ◌∷◌, insert, drop, length, Some, None, refl, ap, ◌∙◌, arith}
+use Rattle.std.specs.Prelude.{◌||◌, ◌&&◌, nat_lt, count_by}
+use Rattle.std.proofs.lemmas.Bool.Decides.{nat_tests}
+use Rattle.std.proofs.lemmas.List.Sums.{prefix_len-le-length, length-filter}
+use Rattle.element_name.proofs.CaseLemmas.{when-None, when-Some}
 use Rattle.std.specs.List.{list_any, prefix_len, position_or_len}
 use Rattle.std.proofs.lemmas.Bool.{cases_Bool}
 use Rattle.element_name.specs.Cases.{when}
 use Rattle.element_name.specs.Name.{Name, start, name_eq, name_lt, has_name}
 use Rattle.element_name.specs.Tree.{after_anchor, skip}
-use Rattle.element_name.specs.Places.{place_in, is_anchor}
+use Rattle.element_name.specs.Places.{place_in, is_anchor, stands_before}
 use Rattle.tomb_seq.specs.declared.slot.Slot.{Slot}
-use Rattle.tomb_seq.specs.Slots.{names_in}
+use Rattle.tomb_seq.specs.Slots.{names_in, shown_in}
 
 any_names : (test : Name → Bool) (slots : List Slot) → list_any (λ s. test s.name) slots ≡ list_any test (names_in slots)
 any_names test [] = refl
@@ -94,3 +97,32 @@ place_of_none slots n k e l =
 -- the place of a name in what a slice shows
 pub place_seen : (seen slots : List Slot) (n : Name) (k : ℕ) → k ≡ position_or_len (λ s. name_eq n s.name) seen → seen ≡ slots → k ≡ place_in (names_in slots) n
 place_seen seen slots n k e is = e ∙ place_names seen n ∙ ap (λ (ss : List Slot). place_in (names_in ss) n) is
+
+-- what `stands_before` answers, by the places that there are
+
+pub stands_some : (names : List Name) (a b : Name) (i j : ℕ) → when (has_name names a) (place_in names a) ≡ Some i → when (has_name names b) (place_in names b) ≡ Some j → nat_lt i j ≡ stands_before names a b
+stands_some names a b i j p q =
+    let x = when-Some (has_name names a) (place_in names a) i p in
+    let y = when-Some (has_name names b) (place_in names b) j q in
+    let below = found_below (name_eq b) names y.0 in
+    test (place_in names a) (place_in names b) (length names) i j x.1 y.1 below
+  where
+    test : (u v l i j : ℕ) → u ≡ i → v ≡ j → v < l → nat_lt i j ≡ (nat_lt u v && nat_lt v l)
+    test u v l i j d e h = grind (arith, nat_tests)
+
+pub stands_none_first : (names : List Name) (a b : Name) → when (has_name names a) (place_in names a) ≡ None → false ≡ stands_before names a b
+stands_none_first names a b p =
+    test (place_in names a) (place_in names b) (length names) (no_place names a (when-None (has_name names a) (place_in names a) p)) (prefix_len-le-length (λ m. not (name_eq b m)) names)
+  where
+    test : (u v l : ℕ) → u ≡ l → v ≤ l → false ≡ (nat_lt u v && nat_lt v l)
+    test u v l e h = grind (arith, nat_tests)
+
+pub stands_none_second : (names : List Name) (a b : Name) → when (has_name names b) (place_in names b) ≡ None → false ≡ stands_before names a b
+stands_none_second names a b p =
+    test (place_in names a) (place_in names b) (length names) (no_place names b (when-None (has_name names b) (place_in names b) p))
+  where
+    test : (u v l : ℕ) → v ≡ l → false ≡ (nat_lt u v && nat_lt v l)
+    test u v l e = grind (arith, nat_tests)
+
+pub count_shown : (slots : List Slot) → count_by (λ s. s.shows) slots ≡ length (shown_in slots)
+count_shown slots = sym (length_names (filter (λ s. s.shows) slots) ∙ length-filter (λ s. s.shows) slots)

@@ -3,6 +3,7 @@
 
 mod fault;
 pub mod laws;
+mod places;
 mod seq;
 mod slot;
 

@@ -7,7 +7,7 @@ ghost use Rattle.element_name.specs.Tree.{skip, with_fresh};
 ghost use Rattle.tomb_seq.specs.declared.fault.SeqFault.TheVariants.{NoMemory};
 ghost use Rattle.tomb_seq.specs.Insert.{insert_fault};
 ghost use Rattle.tomb_seq.specs.Order.{KeepsOrder};
-ghost use Rattle.tomb_seq.specs.Slots.{IsSeq, names_in, with_new, without, without_name};
+ghost use Rattle.tomb_seq.specs.Slots.{IsSeq, names_in, shown_in, with_new, with_mark, without, without_name};
 
 use crate::fault::SeqFault;
 use crate::slot::{self, Slot};
@@ -60,7 +60,8 @@ impl TombSeq {
 
     /// The place of an element in text order; none where the name is no element.
     pub fn place_of(&self, name: Name) -> Option<usize>
-        ensures { result ≡ when (has_name (names_in self.now) name) (place_in (names_in self.now) name) }
+        ensures place { result ≡ when (has_name (names_in self.now) name) (place_in (names_in self.now) name) }
+        ensures elements { IsSeq self.now }
     {
         slot::place_of(&self.slots, name)
     }
@@ -83,6 +84,7 @@ impl TombSeq {
         ensures place { IfOk result (λ place. place ≡ skip (names_in self.old) name after) }
         ensures slots { OnOk result (self.new ≡ with_new self.old name after) }
         ensures names { OnOk result (names_in self.new ≡ with_fresh (names_in self.old) name after) }
+        ensures shown { OnOk result (shown_in self.new ≡ shown_in self.old) }
         ensures order { OnOk result (KeepsOrder (names_in self.old) (names_in self.new) name after) }
         ensures fault { IfErr result (λ fault. fault ≡ unwrap_or (insert_fault (names_in self.old) name after) NoMemory) }
         ensures unchanged { OnErr result (self.new ≡ self.old) }
@@ -103,8 +105,33 @@ impl TombSeq {
         requires { has_name (names_in self.old) name ≡ true }
         ensures slots { self.new ≡ without self.old name }
         ensures names { names_in self.new ≡ without_name (names_in self.old) name }
+        ensures shown { shown_in self.new ≡ without_name (shown_in self.old) name }
     {
         let place = slot::place_in(&self.slots, name);
         self.slots.remove(place);
+    }
+
+    /// Says of an element whether it shows, and leaves the other marks. Takes no memory.
+    pub fn mark(&mut self, name: Name, shows: bool)
+        requires { has_name (names_in self.old) name ≡ true }
+        ensures slots { self.new ≡ with_mark self.old name shows }
+        ensures names { names_in self.new ≡ names_in self.old }
+    {
+        let place = slot::place_in(&self.slots, name);
+        self.slots[place].shows = shows;
+    }
+
+    /// How many elements show.
+    pub fn shown(&self) -> usize
+        ensures { result ≡ length (shown_in self.now) }
+    {
+        slot::shown(&self.slots)
+    }
+
+    /// The element at a place among those that show, in text order.
+    pub fn shown_at(&self, i: usize) -> Option<Name>
+        ensures { result ≡ slice_get (shown_in self.now) i }
+    {
+        slot::shown_at(&self.slots, i)
     }
 }

@@ -1,12 +1,12 @@
 //! Elements with their marks, one after another.
-ghost use Rattle.std.specs.Prelude.{◌≡◌, ◌≤◌, ◌<◌, IsTrue, drop, length, slice_get};
+ghost use Rattle.std.specs.Prelude.{◌≡◌, ◌≤◌, ◌<◌, IsTrue, count_by, drop, length, slice_get};
 ghost use Rattle.element_name.specs.Cases.{when};
 ghost use Rattle.std.specs.List.{list_any, position_or_len, prefix_len};
 ghost use Rattle.element_name.specs.Name.{name_eq, name_lt, has_name};
 ghost use Rattle.element_name.specs.Places.{is_anchor, place_in};
 ghost use Rattle.element_name.specs.Tree.{after_anchor, skip};
 ghost use Rattle.tomb_seq.specs.Insert.{insert_fault};
-ghost use Rattle.tomb_seq.specs.Slots.{names_in};
+ghost use Rattle.tomb_seq.specs.Slots.{names_in, shown_in};
 
 use crate::fault::SeqFault;
 use element_name::Name;
@@ -80,6 +80,20 @@ pub fn place_of(slots: &[Slot], n: Name) -> Option<usize>
     } else {
         None
     }
+}
+
+/// How many show.
+pub fn shown(slots: &[Slot]) -> usize
+    ensures { result ≡ count_by (λ s. s.shows) slots.now }
+{
+    slots.iter().filter(|s| s.shows).count()
+}
+
+/// The name at a place among those that show.
+pub fn shown_at(slots: &[Slot], i: usize) -> Option<Name>
+    ensures { result ≡ slice_get (shown_in slots.now) i }
+{
+    slots.iter().filter(|s| s.shows).map(|s| s.name).nth(i)
 }
 
 /// Whether the name is the start or an element.

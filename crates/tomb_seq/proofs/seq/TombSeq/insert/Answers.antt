@@ -1,8 +1,8 @@
 use Rattle.std.proofs.Common.{rules, ◌≡◌, ◌∙◌, insert, false, None, ap}
 use Rattle.tomb_seq.specs.Insert.{insert_fault}
-use Rattle.tomb_seq.specs.Slots.{names_in, with_new}
+use Rattle.tomb_seq.specs.Slots.{names_in, shown_in, with_new}
 use Rattle.tomb_seq.proofs.SlotLemmas.{insert_names}
-use Rattle.tomb_seq.proofs.SlotEdits.{IsFree-no_fault, IsSeq-insert}
+use Rattle.tomb_seq.proofs.SlotEdits.{IsFree-no_fault, shown_insert, IsSeq-insert}
 use Rattle.std.proofs.Common.{List, sym, subst}
 use Rattle.element_name.specs.Name.{Name}
 use Rattle.tomb_seq.specs.Order.{KeepsOrder}
@@ -30,3 +30,6 @@ pub returns-clause-order : goal.returns-clause-order
 returns-clause-order c =
     subst (λ (names : List Name). KeepsOrder (names_in c.args.self.now) names c.args.name c.args.after) (sym (returns-clause-names c))
     (fresh_order (names_in c.args.self.now) c.args.name c.args.after)
+
+pub returns-clause-shown : goal.returns-clause-shown
+returns-clause-shown c = ap shown_in (new_slots c) ∙ shown_insert c.args.self.now _ c.args.name

@@ -1,8 +1,8 @@
 use Rattle.std.proofs.Common.{◌≡◌, ◌∙◌, arith, ap, true}
 use Rattle.element_name.specs.Name.{has_name}
-use Rattle.tomb_seq.specs.Slots.{names_in, without}
+use Rattle.tomb_seq.specs.Slots.{names_in, shown_in, without}
 use Rattle.tomb_seq.proofs.SlotLemmas.{place_seen, place_below}
-use Rattle.tomb_seq.proofs.SlotEdits.{remove_without, without_names, IsSeq-without}
+use Rattle.tomb_seq.proofs.SlotEdits.{remove_without, shown_without, without_names, IsSeq-without}
 use Rattle.tomb_seq.proofs.seq.TombSeq.remove.Goals as goal
 
 pub remove-requires : goal.remove-requires
@@ -26,3 +26,6 @@ returns-clause-slots c = gone c ∙ ap (λ slots. without slots c.args.name) c.s
 
 pub returns-clause-names : goal.returns-clause-names
 returns-clause-names c = ap names_in (returns-clause-slots c) ∙ without_names c.args.self.now c.args.name
+
+pub returns-clause-shown : goal.returns-clause-shown
+returns-clause-shown c = ap shown_in (returns-clause-slots c) ∙ shown_without c.args.self.now c.args.name
