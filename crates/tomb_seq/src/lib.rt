@@ -9,3 +9,6 @@ mod slot;
 
 pub use fault::SeqFault;
 pub use seq::TombSeq;
+
+#[cfg(test)]
+mod tests;
