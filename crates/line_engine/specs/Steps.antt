@@ -1,12 +1,11 @@
 -- What the steps of a run say of what was written.
-use Rattle.std.specs.Prelude.{◌≡◌, ℕ, ◌≤◌, ◌<◌, Bool, true, false, List, [], ◌++◌, Option, Result, IsErrOf}
+use Rattle.std.specs.Prelude.{◌≡◌, ℕ, ◌≤◌, ◌<◌, Bool, true, false, List, [], ◌++◌, Option, Result, IsTrue, IsErrOf}
 use Rattle.std.specs.Io.KnownBytes.{Appends}
 use Rattle.edit_io.specs.Causes.{Rose}
 use Rattle.line_engine.specs.declared.status.Status.{Status}
-use Rattle.line_engine.specs.declared.status.Status.TheVariants.{Done}
 use Rattle.line_engine.specs.declared.status.Stop.{Stop}
 use Rattle.line_engine.specs.declared.status.Stop.TheVariants as stops
-use Rattle.line_engine.specs.Output.{Ends}
+use Rattle.line_engine.specs.Output.{is_whole, Ends}
 use Rattle.line_engine.specs.Form.{Meaning, Follows, Rests}
 
 -- one step: what was to be written was written, and where nothing was left to answer, nothing is
@@ -23,15 +22,16 @@ pub record Takes {F : Type 0} (m : Meaning F) (old new : F) (sink_old sink_new :
   pub appends : Appends sink_old sink_new written
 
 -- the run ended so in these bytes, whatever would have come after them
-pub record Stops {F : Type 0} (m : Meaning F) (old : F) (sink_old sink_new : Option (List ℕ)) (taken : List ℕ) (status : Status) (written : List ℕ) : Type 0 where
+pub record Stops {F : Type 0} (m : Meaning F) (old new : F) (sink_old sink_new : Option (List ℕ)) (taken : List ℕ) (status : Status) (written : List ℕ) : Type 0 where
   pub ends : (cut : Bool) (more : List ℕ) → Ends status written (m.output old cut (taken ++ more))
   pub appends : Appends sink_old sink_new written
+  pub leaves : IsTrue (is_whole status) → (cut : Bool) (more : List ℕ) → m.leaves old cut (taken ++ more) new
 
 -- the run ended so at the end, of the input or of the part of it that counts
 pub record Closes {F : Type 0} (m : Meaning F) (old new : F) (sink_old sink_new : Option (List ℕ)) (cut : Bool) (status : Status) (written : List ℕ) : Type 0 where
   pub ends : Ends status written (m.output old cut [])
   pub appends : Appends sink_old sink_new written
-  pub leaves : status ≡ Done → m.leaves old [] new
+  pub leaves : IsTrue (is_whole status) → m.leaves old cut [] new
 
 -- a count never falls, and a run is stopped by a write only where it rose
 pub record StopCause {T : Type 0} (before now : ℕ) (result : Result T Stop) : Type 0 where
