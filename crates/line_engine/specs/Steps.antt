@@ -9,26 +9,30 @@ use Rattle.line_engine.specs.Output.{is_whole, Ends}
 use Rattle.line_engine.specs.Form.{Meaning, Follows, Rests}
 
 -- one step: what was to be written was written, and where nothing was left to answer, nothing is
-pub record Steps {F : Type 0} (m : Meaning F) (held : F → ℕ) (old new : F) (sink_old sink_new : Option (List ℕ)) (written : List ℕ) (again : Bool) : Type 0 where
+pub record Steps {F : Type 0} (m : Meaning F) (held : F → ℕ) (old new : F)
+    (sink_old sink_new : Option (List ℕ)) (written : List ℕ) (again : Bool) : Type 0 where
   pub follows : Follows m old new [] written
   pub appends : Appends sink_old sink_new written
   pub falls : again ≡ true → held new < held old
   pub rests : again ≡ false → Rests m new
 
 -- the form took these bytes, what was to be written of them was written, and nothing is left to answer
-pub record Takes {F : Type 0} (m : Meaning F) (old new : F) (sink_old sink_new : Option (List ℕ)) (taken written : List ℕ) : Type 0 where
+pub record Takes {F : Type 0} (m : Meaning F) (old new : F)
+    (sink_old sink_new : Option (List ℕ)) (taken written : List ℕ) : Type 0 where
   pub follows : Follows m old new taken written
   pub rests : Rests m new
   pub appends : Appends sink_old sink_new written
 
 -- the run ended so in these bytes, whatever would have come after them
-pub record Stops {F : Type 0} (m : Meaning F) (old new : F) (sink_old sink_new : Option (List ℕ)) (taken : List ℕ) (status : Status) (written : List ℕ) : Type 0 where
+pub record Stops {F : Type 0} (m : Meaning F) (old new : F)
+    (sink_old sink_new : Option (List ℕ)) (taken : List ℕ) (status : Status) (written : List ℕ) : Type 0 where
   pub ends : (cut : Bool) (more : List ℕ) → Ends status written (m.output old cut (taken ++ more))
   pub appends : Appends sink_old sink_new written
   pub leaves : IsTrue (is_whole status) → (cut : Bool) (more : List ℕ) → m.leaves old cut (taken ++ more) new
 
 -- the run ended so at the end, of the input or of the part of it that counts
-pub record Closes {F : Type 0} (m : Meaning F) (old new : F) (sink_old sink_new : Option (List ℕ)) (cut : Bool) (status : Status) (written : List ℕ) : Type 0 where
+pub record Closes {F : Type 0} (m : Meaning F) (old new : F)
+    (sink_old sink_new : Option (List ℕ)) (cut : Bool) (status : Status) (written : List ℕ) : Type 0 where
   pub ends : Ends status written (m.output old cut [])
   pub appends : Appends sink_old sink_new written
   pub leaves : IsTrue (is_whole status) → m.leaves old cut [] new

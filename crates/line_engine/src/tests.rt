@@ -33,7 +33,8 @@ fn put_last(alloc: Global, number: usize, out: &mut Vec<u8>) -> Result<(), Alloc
 }
 
 impl Lines for Lengths {
-    ghost turn = { λ w line. if length line == 0 then None else Some (record { reply = decimal (length line) ++ 10 ∷ []; world = record { last = Some (length line) } }) };
+    ghost turn = { λ w line. if length line == 0 then None
+        else Some (record { reply = decimal (length line) ++ 10 ∷ []; world = record { last = Some (length line) } }) };
 
     ghost closing = { λ w. option_map (λ number. codes "last " ++ (decimal number ++ 10 ∷ [])) w.last };
 
