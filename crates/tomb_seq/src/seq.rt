@@ -1,5 +1,5 @@
 //! The sequence.
-ghost use Rattle.std.specs.Prelude.{◌≡◌, ◌<◌, [], length, true, false, None, IsTrue, IfOk, IfErr, OnOk, OnErr, slice_get, unwrap_or};
+ghost use Rattle.std.specs.Prelude.{◌≡◌, ◌<◌, ◌≤◌, [], length, true, false, None, IsTrue, IfOk, IfErr, OnOk, OnErr, slice_get, unwrap_or};
 ghost use Rattle.element_name.specs.Cases.{when};
 ghost use Rattle.element_name.specs.Name.{has_name};
 ghost use Rattle.element_name.specs.Places.{is_anchor, place_in};
@@ -82,6 +82,7 @@ impl TombSeq {
     pub fn insert(&mut self, name: Name, after: Name) -> Result<usize, SeqFault>
         ensures legal { OnOk result (insert_fault (names_in self.old) name after ≡ None) }
         ensures place { IfOk result (λ place. place ≡ skip (names_in self.old) name after) }
+        ensures within { IfOk result (λ place. place ≤ length self.old) }
         ensures slots { OnOk result (self.new ≡ with_new self.old name after) }
         ensures names { OnOk result (names_in self.new ≡ with_fresh (names_in self.old) name after) }
         ensures shown { OnOk result (shown_in self.new ≡ shown_in self.old) }

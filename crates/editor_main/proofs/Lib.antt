@@ -1,0 +1,4 @@
+pub mod DigitLemmas
+pub mod Growth
+pub mod KeptLemmas
+pub mod Usage
