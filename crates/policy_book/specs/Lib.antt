@@ -1,0 +1,6 @@
+pub mod Lists
+pub mod Rights
+pub mod Operation
+pub mod Entry
+pub mod Policy
+pub mod Reach

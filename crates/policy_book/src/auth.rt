@@ -1,0 +1,104 @@
+//! Authorizations.
+ghost use Rattle.std.specs.Prelude.{◌≡◌, IsTrue, ◌||◌};
+ghost use Rattle.element_name.specs.Cases.{when};
+ghost use Rattle.policy_book.specs.Rights.{has_any};
+
+use crate::lists::{NameList, NumList};
+use element_name::Name;
+use std::marker::Model;
+
+/// Which elements an object covers.
+#[derive(Drop)]
+pub enum Extent {
+    /// Every element.
+    All,
+    /// The elements from the first to the last in text order, both included.
+    Span(Name, Name),
+    /// The elements of these names.
+    Elems(NameList),
+    /// The elements that the user's inserts made.
+    By(u16),
+}
+
+/// Whom an authorization speaks of.
+#[derive(Drop)]
+pub enum UserSet {
+    /// Every user.
+    All,
+    /// The users of these numbers.
+    Listed(NumList),
+    /// The members of the groups of these numbers.
+    Groups(NumList),
+}
+
+/// At least one of the three rights.
+#[derive(Clone, Copy, Debug, PartialEq, Eq)]
+pub struct Rights {
+    insert: bool,
+    delete: bool,
+    update: bool,
+}
+
+impl Model for Rights {
+    ghost use Rattle.std.specs.Prelude.{◌≡◌, true};
+    ghost use Rattle.policy_book.specs.Rights as spec;
+
+    ghost Value = { spec.Rights };
+
+    ghost view = { λ r. record { insert = r.insert; delete = r.delete; update = r.update } };
+
+    ghost invariant = { λ r. spec.has_any (record { insert = r.insert; delete = r.delete; update = r.update }) ≡ true };
+
+    ghost inverse = { λ r. record { insert = r.insert; delete = r.delete; update = r.update } };
+}
+
+/// A positive or negative authorization: of users, for rights, on objects.
+#[derive(Drop)]
+pub struct Auth {
+    pub users: UserSet,
+    pub rights: Rights,
+    /// The numbers of objects. Those that the policy doesn't have cover nothing.
+    pub objects: NumList,
+    /// Whether it allows, or forbids.
+    pub grant: bool,
+}
+
+impl Rights {
+    /// These rights; none where it would be no right at all.
+    pub fn checked(insert: bool, delete: bool, update: bool) -> Option<Rights>
+        ensures { result ≡ when (insert || (delete || update)) (record { insert = insert; delete = delete; update = update }) }
+    {
+        if !(insert || delete || update) {
+            return None;
+        }
+        Some(Rights {
+            insert,
+            delete,
+            update,
+        })
+    }
+
+    /// The right to insert elements.
+    pub fn insert(self) -> bool
+        ensures value { result ≡ self.insert }
+        ensures some { IsTrue (has_any self) }
+    {
+        self.insert
+    }
+
+    /// The right to delete elements.
+    pub fn delete(self) -> bool
+        ensures value { result ≡ self.delete }
+        ensures some { IsTrue (has_any self) }
+    {
+        self.delete
+    }
+
+    /// The right to change what elements show.
+    pub fn update(self) -> bool
+        ensures value { result ≡ self.update }
+        ensures some { IsTrue (has_any self) }
+    {
+        self.update
+    }
+}

@@ -1,0 +1,21 @@
+//! Policies: who may do what where, the operations that change them, and whose requests a change may deny.
+#![tactic(auto)]
+
+mod auth;
+mod fault;
+mod limits;
+mod lists;
+mod op;
+mod parts;
+mod policy;
+mod ranges;
+mod reach;
+
+pub use auth::{Auth, Extent, Rights, UserSet};
+pub use fault::EntryFault;
+pub use limits::{MAX_NAMES, MAX_NUMBERS, MAX_OF_KIND};
+pub use lists::{NameList, NumList};
+pub use op::{AdminOp, Entry};
+pub use parts::{Group, Members, NumberedAuth, Object};
+pub use policy::Policy;
+pub use reach::{Reach, UserRow};

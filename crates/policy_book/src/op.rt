@@ -1,0 +1,75 @@
+//! Administrative operations.
+ghost use Rattle.std.specs.Prelude.{◌≡◌, IsTrue};
+ghost use Rattle.element_name.specs.Cases.{when};
+ghost use Rattle.policy_book.specs.Entry.{is_entry_version, is_entry};
+
+use crate::auth::{Auth, Extent};
+use crate::ranges::operation_in_range;
+use element_name::{MAX_VERSION, Name};
+use std::marker::Model;
+
+/// A change of the policy. Users, objects and groups go by numbers of their own.
+#[derive(Drop)]
+pub enum AdminOp {
+    AddUser(u16),
+    DelUser(u16),
+    AddObj(u16, Extent),
+    DelObj(u16),
+    AddGroup(u16),
+    DelGroup(u16),
+    AddMember { group: u16, user: u16 },
+    DelMember { group: u16, user: u16 },
+    /// The authorization is put at this place, from 0, and later ones move up.
+    AddAuth(u16, Auth),
+    /// The authorization at this place, from 0, is removed.
+    DelAuth(u16),
+    /// The request of this name is confirmed. It changes no policy.
+    Validate(Name),
+}
+
+/// An operation with the policy version that it makes, from 1.
+#[derive(Drop)]
+pub struct Entry {
+    version: u32,
+    op: AdminOp,
+}
+
+impl Model for Entry {
+    ghost use Rattle.std.specs.Prelude.{◌≡◌, true};
+    ghost use Rattle.policy_book.specs.Entry as spec;
+
+    ghost Value = { spec.Entry };
+
+    ghost view = { λ e. record { version = e.version; op = e.op } };
+
+    ghost invariant = { λ e. spec.is_entry (record { version = e.version; op = e.op }) ≡ true };
+}
+
+impl Entry {
+    /// The entry of this version; none where the version is 0 or above [`MAX_VERSION`].
+    pub fn checked(version: u32, op: AdminOp) -> Option<Entry>
+        ensures { result ≡ when (is_entry_version version) (record { version = version; op = op }) }
+    {
+        if version == 0 || version > MAX_VERSION {
+            return None;
+        }
+        operation_in_range(&op);
+        Some(Entry { version, op })
+    }
+
+    /// The policy version that it makes.
+    pub fn version(&self) -> u32
+        ensures value { result ≡ self.now.version }
+        ensures entry { IsTrue (is_entry self.now) }
+    {
+        self.version
+    }
+
+    /// The change.
+    pub fn op(&self) -> &AdminOp
+        ensures value { result.now ≡ self.now.op }
+        ensures entry { IsTrue (is_entry self.now) }
+    {
+        &self.op
+    }
+}

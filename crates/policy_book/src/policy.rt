@@ -1,0 +1,220 @@
+//! Policies.
+ghost use Rattle.std.specs.Prelude.{◌≡◌, ◌==◌, [], ◌∷◌, not, nat_le, nat_lt, length, slice_get, option_map};
+ghost use Rattle.element_name.specs.Cases.{when, first_of};
+ghost use Rattle.std.specs.Option.{option_copied};
+ghost use Rattle.policy_book.specs.Policy.{IsWithinLimits, is_user, extent_of, members_of, is_object, is_group, is_member, is_full, is_full_group, policy_fault};
+
+use crate::auth::{Auth, Extent};
+use crate::fault::EntryFault;
+use crate::limits::MAX_OF_KIND;
+use crate::op::AdminOp;
+use crate::parts::{Group, Members, NumberedAuth, Object};
+use std::marker::Model;
+
+/// Users, objects, groups, and the authorizations in the order of matching.
+///
+/// A policy has at most [`MAX_OF_KIND`] of a kind, so each call looks through a few short lists.
+#[derive(Drop)]
+pub struct Policy {
+    users: Vec<u16>,
+    objects: Vec<Object>,
+    groups: Vec<Group>,
+    auths: Vec<NumberedAuth>,
+}
+
+impl Model for Policy {
+    ghost use Rattle.policy_book.specs.Policy as spec;
+
+    ghost Value = { spec.Policy };
+
+    ghost view = { λ p. record { users = p.users.items; objects = p.objects.items; groups = p.groups.items; auths = p.auths.items } };
+
+    ghost invariant = { λ p. spec.IsWithinLimits (record { users = p.users.items; objects = p.objects.items; groups = p.groups.items; auths = p.auths.items }) };
+}
+
+impl Policy {
+    /// Whether there is a user of this number.
+    pub fn user(&self, u: u16) -> bool
+        ensures { result ≡ is_user self.now u }
+    {
+        self.users.iter().any(|x| *x == u)
+    }
+
+    /// The extent of the object of this number.
+    pub fn extent(&self, number: u16) -> Option<&Extent>
+        ensures { option_copied result ≡ extent_of self.now number }
+    {
+        self.objects
+            .iter()
+            .find(|o| o.number == number)
+            .map(|o| &o.extent)
+    }
+
+    /// Whether there is a group of this number.
+    pub fn group(&self, number: u16) -> bool
+        ensures { result ≡ is_group self.now number }
+    {
+        self.members(number).is_some()
+    }
+
+    /// Whether there is such a group with this member, who may be no user.
+    pub fn member(&self, group: u16, user: u16) -> bool
+        ensures { result ≡ is_member self.now group user }
+    {
+        match self.members(group) {
+            Some(members) => members.has(user),
+            None => false,
+        }
+    }
+
+    fn members(&self, number: u16) -> Option<&Members>
+        ensures { option_copied result ≡ members_of self.now number }
+    {
+        self.groups
+            .iter()
+            .find(|g| g.number == number)
+            .map(|g| &g.members)
+    }
+
+    fn is_full_group(&self, number: u16) -> bool
+        ensures { result ≡ is_full_group self.now number }
+    {
+        match self.members(number) {
+            Some(members) => members.len() >= MAX_OF_KIND,
+            None => false,
+        }
+    }
+
+    /// How many authorizations there are.
+    pub fn auths(&self) -> u32
+        ensures value { result ≡ length self.now.auths }
+        ensures limits { IsWithinLimits self.now }
+    {
+        self.auths.len() as u32
+    }
+
+    /// The authorization at a place, from 0, behind its number.
+    pub fn auth(&self, place: u32) -> Option<(u32, &Auth)>
+        ensures number { option_map (λ a. a.0) result ≡ option_map (λ a. a.number) (slice_get self.now.auths place) }
+        ensures value { option_map (λ a. a.1.now) result ≡ option_map (λ a. a.auth) (slice_get self.now.auths place) }
+    {
+        match self.auths.get(place as usize) {
+            Some(a) => Some((a.number, &a.auth)),
+            None => None,
+        }
+    }
+
+    /// The authorizations in the order of matching.
+    pub fn as_slice(&self) -> &[NumberedAuth]
+        ensures value { result.now ≡ self.now.auths }
+        ensures limits { IsWithinLimits self.now }
+    {
+        self.auths.as_slice()
+    }
+
+    /// The first fault of an operation on this policy; none where it is legal. Whether a name was
+    /// validated before, only the log knows.
+    pub fn legal(&self, op: &AdminOp) -> Option<EntryFault>
+        ensures { result ≡ policy_fault self.now op.now }
+    {
+        match op {
+            AdminOp::AddUser(u) => self.add_user_fault(*u),
+            AdminOp::DelUser(u) => self.del_user_fault(*u),
+            AdminOp::AddObj(n, _) => self.add_object_fault(*n),
+            AdminOp::DelObj(n) => fault_if(self.extent(*n).is_none(), EntryFault::NoObject),
+            AdminOp::AddGroup(g) => self.add_group_fault(*g),
+            AdminOp::DelGroup(g) => fault_if(!self.group(*g), EntryFault::NoGroup),
+            AdminOp::AddMember { group, user } => self.add_member_fault(*group, *user),
+            AdminOp::DelMember { group, user } => self.del_member_fault(*group, *user),
+            AdminOp::AddAuth(place, _) => self.add_auth_fault(*place),
+            AdminOp::DelAuth(place) => {
+                let len = self.auths();
+                fault_if(u32::from(*place) >= len, EntryFault::BadPlace(len))
+            }
+            AdminOp::Validate(_) => None,
+        }
+    }
+
+    fn add_user_fault(&self, u: u16) -> Option<EntryFault>
+        ensures { result ≡ first_of (when (is_user self.now u) EntryFault.UserThere ∷ when (is_full self.now.users) (EntryFault.TooMany MAX_OF_KIND) ∷ []) }
+    {
+        if self.user(u) {
+            return Some(EntryFault::UserThere);
+        }
+        full_fault(self.users.len())
+    }
+
+    fn del_user_fault(&self, u: u16) -> Option<EntryFault>
+        ensures { result ≡ first_of (when (not (is_user self.now u)) EntryFault.NoUser ∷ when (u == 0) EntryFault.IsAdministrator ∷ []) }
+    {
+        if !self.user(u) {
+            return Some(EntryFault::NoUser);
+        }
+        fault_if(u == 0, EntryFault::IsAdministrator)
+    }
+
+    fn add_object_fault(&self, n: u16) -> Option<EntryFault>
+        ensures { result ≡ first_of (when (is_object self.now n) EntryFault.ObjectThere ∷ when (is_full self.now.objects) (EntryFault.TooMany MAX_OF_KIND) ∷ []) }
+    {
+        if self.extent(n).is_some() {
+            return Some(EntryFault::ObjectThere);
+        }
+        full_fault(self.objects.len())
+    }
+
+    fn add_group_fault(&self, g: u16) -> Option<EntryFault>
+        ensures { result ≡ policy_fault self.now (AdminOp.AddGroup g) }
+    {
+        if self.groups.len() >= MAX_OF_KIND {
+            return full_fault(MAX_OF_KIND);
+        }
+        fault_if(self.group(g), EntryFault::GroupThere)
+    }
+
+    fn add_member_fault(&self, group: u16, user: u16) -> Option<EntryFault>
+        ensures { result ≡ policy_fault self.now (AdminOp.AddMember group user) }
+    {
+        if self.is_full_group(group) {
+            return full_fault(MAX_OF_KIND);
+        }
+        if !self.group(group) {
+            return Some(EntryFault::NoGroup);
+        }
+        fault_if(self.member(group, user), EntryFault::MemberThere)
+    }
+
+    fn del_member_fault(&self, group: u16, user: u16) -> Option<EntryFault>
+        ensures { result ≡ policy_fault self.now (AdminOp.DelMember group user) }
+    {
+        if !self.group(group) {
+            return Some(EntryFault::NoGroup);
+        }
+        fault_if(!self.member(group, user), EntryFault::NoMember)
+    }
+
+    fn add_auth_fault(&self, place: u16) -> Option<EntryFault>
+        ensures { result ≡ first_of (when (nat_lt (length self.now.auths) place) (EntryFault.BadPlace (length self.now.auths)) ∷ when (is_full self.now.auths) (EntryFault.TooMany MAX_OF_KIND) ∷ []) }
+    {
+        let len = self.auths();
+        if u32::from(place) > len {
+            return Some(EntryFault::BadPlace(len));
+        }
+        full_fault(len as usize)
+    }
+}
+
+fn fault_if(test: bool, fault: EntryFault) -> Option<EntryFault>
+    ensures { result ≡ when test fault }
+{
+    if test { Some(fault) } else { None }
+}
+
+// That no more of a kind may join so many.
+fn full_fault(count: usize) -> Option<EntryFault>
+    ensures { result ≡ when (nat_le MAX_OF_KIND count) (EntryFault.TooMany MAX_OF_KIND) }
+{
+    fault_if(
+        count >= MAX_OF_KIND,
+        EntryFault::TooMany(MAX_OF_KIND as u32),
+    )
+}
