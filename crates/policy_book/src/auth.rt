@@ -1,10 +1,10 @@
 //! Authorizations.
-ghost use Rattle.std.specs.Prelude.{◌≡◌, IsTrue, ◌||◌};
+ghost use Rattle.std.specs.Prelude.{◌≡◌, IfOk, IsTrue, ◌||◌};
 ghost use Rattle.element_name.specs.Cases.{when};
 ghost use Rattle.policy_book.specs.Rights.{has_any};
 
 use crate::lists::{NameList, NumList};
-use element_name::Name;
+use element_name::{Name, NoMemory};
 use std::marker::Model;
 
 /// Which elements an object covers.
@@ -61,6 +61,49 @@ pub struct Auth {
     pub objects: NumList,
     /// Whether it allows, or forbids.
     pub grant: bool,
+}
+
+impl Extent {
+    /// An extent that equals this one. Its list has the same allocator.
+    pub fn copied(&self) -> Result<Extent, NoMemory>
+        ensures { IfOk result (λ c. c ≡ self.now) }
+    {
+        let copy = match self {
+            Extent::All => Extent::All,
+            Extent::Span(first, last) => Extent::Span(*first, *last),
+            Extent::Elems(names) => Extent::Elems(names.copied()?),
+            Extent::By(user) => Extent::By(*user),
+        };
+        Ok(copy)
+    }
+}
+
+impl UserSet {
+    /// A set that equals this one. Its list has the same allocator.
+    pub fn copied(&self) -> Result<UserSet, NoMemory>
+        ensures { IfOk result (λ c. c ≡ self.now) }
+    {
+        let copy = match self {
+            UserSet::All => UserSet::All,
+            UserSet::Listed(numbers) => UserSet::Listed(numbers.copied()?),
+            UserSet::Groups(numbers) => UserSet::Groups(numbers.copied()?),
+        };
+        Ok(copy)
+    }
+}
+
+impl Auth {
+    /// An authorization that equals this one. Its lists have the same allocators.
+    pub fn copied(&self) -> Result<Auth, NoMemory>
+        ensures { IfOk result (λ c. c ≡ self.now) }
+    {
+        Ok(Auth {
+            users: self.users.copied()?,
+            rights: self.rights,
+            objects: self.objects.copied()?,
+            grant: self.grant,
+        })
+    }
 }
 
 impl Rights {

@@ -2,6 +2,7 @@
 #![tactic(auto)]
 
 mod auth;
+mod copied;
 mod fault;
 mod limits;
 mod lists;

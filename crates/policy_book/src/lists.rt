@@ -1,5 +1,5 @@
 //! Lists of numbers and of names.
-ghost use Rattle.std.specs.Prelude.{◌≡◌, length, slice_get, nat_lt, IsTrue};
+ghost use Rattle.std.specs.Prelude.{◌≡◌, length, slice_get, nat_lt, IsTrue, IfOk};
 ghost use Rattle.std.specs.List.{list_all};
 ghost use Rattle.element_name.specs.Cases.{when};
 ghost use Rattle.element_name.specs.Numbered.{is_rising};
@@ -7,7 +7,7 @@ ghost use Rattle.element_name.specs.Name.{name_lt, has_name};
 ghost use Rattle.policy_book.specs.Lists.{has_number, is_short, is_name, is_num_list, is_name_list};
 
 use crate::limits::{MAX_NAMES, MAX_NUMBERS};
-use element_name::Name;
+use element_name::{Name, NoMemory};
 use std::marker::Model;
 
 /// 1 to [`MAX_NUMBERS`] numbers of users, groups or objects, strictly ascending.
@@ -118,6 +118,15 @@ impl NumList {
     {
         self.numbers.iter().any(|m| *m == n)
     }
+
+    /// A list that equals this one, from the same allocator.
+    pub fn copied(&self) -> Result<NumList, NoMemory>
+        ensures { IfOk result (λ c. c ≡ self.now) }
+    {
+        let alloc = *self.numbers.allocator();
+        let numbers = Vec::from_slice(alloc, self.numbers.as_slice())?;
+        Ok(NumList { numbers })
+    }
 }
 
 impl NameList {
@@ -159,5 +168,14 @@ impl NameList {
         ensures { result ≡ has_name self.now n }
     {
         self.names.iter().any(|m| *m == n)
+    }
+
+    /// A list that equals this one, from the same allocator.
+    pub fn copied(&self) -> Result<NameList, NoMemory>
+        ensures { IfOk result (λ c. c ≡ self.now) }
+    {
+        let alloc = *self.names.allocator();
+        let names = Vec::from_slice(alloc, self.names.as_slice())?;
+        Ok(NameList { names })
     }
 }

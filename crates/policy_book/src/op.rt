@@ -1,11 +1,11 @@
 //! Administrative operations.
-ghost use Rattle.std.specs.Prelude.{◌≡◌, IsTrue};
+ghost use Rattle.std.specs.Prelude.{◌≡◌, IfOk, IsTrue};
 ghost use Rattle.element_name.specs.Cases.{when};
 ghost use Rattle.policy_book.specs.Entry.{is_entry_version, is_entry};
 
 use crate::auth::{Auth, Extent};
 use crate::ranges::operation_in_range;
-use element_name::{MAX_VERSION, Name};
+use element_name::{MAX_VERSION, Name, NoMemory};
 use std::marker::Model;
 
 /// A change of the policy. Users, objects and groups go by numbers of their own.
@@ -45,6 +45,34 @@ impl Model for Entry {
     ghost invariant = { λ e. spec.is_entry (record { version = e.version; op = e.op }) ≡ true };
 }
 
+impl AdminOp {
+    /// An operation that equals this one. Its lists have the same allocators.
+    pub fn copied(&self) -> Result<AdminOp, NoMemory>
+        ensures { IfOk result (λ c. c ≡ self.now) }
+    {
+        let copy = match self {
+            AdminOp::AddUser(u) => AdminOp::AddUser(*u),
+            AdminOp::DelUser(u) => AdminOp::DelUser(*u),
+            AdminOp::AddObj(n, extent) => AdminOp::AddObj(*n, extent.copied()?),
+            AdminOp::DelObj(n) => AdminOp::DelObj(*n),
+            AdminOp::AddGroup(g) => AdminOp::AddGroup(*g),
+            AdminOp::DelGroup(g) => AdminOp::DelGroup(*g),
+            AdminOp::AddMember { group, user } => AdminOp::AddMember {
+                group: *group,
+                user: *user,
+            },
+            AdminOp::DelMember { group, user } => AdminOp::DelMember {
+                group: *group,
+                user: *user,
+            },
+            AdminOp::AddAuth(place, auth) => AdminOp::AddAuth(*place, auth.copied()?),
+            AdminOp::DelAuth(place) => AdminOp::DelAuth(*place),
+            AdminOp::Validate(name) => AdminOp::Validate(*name),
+        };
+        Ok(copy)
+    }
+}
+
 impl Entry {
     /// The entry of this version; none where the version is 0 or above [`MAX_VERSION`].
     pub fn checked(version: u32, op: AdminOp) -> Option<Entry>
@@ -55,6 +83,16 @@ impl Entry {
         }
         operation_in_range(&op);
         Some(Entry { version, op })
+    }
+
+    /// An entry that equals this one. Its lists have the same allocators.
+    pub fn copied(&self) -> Result<Entry, NoMemory>
+        ensures { IfOk result (λ c. c ≡ self.now) }
+    {
+        Ok(Entry {
+            version: self.version,
+            op: self.op.copied()?,
+        })
     }
 
     /// The policy version that it makes.

@@ -3,6 +3,8 @@ ghost use Rattle.std.specs.Prelude.{◌≡◌, length};
 ghost use Rattle.policy_book.specs.Lists.{has_number};
 
 use crate::auth::{Auth, Extent};
+use crate::copied::Copied;
+use element_name::NoMemory;
 use std::marker::Model;
 
 /// The members of a group, strictly ascending, seen as the list of their numbers. A group may have none.
@@ -53,5 +55,34 @@ impl Members {
         ensures { result ≡ length self.now }
     {
         self.numbers.len()
+    }
+}
+
+impl Copied for Object {
+    fn copied(&self) -> Result<Object, NoMemory> {
+        Ok(Object {
+            number: self.number,
+            extent: self.extent.copied()?,
+        })
+    }
+}
+
+impl Copied for Group {
+    fn copied(&self) -> Result<Group, NoMemory> {
+        let numbers = &self.members.numbers;
+        let numbers = Vec::from_slice(*numbers.allocator(), numbers.as_slice())?;
+        Ok(Group {
+            number: self.number,
+            members: Members { numbers },
+        })
+    }
+}
+
+impl Copied for NumberedAuth {
+    fn copied(&self) -> Result<NumberedAuth, NoMemory> {
+        Ok(NumberedAuth {
+            number: self.number,
+            auth: self.auth.copied()?,
+        })
     }
 }

@@ -1,14 +1,19 @@
 //! Policies.
-ghost use Rattle.std.specs.Prelude.{◌≡◌, ◌==◌, [], ◌∷◌, not, nat_le, nat_lt, length, slice_get, option_map};
+ghost use Rattle.std.specs.Prelude.{◌≡◌, IfOk, ◌==◌, [], ◌∷◌, not, nat_le, nat_lt, length, slice_get, option_map};
 ghost use Rattle.element_name.specs.Cases.{when, first_of};
 ghost use Rattle.std.specs.Option.{option_copied};
-ghost use Rattle.policy_book.specs.Policy.{IsWithinLimits, is_user, extent_of, members_of, is_object, is_group, is_member, is_full, is_full_group, policy_fault};
+ghost use Rattle.policy_book.specs.Policy.{IsWithinLimits, IsLegal, first_policy, is_user, extent_of, members_of, is_object, is_group, is_member, is_full, is_full_group, policy_fault};
+ghost use Rattle.policy_book.specs.Reach.{reach_of, reach_of_legal};
 
 use crate::auth::{Auth, Extent};
+use crate::copied::copies;
 use crate::fault::EntryFault;
 use crate::limits::MAX_OF_KIND;
 use crate::op::AdminOp;
 use crate::parts::{Group, Members, NumberedAuth, Object};
+use crate::reach::Reach;
+use element_name::NoMemory;
+use std::alloc::Global;
 use std::marker::Model;
 
 /// Users, objects, groups, and the authorizations in the order of matching.
@@ -33,6 +38,34 @@ impl Model for Policy {
 }
 
 impl Policy {
+    /// The policy of version 0: user 0 and object 0, which is all elements, and nobody else is granted anything.
+    pub fn first(alloc: Global) -> Result<Policy, NoMemory>
+        ensures { IfOk result (λ p. p ≡ first_policy) }
+    {
+        let all = Object {
+            number: 0,
+            extent: Extent::All,
+        };
+        Ok(Policy {
+            users: vec![in alloc; 0]?,
+            objects: vec![in alloc; all]?,
+            groups: Vec::new(alloc),
+            auths: Vec::new(alloc),
+        })
+    }
+
+    /// A policy that equals this one. Its lists have the same allocators.
+    pub fn copied(&self) -> Result<Policy, NoMemory>
+        ensures { IfOk result (λ p. p ≡ self.now) }
+    {
+        Ok(Policy {
+            users: Vec::from_slice(*self.users.allocator(), self.users.as_slice())?,
+            objects: copies(*self.objects.allocator(), self.objects.as_slice())?,
+            groups: copies(*self.groups.allocator(), self.groups.as_slice())?,
+            auths: copies(*self.auths.allocator(), self.auths.as_slice())?,
+        })
+    }
+
     /// Whether there is a user of this number.
     pub fn user(&self, u: u16) -> bool
         ensures { result ≡ is_user self.now u }
@@ -200,6 +233,31 @@ impl Policy {
             return Some(EntryFault::BadPlace(len));
         }
         full_fault(len as usize)
+    }
+
+    /// Whose requests a legal operation may deny: nobody else's are to be judged anew after it.
+    pub fn reach(&self, op: &AdminOp) -> Reach
+        requires { IsLegal self.now op.now }
+        ensures { result ≡ reach_of self.now op.now }
+    {
+        self.reach_of_change(op)
+    }
+
+    fn reach_of_change(&self, op: &AdminOp) -> Reach
+        ensures { result ≡ reach_of_legal self.now op.now }
+    {
+        match op {
+            AdminOp::AddUser(_) | AdminOp::AddGroup(_) | AdminOp::Validate(_) => Reach::Nobody,
+            AdminOp::DelUser(user) => Reach::of_one(*user),
+            AdminOp::AddMember { user, .. } => Reach::of_one(*user),
+            AdminOp::DelMember { user, .. } => Reach::of_one(*user),
+            AdminOp::AddObj(..) | AdminOp::DelObj(_) | AdminOp::DelGroup(_) => Reach::Everyone,
+            AdminOp::AddAuth(_, auth) => Reach::of_added(auth),
+            AdminOp::DelAuth(place) => match self.auths.get(usize::from(*place)) {
+                Some(a) => Reach::of_removed(&a.auth),
+                None => Reach::Everyone,
+            },
+        }
     }
 }
 

@@ -1,9 +1,10 @@
 //! Whose requests an operation may deny.
-ghost use Rattle.std.specs.Prelude.{◌≡◌, length, ◌≤◌, slice_get, true};
+ghost use Rattle.std.specs.Prelude.{◌≡◌, ◌≤◌, [], ◌∷◌, length, slice_get};
 ghost use Rattle.element_name.specs.Rows.{row_from};
-ghost use Rattle.policy_book.specs.Lists.{has_number, is_num_list};
-ghost use Rattle.policy_book.specs.Reach.{is_reached};
+ghost use Rattle.policy_book.specs.Lists.{has_number};
+ghost use Rattle.policy_book.specs.Reach.{reach_of_users, reach_of_added, reach_of_removed};
 
+use crate::auth::{Auth, UserSet};
 use crate::limits::MAX_NUMBERS;
 use crate::lists::NumList;
 use std::marker::Model;
@@ -41,7 +42,69 @@ pub enum Reach {
     Everyone,
 }
 
+// The numbers, and zeros up to 16.
+fn row_of(numbers: &[u16]) -> [u16; 16]
+    requires { length numbers.now ≤ MAX_NUMBERS }
+    ensures { result ≡ row_from MAX_NUMBERS numbers.now }
+{
+    let mut row = [0; MAX_NUMBERS];
+    for (i, n) in numbers.iter().enumerate() {
+        row[i] = *n;
+    }
+    row
+}
+
+impl Reach {
+    pub(crate) fn of_one(user: u16) -> Reach
+        ensures { result ≡ Reach.Users (user ∷ []) }
+    {
+        Reach::Users(UserRow {
+            row: row_of(&[user]),
+            len: 1,
+        })
+    }
+
+    fn of_users(users: &UserSet) -> Reach
+        ensures { result ≡ reach_of_users users.now }
+    {
+        match users {
+            UserSet::All | UserSet::Groups(_) => Reach::Everyone,
+            UserSet::Listed(numbers) => Reach::Users(UserRow::of(numbers)),
+        }
+    }
+
+    // A new positive authorization denies nobody.
+    pub(crate) fn of_added(auth: &Auth) -> Reach
+        ensures { result ≡ reach_of_added auth.now }
+    {
+        if auth.grant {
+            return Reach::Nobody;
+        }
+        Reach::of_users(&auth.users)
+    }
+
+    // An old negative authorization, once removed, denies nobody.
+    pub(crate) fn of_removed(auth: &Auth) -> Reach
+        ensures { result ≡ reach_of_removed auth.now }
+    {
+        if !auth.grant {
+            return Reach::Nobody;
+        }
+        Reach::of_users(&auth.users)
+    }
+}
+
 impl UserRow {
+    fn of(numbers: &NumList) -> UserRow
+        ensures { result ≡ numbers.now }
+    {
+        let numbers = numbers.as_slice();
+        UserRow {
+            row: row_of(numbers),
+            len: numbers.len() as u8,
+        }
+    }
+
     /// How many there are.
     pub fn len(&self) -> u32
         ensures { result ≡ length self.now }
