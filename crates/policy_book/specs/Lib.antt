@@ -4,3 +4,4 @@ pub mod Operation
 pub mod Entry
 pub mod Policy
 pub mod Reach
+pub mod Tables

@@ -1,5 +1,5 @@
 -- Policies as values: version 0, the change by an operation, and the faults of one.
-use Rattle.std.specs.Prelude.{◌≡◌, ℕ, ◌≤◌, Bool, true, false, not, ◌&&◌, List, [], ◌∷◌, map, length, Option, None, is_some, option_map, ◌==◌, nat_lt, nat_le, insert, remove, if◌then◌else◌}
+use Rattle.std.specs.Prelude.{◌≡◌, ℕ, ◌≤◌, Bool, true, false, not, ◌&&◌, List, [], ◌∷◌, map, length, Option, Some, None, is_some, option_map, ◌==◌, nat_lt, nat_le, insert, remove, if◌then◌else◌}
 use Rattle.std.specs.Option.{option_map_or}
 use Rattle.std.specs.List.{list_all}
 use Rattle.element_name.specs.Cases.{when, first_of}
@@ -16,6 +16,8 @@ use Rattle.policy_book.specs.declared.op.AdminOp.{AdminOp}
 use Rattle.policy_book.specs.declared.op.AdminOp.TheVariants.{AddUser, DelUser, AddObj, DelObj, AddGroup, DelGroup, AddMember, DelMember, AddAuth, DelAuth, Validate}
 use Rattle.policy_book.specs.declared.fault.EntryFault.{EntryFault}
 use Rattle.policy_book.specs.declared.fault.EntryFault.TheVariants.{UserThere, NoUser, IsAdministrator, ObjectThere, NoObject, BadPlace, TooMany, GroupThere, NoGroup, MemberThere, NoMember}
+use Rattle.policy_book.specs.declared.fault.ApplyFault.{ApplyFault}
+use Rattle.policy_book.specs.declared.fault.ApplyFault.TheVariants.{Illegal, NoMemory}
 
 -- a set of users, objects and groups by their numbers, and the authorizations in the order of matching
 pub record Policy : Type 0 where
@@ -116,3 +118,8 @@ policy_fault p (Validate request) = None
 -- the operation is legal on the policy
 abbrev pub IsLegal : Policy → AdminOp → Type 0
 IsLegal p op = policy_fault p op ≡ None
+
+-- why a policy isn't changed: the operation's first fault, or want of memory for a legal operation
+abbrev pub IsRefusal : Option EntryFault → ApplyFault → Type 0
+IsRefusal fault (Illegal first) = fault ≡ Some first
+IsRefusal fault NoMemory = fault ≡ None

@@ -1,4 +1,6 @@
-//! Why an entry isn't legal.
+//! Why an entry isn't legal, or a policy isn't changed.
+
+use element_name::NoMemory;
 
 /// The first fault of an operation on a policy and its log, in the order in which the faults are numbered, from 1.
 #[derive(Clone, Copy, Debug, PartialEq, Eq)]
@@ -27,4 +29,24 @@ pub enum EntryFault {
     MemberThere,
     /// The member to be removed is none.
     NoMember,
+}
+
+/// Why an operation didn't change a policy, which is as before.
+#[derive(Clone, Copy, Debug, PartialEq, Eq)]
+pub enum ApplyFault {
+    /// It isn't legal, by this first fault.
+    Illegal(EntryFault),
+    /// It is legal, and memory was wanting.
+    NoMemory,
+}
+
+impl From<NoMemory> for ApplyFault {
+    ghost use Rattle.std.specs.Prelude.{◌≡◌};
+    ghost use Rattle.policy_book.specs.declared.fault.ApplyFault.TheVariants as faults;
+
+    ghost from_gives = { λ e f. f ≡ faults.NoMemory };
+
+    fn from(_e: NoMemory) -> ApplyFault {
+        ApplyFault::NoMemory
+    }
 }

@@ -4,16 +4,19 @@
 mod auth;
 mod copied;
 mod fault;
+pub mod laws;
 mod limits;
 mod lists;
+mod numbered;
 mod op;
 mod parts;
 mod policy;
 mod ranges;
 mod reach;
+mod tables;
 
 pub use auth::{Auth, Extent, Rights, UserSet};
-pub use fault::EntryFault;
+pub use fault::{ApplyFault, EntryFault};
 pub use limits::{MAX_NAMES, MAX_NUMBERS, MAX_OF_KIND};
 pub use lists::{NameList, NumList};
 pub use op::{AdminOp, Entry};

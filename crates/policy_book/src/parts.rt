@@ -1,10 +1,13 @@
 //! What a policy is made of.
-ghost use Rattle.std.specs.Prelude.{◌≡◌, length};
+ghost use Rattle.std.specs.Prelude.{◌≡◌, [], length, OnOk, OnErr};
+ghost use Rattle.element_name.specs.Numbered.{put_by, without};
 ghost use Rattle.policy_book.specs.Lists.{has_number};
 
 use crate::auth::{Auth, Extent};
 use crate::copied::Copied;
+use crate::numbered::{Numbered, put, take_out};
 use element_name::NoMemory;
+use std::alloc::Global;
 use std::marker::Model;
 
 /// The members of a group, strictly ascending, seen as the list of their numbers. A group may have none.
@@ -43,6 +46,27 @@ pub struct NumberedAuth {
 }
 
 impl Members {
+    pub(crate) fn new(alloc: Global) -> Members
+        ensures { result ≡ [] }
+    {
+        Members {
+            numbers: Vec::new(alloc),
+        }
+    }
+
+    pub(crate) fn put(&mut self, user: u16) -> Result<(), NoMemory>
+        ensures ok { OnOk result (self.new ≡ put_by (λ n. n) user self.old) }
+        ensures err { OnErr result (self.new ≡ self.old) }
+    {
+        put(&mut self.numbers, user)
+    }
+
+    pub(crate) fn take_out(&mut self, user: u16)
+        ensures { self.new ≡ without (λ n. n) user self.old }
+    {
+        take_out(&mut self.numbers, user);
+    }
+
     /// Whether the user is one of them.
     pub fn has(&self, user: u16) -> bool
         ensures { result ≡ has_number self.now user }
@@ -55,6 +79,22 @@ impl Members {
         ensures { result ≡ length self.now }
     {
         self.numbers.len()
+    }
+}
+
+impl Numbered for Object {
+    ghost number_of = { λ o. o.number };
+
+    fn number(&self) -> u16 {
+        self.number
+    }
+}
+
+impl Numbered for Group {
+    ghost number_of = { λ g. g.number };
+
+    fn number(&self) -> u16 {
+        self.number
     }
 }
 

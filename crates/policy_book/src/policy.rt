@@ -1,17 +1,18 @@
 //! Policies.
-ghost use Rattle.std.specs.Prelude.{◌≡◌, IfOk, ◌==◌, [], ◌∷◌, not, nat_le, nat_lt, length, slice_get, option_map};
+ghost use Rattle.std.specs.Prelude.{◌≡◌, IfOk, IfErr, OnOk, OnErr, ◌==◌, [], ◌∷◌, not, nat_le, nat_lt, length, slice_get, option_map};
 ghost use Rattle.element_name.specs.Cases.{when, first_of};
 ghost use Rattle.std.specs.Option.{option_copied};
-ghost use Rattle.policy_book.specs.Policy.{IsWithinLimits, IsLegal, first_policy, is_user, extent_of, members_of, is_object, is_group, is_member, is_full, is_full_group, policy_fault};
+ghost use Rattle.policy_book.specs.Policy.{IsWithinLimits, IsLegal, IsRefusal, first_policy, policy_after, is_user, extent_of, members_of, is_object, is_group, is_member, is_full, is_full_group, policy_fault};
 ghost use Rattle.policy_book.specs.Reach.{reach_of, reach_of_legal};
 
 use crate::auth::{Auth, Extent};
-use crate::copied::copies;
-use crate::fault::EntryFault;
+use crate::fault::{ApplyFault, EntryFault};
 use crate::limits::MAX_OF_KIND;
 use crate::op::AdminOp;
-use crate::parts::{Group, Members, NumberedAuth, Object};
+use crate::parts::{Members, NumberedAuth, Object};
+use crate::ranges::operation_in_range;
 use crate::reach::Reach;
+use crate::tables::Tables;
 use element_name::NoMemory;
 use std::alloc::Global;
 use std::marker::Model;
@@ -21,20 +22,18 @@ use std::marker::Model;
 /// A policy has at most [`MAX_OF_KIND`] of a kind, so each call looks through a few short lists.
 #[derive(Drop)]
 pub struct Policy {
-    users: Vec<u16>,
-    objects: Vec<Object>,
-    groups: Vec<Group>,
-    auths: Vec<NumberedAuth>,
+    tables: Tables,
 }
 
 impl Model for Policy {
     ghost use Rattle.policy_book.specs.Policy as spec;
+    ghost use Rattle.policy_book.specs.Tables.{policy_of};
 
     ghost Value = { spec.Policy };
 
-    ghost view = { λ p. record { users = p.users.items; objects = p.objects.items; groups = p.groups.items; auths = p.auths.items } };
+    ghost view = { λ p. policy_of p.tables };
 
-    ghost invariant = { λ p. spec.IsWithinLimits (record { users = p.users.items; objects = p.objects.items; groups = p.groups.items; auths = p.auths.items }) };
+    ghost invariant = { λ p. spec.IsWithinLimits (policy_of p.tables) };
 }
 
 impl Policy {
@@ -46,12 +45,13 @@ impl Policy {
             number: 0,
             extent: Extent::All,
         };
-        Ok(Policy {
+        let tables = Tables {
             users: vec![in alloc; 0]?,
             objects: vec![in alloc; all]?,
             groups: Vec::new(alloc),
             auths: Vec::new(alloc),
-        })
+        };
+        Ok(Policy { tables })
     }
 
     /// A policy that equals this one. Its lists have the same allocators.
@@ -59,10 +59,7 @@ impl Policy {
         ensures { IfOk result (λ p. p ≡ self.now) }
     {
         Ok(Policy {
-            users: Vec::from_slice(*self.users.allocator(), self.users.as_slice())?,
-            objects: copies(*self.objects.allocator(), self.objects.as_slice())?,
-            groups: copies(*self.groups.allocator(), self.groups.as_slice())?,
-            auths: copies(*self.auths.allocator(), self.auths.as_slice())?,
+            tables: self.tables.copied()?,
         })
     }
 
@@ -70,14 +67,15 @@ impl Policy {
     pub fn user(&self, u: u16) -> bool
         ensures { result ≡ is_user self.now u }
     {
-        self.users.iter().any(|x| *x == u)
+        self.tables.users.iter().any(|x| *x == u)
     }
 
     /// The extent of the object of this number.
     pub fn extent(&self, number: u16) -> Option<&Extent>
         ensures { option_copied result ≡ extent_of self.now number }
     {
-        self.objects
+        self.tables
+            .objects
             .iter()
             .find(|o| o.number == number)
             .map(|o| &o.extent)
@@ -103,7 +101,8 @@ impl Policy {
     fn members(&self, number: u16) -> Option<&Members>
         ensures { option_copied result ≡ members_of self.now number }
     {
-        self.groups
+        self.tables
+            .groups
             .iter()
             .find(|g| g.number == number)
             .map(|g| &g.members)
@@ -123,7 +122,7 @@ impl Policy {
         ensures value { result ≡ length self.now.auths }
         ensures limits { IsWithinLimits self.now }
     {
-        self.auths.len() as u32
+        self.tables.auths.len() as u32
     }
 
     /// The authorization at a place, from 0, behind its number.
@@ -131,7 +130,7 @@ impl Policy {
         ensures number { option_map (λ a. a.0) result ≡ option_map (λ a. a.number) (slice_get self.now.auths place) }
         ensures value { option_map (λ a. a.1.now) result ≡ option_map (λ a. a.auth) (slice_get self.now.auths place) }
     {
-        match self.auths.get(place as usize) {
+        match self.tables.auths.get(place as usize) {
             Some(a) => Some((a.number, &a.auth)),
             None => None,
         }
@@ -142,7 +141,7 @@ impl Policy {
         ensures value { result.now ≡ self.now.auths }
         ensures limits { IsWithinLimits self.now }
     {
-        self.auths.as_slice()
+        self.tables.auths.as_slice()
     }
 
     /// The first fault of an operation on this policy; none where it is legal. Whether a name was
@@ -174,7 +173,7 @@ impl Policy {
         if self.user(u) {
             return Some(EntryFault::UserThere);
         }
-        full_fault(self.users.len())
+        full_fault(self.tables.users.len())
     }
 
     fn del_user_fault(&self, u: u16) -> Option<EntryFault>
@@ -192,13 +191,13 @@ impl Policy {
         if self.extent(n).is_some() {
             return Some(EntryFault::ObjectThere);
         }
-        full_fault(self.objects.len())
+        full_fault(self.tables.objects.len())
     }
 
     fn add_group_fault(&self, g: u16) -> Option<EntryFault>
         ensures { result ≡ policy_fault self.now (AdminOp.AddGroup g) }
     {
-        if self.groups.len() >= MAX_OF_KIND {
+        if self.tables.groups.len() >= MAX_OF_KIND {
             return full_fault(MAX_OF_KIND);
         }
         fault_if(self.group(g), EntryFault::GroupThere)
@@ -235,6 +234,23 @@ impl Policy {
         full_fault(len as usize)
     }
 
+    /// Changes the policy by a legal operation, which makes this version.
+    ///
+    /// Memory is taken first, so that neither refusal changes anything.
+    pub fn apply(&mut self, version: u32, op: &AdminOp) -> Result<(), ApplyFault>
+        ensures legal { OnOk result (IsLegal self.old op.now) }
+        ensures change { OnOk result (self.new ≡ policy_after self.old version op.now) }
+        ensures refusal { IfErr result (IsRefusal (policy_fault self.old op.now)) }
+        ensures unchanged { OnErr result (self.new ≡ self.old) }
+    {
+        operation_in_range(op);
+        if let Some(fault) = self.legal(op) {
+            return Err(ApplyFault::Illegal(fault));
+        }
+        self.tables.change(version, op)?;
+        Ok(())
+    }
+
     /// Whose requests a legal operation may deny: nobody else's are to be judged anew after it.
     pub fn reach(&self, op: &AdminOp) -> Reach
         requires { IsLegal self.now op.now }
@@ -253,7 +269,7 @@ impl Policy {
             AdminOp::DelMember { user, .. } => Reach::of_one(*user),
             AdminOp::AddObj(..) | AdminOp::DelObj(_) | AdminOp::DelGroup(_) => Reach::Everyone,
             AdminOp::AddAuth(_, auth) => Reach::of_added(auth),
-            AdminOp::DelAuth(place) => match self.auths.get(usize::from(*place)) {
+            AdminOp::DelAuth(place) => match self.tables.auths.get(usize::from(*place)) {
                 Some(a) => Reach::of_removed(&a.auth),
                 None => Reach::Everyone,
             },

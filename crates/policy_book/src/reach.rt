@@ -14,7 +14,7 @@ use std::marker::Model;
 /// They lie in a fixed row, so that a reach is `Copy` and never takes memory.
 #[derive(Clone, Copy, Debug, PartialEq, Eq)]
 pub struct UserRow {
-    row: [u16; 16],
+    row: [u16; MAX_NUMBERS],
     len: u8,
 }
 
@@ -43,7 +43,7 @@ pub enum Reach {
 }
 
 // The numbers, and zeros up to 16.
-fn row_of(numbers: &[u16]) -> [u16; 16]
+fn row_of(numbers: &[u16]) -> [u16; MAX_NUMBERS]
     requires { length numbers.now ≤ MAX_NUMBERS }
     ensures { result ≡ row_from MAX_NUMBERS numbers.now }
 {

@@ -1,0 +1,50 @@
+//! Sets and maps as lists in ascending order of their numbers.
+ghost use Rattle.std.specs.Prelude.{◌≡◌, length, take_while, nat_le, OnOk, OnErr};
+ghost use Rattle.element_name.specs.Numbered.{put_by, without};
+
+use element_name::NoMemory;
+
+/// What stands under a number in a list that ascends by it.
+pub trait Numbered: Drop {
+    ghost use Rattle.std.specs.Prelude.{◌≡◌, ℕ};
+
+    ghost number_of: { Self → ℕ };
+
+    fn number(&self) -> u16
+        ensures { result ≡ number_of self.now };
+}
+
+impl Numbered for u16 {
+    ghost number_of = { λ n. n };
+
+    fn number(&self) -> u16 {
+        *self
+    }
+}
+
+// How many from the front have no greater number.
+fn place_for<T: Numbered>(items: &[T], number: u16) -> usize
+    ensures { result ≡ length (take_while (λ x. nat_le (T.number_of x) number) items.now) }
+{
+    items
+        .iter()
+        .take_while(|item| item.number() <= number)
+        .count()
+}
+
+/// Puts the item in front of the first whose number is greater.
+pub fn put<T: Numbered>(items: &mut Vec<T>, item: T) -> Result<(), NoMemory>
+    ensures ok { OnOk result (items.new.items ≡ put_by T.number_of item items.old.items) }
+    ensures err { OnErr result (items.new.items ≡ items.old.items) }
+{
+    let place = place_for(items, item.number());
+    items.insert(place, item)?;
+    Ok(())
+}
+
+/// Takes out what stands under the number.
+pub fn take_out<T: Numbered>(items: &mut Vec<T>, number: u16)
+    ensures { items.new.items ≡ without T.number_of number items.old.items }
+{
+    items.retain(|item| item.number() != number);
+}
