@@ -1,3 +1,4 @@
 pub mod Ascending
 pub mod GroupChange
 pub mod KeptLimits
+pub mod SameNames

@@ -1,5 +1,5 @@
 //! Authorizations.
-ghost use Rattle.std.specs.Prelude.{◌≡◌, IfOk, IsTrue, ◌||◌};
+ghost use Rattle.std.specs.Prelude.{◌≡◌, ◌↔◌, IfOk, IsTrue, ◌||◌};
 ghost use Rattle.element_name.specs.Cases.{when};
 ghost use Rattle.policy_book.specs.Rights.{has_any};
 
@@ -64,6 +64,19 @@ pub struct Auth {
 }
 
 impl Extent {
+    /// Whether the other equals this one.
+    pub fn same(&self, other: &Extent) -> bool
+        ensures { IsTrue result ↔ (self.now ≡ other.now) }
+    {
+        match (self, other) {
+            (Extent::All, Extent::All) => true,
+            (Extent::Span(a, b), Extent::Span(c, d)) => *a == *c && *b == *d,
+            (Extent::Elems(names), Extent::Elems(others)) => names.same(others),
+            (Extent::By(user), Extent::By(other)) => *user == *other,
+            (_, _) => false,
+        }
+    }
+
     /// An extent that equals this one. Its list has the same allocator.
     pub fn copied(&self) -> Result<Extent, NoMemory>
         ensures { IfOk result (λ c. c ≡ self.now) }
@@ -79,6 +92,18 @@ impl Extent {
 }
 
 impl UserSet {
+    /// Whether the other equals this one.
+    pub fn same(&self, other: &UserSet) -> bool
+        ensures { IsTrue result ↔ (self.now ≡ other.now) }
+    {
+        match (self, other) {
+            (UserSet::All, UserSet::All) => true,
+            (UserSet::Listed(numbers), UserSet::Listed(others)) => numbers.same(others),
+            (UserSet::Groups(numbers), UserSet::Groups(others)) => numbers.same(others),
+            (_, _) => false,
+        }
+    }
+
     /// A set that equals this one. Its list has the same allocator.
     pub fn copied(&self) -> Result<UserSet, NoMemory>
         ensures { IfOk result (λ c. c ≡ self.now) }
@@ -93,6 +118,16 @@ impl UserSet {
 }
 
 impl Auth {
+    /// Whether the other equals this one.
+    pub fn same(&self, other: &Auth) -> bool
+        ensures { IsTrue result ↔ (self.now ≡ other.now) }
+    {
+        self.users.same(&other.users)
+            && self.rights == other.rights
+            && self.objects.same(&other.objects)
+            && self.grant == other.grant
+    }
+
     /// An authorization that equals this one. Its lists have the same allocators.
     pub fn copied(&self) -> Result<Auth, NoMemory>
         ensures { IfOk result (λ c. c ≡ self.now) }

@@ -1,5 +1,5 @@
 //! Lists of numbers and of names.
-ghost use Rattle.std.specs.Prelude.{◌≡◌, length, slice_get, nat_lt, IsTrue, IfOk};
+ghost use Rattle.std.specs.Prelude.{◌≡◌, ◌↔◌, length, slice_get, nat_lt, IsTrue, IfOk};
 ghost use Rattle.std.specs.List.{list_all};
 ghost use Rattle.element_name.specs.Cases.{when};
 ghost use Rattle.element_name.specs.Numbered.{is_rising};
@@ -78,6 +78,12 @@ fn are_rising_names(names: &[Name]) -> bool
     }
 }
 
+fn are_same_names(names: &[Name], others: &[Name]) -> bool
+    ensures { IsTrue result ↔ (names.now ≡ others.now) }
+{
+    names == others
+}
+
 impl NumList {
     /// The list of these numbers; none where there are none, more than [`MAX_NUMBERS`], or they don't ascend strictly.
     pub fn checked(numbers: Vec<u16>) -> Option<NumList>
@@ -117,6 +123,13 @@ impl NumList {
         ensures { result ≡ has_number self.now n }
     {
         self.numbers.iter().any(|m| *m == n)
+    }
+
+    /// Whether the other equals this one.
+    pub fn same(&self, other: &NumList) -> bool
+        ensures { IsTrue result ↔ (self.now ≡ other.now) }
+    {
+        self.numbers.as_slice() == other.numbers.as_slice()
     }
 
     /// A list that equals this one, from the same allocator.
@@ -168,6 +181,13 @@ impl NameList {
         ensures { result ≡ has_name self.now n }
     {
         self.names.iter().any(|m| *m == n)
+    }
+
+    /// Whether the other equals this one.
+    pub fn same(&self, other: &NameList) -> bool
+        ensures { IsTrue result ↔ (self.now ≡ other.now) }
+    {
+        are_same_names(&self.names, &other.names)
     }
 
     /// A list that equals this one, from the same allocator.

@@ -1,5 +1,5 @@
 //! Administrative operations.
-ghost use Rattle.std.specs.Prelude.{◌≡◌, IfOk, IsTrue};
+ghost use Rattle.std.specs.Prelude.{◌≡◌, ◌↔◌, IfOk, IsTrue};
 ghost use Rattle.element_name.specs.Cases.{when};
 ghost use Rattle.policy_book.specs.Entry.{is_entry_version, is_entry};
 
@@ -46,6 +46,30 @@ impl Model for Entry {
 }
 
 impl AdminOp {
+    /// Whether the other equals this one.
+    pub fn same(&self, other: &AdminOp) -> bool
+        ensures { IsTrue result ↔ (self.now ≡ other.now) }
+    {
+        match (self, other) {
+            (AdminOp::AddUser(a), AdminOp::AddUser(b)) => *a == *b,
+            (AdminOp::DelUser(a), AdminOp::DelUser(b)) => *a == *b,
+            (AdminOp::AddObj(a, x), AdminOp::AddObj(b, y)) => *a == *b && x.same(y),
+            (AdminOp::DelObj(a), AdminOp::DelObj(b)) => *a == *b,
+            (AdminOp::AddGroup(a), AdminOp::AddGroup(b)) => *a == *b,
+            (AdminOp::DelGroup(a), AdminOp::DelGroup(b)) => *a == *b,
+            (AdminOp::AddMember { group, user }, AdminOp::AddMember { group: g, user: u }) => *group
+                == *g
+                && *user == *u,
+            (AdminOp::DelMember { group, user }, AdminOp::DelMember { group: g, user: u }) => *group
+                == *g
+                && *user == *u,
+            (AdminOp::AddAuth(a, x), AdminOp::AddAuth(b, y)) => *a == *b && x.same(y),
+            (AdminOp::DelAuth(a), AdminOp::DelAuth(b)) => *a == *b,
+            (AdminOp::Validate(a), AdminOp::Validate(b)) => *a == *b,
+            (_, _) => false,
+        }
+    }
+
     /// An operation that equals this one. Its lists have the same allocators.
     pub fn copied(&self) -> Result<AdminOp, NoMemory>
         ensures { IfOk result (λ c. c ≡ self.now) }
@@ -83,6 +107,13 @@ impl Entry {
         }
         operation_in_range(&op);
         Some(Entry { version, op })
+    }
+
+    /// Whether the other equals this one.
+    pub fn same(&self, other: &Entry) -> bool
+        ensures { IsTrue result ↔ (self.now ≡ other.now) }
+    {
+        self.version == other.version && self.op.same(&other.op)
     }
 
     /// An entry that equals this one. Its lists have the same allocators.

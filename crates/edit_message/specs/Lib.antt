@@ -1,0 +1,3 @@
+pub mod Message
+pub mod Formed
+pub mod Missing
