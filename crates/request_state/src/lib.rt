@@ -1,0 +1,6 @@
+//! The states of requests.
+#![tactic(auto)]
+
+mod state;
+
+pub use state::{State, Undone};
