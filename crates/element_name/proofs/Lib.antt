@@ -1,2 +1,4 @@
 pub mod EachAfterLemmas
 pub mod CaseLemmas
+pub mod NameOrder
+pub mod NamedLemmas

@@ -1,0 +1,171 @@
+-- Items in ascending order of name, as the entries of a map from names.
+use Rattle.std.proofs.Common.{◌≡◌, ℕ, Bool, true, false, ◌&&◌, ◌||◌, not, List, [], ◌∷◌, map, Some, None, IsSome, refl, sym, ◌∙◌, ap, subst, arith, if◌then◌else◌}
+use Rattle.std.specs.Prelude.{find, filter, Contains, is_some}
+use Rattle.std.specs.declared.option.Option.{Option}
+use Rattle.std.specs.declared.cmp.Ordering.{Ordering}
+use Rattle.std.specs.declared.cmp.Ordering.TheVariants.{Less, Equal, Greater}
+use Rattle.std.specs.Ordering.{is_eq, is_lt, match_ordering}
+use Rattle.std.specs.Option.{option_map}
+use Rattle.std.specs.List.{list_any, AllByRecursion}
+use Rattle.std.specs.List.Sorted.{IsStrictlySortedBy}
+use Rattle.std.specs.Map.{keys_of, values_of, lookup, remove_entry, set_value}
+use Rattle.std.specs.BTreeMap.{is_at, insert_entry}
+use Rattle.std.proofs.lemmas.Bool.Decides.{nat_tests}
+use Rattle.std.proofs.lemmas.Map.Keys.{sorted_head, sorted_tail}
+use Rattle.element_name.specs.Name.{Name, name_eq, name_lt}
+use Rattle.element_name.specs.Named.{is_ascending, item_named, without_named, put_named}
+use Rattle.element_name.proofs.NameOrder.{name_cmp, name_cmp_total, is_eq-name_cmp, is_lt-name_cmp, name_eq-comm, name_eq-refl, same_name, name_lt-apart, name_lt-asym, name_lt-trans, name_gt}
+
+-- the three ways in which two names compare
+pub data Compared (a b : Name) : Ordering → Type 0 where
+  less : name_lt a b ≡ true → name_eq a b ≡ false → Compared a b Less
+  same : a ≡ b → Compared a b Equal
+  greater : name_lt a b ≡ false → name_eq a b ≡ false → Compared a b Greater
+
+pub compared : (a b : Name) → Compared a b (name_cmp a b)
+compared a b = by (name_cmp a b) refl
+  where
+    by : (o : Ordering) → name_cmp a b ≡ o → Compared a b o
+    by Less e =
+        let lt : name_lt a b ≡ true = sym (is_lt-name_cmp a b) ∙ ap is_lt e in
+        less lt (name_lt-apart a b lt)
+    by Equal e = same (same_name a b (sym (is_eq-name_cmp a b) ∙ ap is_eq e))
+    by Greater e = greater (sym (is_lt-name_cmp a b) ∙ ap is_lt e) (sym (is_eq-name_cmp a b) ∙ ap is_eq e)
+
+module _ {A : Type 0} (name : A → Name) where
+  -- an item with its name as the key
+  abbrev pub keyed_item : A → Name × A
+  keyed_item x = (name x, x)
+
+  abbrev pub keyed : List A → List (Name × A)
+  keyed xs = map keyed_item xs
+
+  pub item_named-keyed : (n : Name) (xs : List A) → item_named (λ e. e.0) n (keyed xs) ≡ option_map keyed_item (item_named name n xs)
+  item_named-keyed n [] = refl
+  item_named-keyed n (x ∷ xs) = by (name_eq (name x) n) (item_named-keyed n xs)
+    where
+      by : (b : Bool) → item_named (λ e. e.0) n (keyed xs) ≡ option_map keyed_item (item_named name n xs)
+          → (if b then Some (keyed_item x) else item_named (λ e. e.0) n (keyed xs)) ≡ option_map keyed_item (if b then Some x else item_named name n xs)
+      by true rest = refl
+      by false rest = rest
+
+  pub put_named-keyed : (x : A) (xs : List A) → put_named (λ e. e.0) (keyed_item x) (keyed xs) ≡ keyed (put_named name x xs)
+  put_named-keyed x [] = refl
+  put_named-keyed x (y ∷ ys) = by (name_lt (name x) (name y)) (put_named-keyed x ys)
+    where
+      by : (b : Bool) → put_named (λ e. e.0) (keyed_item x) (keyed ys) ≡ keyed (put_named name x ys)
+          → (if b then keyed_item x ∷ keyed_item y ∷ keyed ys else keyed_item y ∷ put_named (λ e. e.0) (keyed_item x) (keyed ys)) ≡ keyed (if b then x ∷ y ∷ ys else y ∷ put_named name x ys)
+      by true rest = refl
+      by false rest = ap (λ es. keyed_item y ∷ es) rest
+
+  pub without_named-keyed : (n : Name) (xs : List A) → without_named (λ e. e.0) n (keyed xs) ≡ keyed (without_named name n xs)
+  without_named-keyed n [] = refl
+  without_named-keyed n (x ∷ xs) = by (name_eq (name x) n) (without_named-keyed n xs)
+    where
+      by : (b : Bool) → without_named (λ e. e.0) n (keyed xs) ≡ keyed (without_named name n xs)
+          → (if not b then keyed_item x ∷ without_named (λ e. e.0) n (keyed xs) else without_named (λ e. e.0) n (keyed xs)) ≡ keyed (if not b then x ∷ without_named name n xs else without_named name n xs)
+      by true rest = rest
+      by false rest = ap (λ es. keyed_item x ∷ es) rest
+
+  -- the items of other names, where all names are greater
+  pub without_named-below : (n : Name) (xs : List A) → AllByRecursion (λ m. name_cmp n m ≡ Less) (map name xs) → without_named name n xs ≡ xs
+  without_named-below n [] h = refl
+  without_named-below n (x ∷ xs) h =
+      let apart : name_eq (name x) n ≡ false = name_eq-comm (name x) n ∙ sym (is_eq-name_cmp n (name x)) ∙ ap is_eq h.0 in
+      rw (apart) (ap (λ ys. x ∷ ys) (without_named-below n xs h.1))
+
+  -- ascending, as a fact of the neighbours
+  pub ascending_from_sorted : (xs : List A) → IsStrictlySortedBy name_cmp (map name xs) → is_ascending name xs ≡ true
+  ascending_from_sorted [] h = refl
+  ascending_from_sorted (x ∷ []) h = refl
+  ascending_from_sorted (x ∷ y ∷ xs) h =
+      let above = sorted_head name_cmp (name x) (map name (y ∷ xs)) h in
+      let lt : name_lt (name x) (name y) ≡ true = sym (is_lt-name_cmp (name x) (name y)) ∙ ap is_lt above.0 in
+      rw lt (ascending_from_sorted (y ∷ xs) (sorted_tail name_cmp (name x) (map name (y ∷ xs)) h))
+
+  -- ---- the item of a name, after a change
+
+  pub item_named-put : (n : Name) (x : A) (xs : List A) → item_named name (name x) xs ≡ None → item_named name n (put_named name x xs) ≡ (if name_eq (name x) n then Some x else item_named name n xs)
+  item_named-put n x [] absent = refl
+  item_named-put n x (y ∷ ys) absent = by (name_lt (name x) (name y)) (name_eq (name y) (name x)) refl (name_eq (name y) n) refl (name_eq (name x) n) refl absent (item_named-put n x ys)
+    where
+      by : (lt same : Bool) → name_eq (name y) (name x) ≡ same → (here : Bool) → name_eq (name y) n ≡ here → (new : Bool) → name_eq (name x) n ≡ new
+          → (if same then Some y else item_named name (name x) ys) ≡ None
+          → (item_named name (name x) ys ≡ None → item_named name n (put_named name x ys) ≡ (if name_eq (name x) n then Some x else item_named name n ys))
+          → item_named name n (if lt then x ∷ y ∷ ys else y ∷ put_named name x ys) ≡ (if new then Some x else if here then Some y else item_named name n ys)
+      by lt true s here h new e a rest = absurd cc
+      by true false s here h new e a rest = rw (e, h) refl
+      by false false s false h new e a rest = rw h (rest a ∙ ap (λ (b : Bool). if b then Some x else item_named name n ys) e)
+      by false false s true h false e a rest = rw h refl
+      by false false s true h true e a rest =
+          let p : name y ≡ n = same_name (name y) n h in
+          let q : name x ≡ n = same_name (name x) n e in
+          let r : name_eq (name y) (name x) ≡ true = rw (p, q) (name_eq-refl n) in
+          absurd (cc)
+
+  pub item_named-without : (n m : Name) (xs : List A) → item_named name n (without_named name m xs) ≡ (if name_eq m n then None else item_named name n xs)
+  item_named-without n m [] = by (name_eq m n)
+    where
+      by : (b : Bool) → item_named name n [] ≡ (if b then None else None)
+      by true = refl
+      by false = refl
+  item_named-without n m (x ∷ xs) = by (name_eq (name x) m) refl (name_eq (name x) n) refl (name_eq m n) refl (item_named-without n m xs)
+    where
+      by : (out : Bool) → name_eq (name x) m ≡ out → (here : Bool) → name_eq (name x) n ≡ here → (same : Bool) → name_eq m n ≡ same
+          → item_named name n (without_named name m xs) ≡ (if name_eq m n then None else item_named name n xs)
+          → item_named name n (if not out then x ∷ without_named name m xs else without_named name m xs) ≡ (if same then None else if here then Some x else item_named name n xs)
+      by true o here h true s rest = rest ∙ ap (λ (b : Bool). if b then None else item_named name n xs) s
+      by true o false h false s rest = rest ∙ ap (λ (b : Bool). if b then None else item_named name n xs) s
+      by true o true h false s rest =
+          let p : name x ≡ m = same_name (name x) m o in
+          let r : name_eq m n ≡ true = subst (λ k. name_eq k n ≡ true) p h in
+          absurd (cc)
+      by false o false h both s rest = rw h (rest ∙ ap (λ (b : Bool). if b then None else item_named name n xs) s)
+      by false o true h false s rest = rw h refl
+      by false o true h true s rest =
+          let p : m ≡ n = same_name m n s in
+          let r : name_eq (name x) m ≡ true = subst (λ k. name_eq (name x) k ≡ true) (sym p) h in
+          absurd (cc)
+
+module _ {A : Type 0} where
+  -- ---- the entries of a map from names
+
+  pub lookup_named : (n : Name) (es : List (Name × A)) → lookup (is_at (name_cmp n)) es ≡ option_map (λ e. e.1) (item_named (λ e. e.0) n es)
+  lookup_named n [] = refl
+  lookup_named n (e ∷ es) = rw (is_eq-name_cmp n e.0, name_eq-comm n e.0) (by (name_eq e.0 n) (lookup_named n es))
+    where
+      by : (b : Bool) → lookup (is_at (name_cmp n)) es ≡ option_map (λ f. f.1) (item_named (λ f. f.0) n es)
+          → (if b then Some e.1 else lookup (is_at (name_cmp n)) es) ≡ option_map (λ f. f.1) (if b then Some e else item_named (λ f. f.0) n es)
+      by true rest = refl
+      by false rest = rest
+
+  pub insert_named : (n : Name) (v : A) (es : List (Name × A)) → item_named (λ e. e.0) n es ≡ None → insert_entry name_cmp es n v ≡ put_named (λ e. e.0) (n, v) es
+  insert_named n v [] h = refl
+  insert_named n v (e ∷ es) h = by (name_cmp n e.0) (compared n e.0) (insert_named n v es)
+    where
+      by : (o : Ordering) → Compared n e.0 o → (item_named (λ f. f.0) n es ≡ None → insert_entry name_cmp es n v ≡ put_named (λ f. f.0) (n, v) es)
+          → match_ordering o ((n, v) ∷ e ∷ es) ((e.0, v) ∷ es) (e ∷ insert_entry name_cmp es n v) ≡ put_named (λ f. f.0) (n, v) (e ∷ es)
+      by Less (less lt apart) rest = rw lt refl
+      by Equal (same p) rest =
+          let r : name_eq e.0 n ≡ true = rw p (name_eq-refl e.0) in
+          let k : Some e ≡ None = rw r at h in
+          absurd (cc)
+      by Greater (greater lt apart) rest =
+          let other : name_eq e.0 n ≡ false = name_eq-comm e.0 n ∙ apart in
+          rw lt (ap (λ fs. e ∷ fs) (rest (rw other at h)))
+
+  pub remove_named : (n : Name) (es : List (Name × A)) → IsStrictlySortedBy name_cmp (keys_of es) → remove_entry (is_at (name_cmp n)) es ≡ without_named (λ e. e.0) n es
+  remove_named n [] h = refl
+  remove_named n (e ∷ es) h = by (name_cmp n e.0) (compared n e.0) (remove_named n es (sorted_tail name_cmp e.0 (keys_of es) h))
+    where
+      by : (o : Ordering) → Compared n e.0 o → remove_entry (is_at (name_cmp n)) es ≡ without_named (λ f. f.0) n es
+          → (if is_eq o then es else e ∷ remove_entry (is_at (name_cmp n)) es) ≡ without_named (λ f. f.0) n (e ∷ es)
+      by Less (less lt apart) rest =
+          let other : name_eq e.0 n ≡ false = name_eq-comm e.0 n ∙ apart in
+          rw other (ap (λ fs. e ∷ fs) rest)
+      by Equal (same p) rest =
+          let here : name_eq e.0 n ≡ true = rw p (name_eq-refl e.0) in
+          rw here (subst (λ k. es ≡ without_named (λ f. f.0) k es) (sym p) (sym (without_named-below (λ (f : Name × A). f.0) e.0 es (sorted_head name_cmp e.0 (keys_of es) h))))
+      by Greater (greater lt apart) rest =
+          let other : name_eq e.0 n ≡ false = name_eq-comm e.0 n ∙ apart in
+          rw other (ap (λ fs. e ∷ fs) rest)
