@@ -8,11 +8,8 @@ use Rattle.std.specs.Cmp.{IsTotalOrder}
 use Rattle.std.proofs.lemmas.Cmp.{then_total, on_total, nat_cmp_total}
 use Rattle.std.proofs.lemmas.Bool.Decides.{nat_tests}
 use Rattle.element_name.specs.Name.{Name, name_eq, name_lt}
+use Rattle.element_name.specs.Named.{name_cmp}
 use Rattle.element_name.specs.contracts.name.NameOrd.TheImpl as name_ord
-
--- by stamp, then by site
-abbrev pub name_cmp : Name → Name → Ordering
-name_cmp a b = ordering_then (nat_cmp a.stamp b.stamp) (nat_cmp a.site b.site)
 
 -- it is what `cmp` answers
 pub cmp_is : (a b : Name) → (name_ord.ghosts).cmp a b ≡ name_cmp a b

@@ -13,8 +13,8 @@ use Rattle.std.specs.BTreeMap.{is_at, insert_entry}
 use Rattle.std.proofs.lemmas.Bool.Decides.{nat_tests}
 use Rattle.std.proofs.lemmas.Map.Keys.{sorted_head, sorted_tail}
 use Rattle.element_name.specs.Name.{Name, name_eq, name_lt}
-use Rattle.element_name.specs.Named.{is_ascending, item_named, without_named, put_named}
-use Rattle.element_name.proofs.NameOrder.{name_cmp, name_cmp_total, is_eq-name_cmp, is_lt-name_cmp, name_eq-comm, name_eq-refl, same_name, name_lt-apart, name_lt-asym, name_lt-trans, name_gt}
+use Rattle.element_name.specs.Named.{name_cmp, is_ascending, item_named, without_named, put_named}
+use Rattle.element_name.proofs.NameOrder.{name_cmp_total, is_eq-name_cmp, is_lt-name_cmp, name_eq-comm, name_eq-refl, same_name, name_lt-apart, name_lt-asym, name_lt-trans, name_gt}
 
 -- the three ways in which two names compare
 pub data Compared (a b : Name) : Ordering → Type 0 where

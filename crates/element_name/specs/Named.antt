@@ -1,7 +1,13 @@
 -- Items that have names, in lists in ascending order of name.
+use Rattle.std.specs.declared.cmp.Ordering.{Ordering}
+use Rattle.std.specs.Ordering.{nat_cmp, ordering_then}
 use Rattle.std.specs.Prelude.{Bool, not, List, [], ◌∷◌, Option, find, filter, if◌then◌else◌}
 use Rattle.element_name.specs.Name.{Name, name_eq, name_lt}
 use Rattle.element_name.specs.Numbered.{is_rising}
+
+-- how two names compare: by stamp, then by site
+abbrev pub name_cmp : Name → Name → Ordering
+name_cmp a b = ordering_then (nat_cmp a.stamp b.stamp) (nat_cmp a.site b.site)
 
 module _ {A : Type 0} (name : A → Name) where
   -- each name is less than the next

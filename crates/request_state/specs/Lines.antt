@@ -1,7 +1,9 @@
 -- The index of Tentative requests: lines, in which each has its places.
-use Rattle.std.specs.Prelude.{◌≡◌, ℕ, Bool, true, false, not, ◌&&◌, ◌||◌, ◌==◌, nat_lt, List, Option, map, MatchOption}
+use Rattle.std.specs.Prelude.{◌≡◌, ℕ, Bool, true, false, not, ◌&&◌, ◌||◌, ◌==◌, nat_lt, List, Option, Some, None, map, MatchOption, if◌then◌else◌}
 use Rattle.std.specs.List.{list_any}
-use Rattle.std.specs.Map.{values_of}
+use Rattle.std.specs.Map.{keys_of, values_of}
+use Rattle.std.specs.List.Sorted.{IsStrictlySortedBy}
+use Rattle.element_name.specs.Named.{name_cmp}
 use Rattle.element_name.specs.Name.{Name, name_eq, name_lt}
 use Rattle.request_state.specs.declared.kept.Kept.{Kept}
 use Rattle.request_state.specs.State.{is_tentative}
@@ -52,7 +54,28 @@ pub record IsLeastPlace (test : Place → Bool) (places : List Place) (p : Place
 abbrev pub IsFirstPlace : (Place → Bool) → List Place → Option Place → Type 0
 IsFirstPlace test places first = MatchOption first ((q : Place) → test q ≡ true → has_place places q ≡ false) (IsLeastPlace test places)
 
+-- n is the least name in the line that passes the test
+pub record IsLeastIn (line : Line) (test : Name → Bool) (places : List Place) (n : Name) : Type 0 where
+  pub passes : test n ≡ true
+  pub taken : has_place places (record { line = line; name = n }) ≡ true
+  pub least : (m : Name) → test m ≡ true → has_place places (record { line = line; name = m }) ≡ true → name_lt m n ≡ false
+
+-- the least name in the line that passes the test, or none where there is none
+abbrev pub IsFirstIn : Line → (Name → Bool) → List Place → Option Name → Type 0
+IsFirstIn line test places first = MatchOption first ((m : Name) → test m ≡ true → has_place places (record { line = line; name = m }) ≡ false) (IsLeastIn line test places)
+
+-- the lesser of two names, as far as they are there
+abbrev pub lesser : Option Name → Option Name → Option Name
+lesser None b = b
+lesser (Some a) None = Some a
+lesser (Some a) (Some b) = Some (if name_lt b a then b else a)
+
+-- each under its name
+abbrev pub keyed : List Kept → List (Name × Kept)
+keyed table = map (λ k. (k.request.id, k)) table
+
 -- what is kept of requests, as the entries of a map from names, with the places of those that are Tentative
 pub record IsStateTable (entries : List (Name × Kept)) (places : List Place) : Type 0 where
-  pub keyed : entries ≡ map (λ k. (k.request.id, k)) (values_of entries)
+  pub ordered : IsStrictlySortedBy name_cmp (keys_of entries)
+  pub keyed_by_name : entries ≡ keyed (values_of entries)
   pub lined : (p : Place) → has_place places p ≡ list_any (λ k. is_tentative k.state && is_place_of k.request.id p) (values_of entries)
