@@ -127,6 +127,55 @@ module _ {A : Type 0} (name : A → Name) where
           let r : name_eq (name x) m ≡ true = subst (λ k. name_eq (name x) k ≡ true) (sym p) h in
           absurd (cc)
 
+  -- a name that no item has
+  pub without_named-absent : (n : Name) (xs : List A) → item_named name n xs ≡ None → without_named name n xs ≡ xs
+  without_named-absent n [] absent = refl
+  without_named-absent n (x ∷ xs) absent = by (name_eq (name x) n) absent (without_named-absent n xs)
+    where
+      by : (b : Bool) → (if b then Some x else item_named name n xs) ≡ None → (item_named name n xs ≡ None → without_named name n xs ≡ xs)
+          → (if not b then x ∷ without_named name n xs else without_named name n xs) ≡ x ∷ xs
+      by true a rest = absurd cc
+      by false a rest = ap (λ ys. x ∷ ys) (rest a)
+
+  -- ---- the order in which items are put doesn't matter
+
+  pub put_named-comm : (x y : A) (xs : List A) → name_eq (name x) (name y) ≡ false → put_named name x (put_named name y xs) ≡ put_named name y (put_named name x xs)
+  put_named-comm x y [] apart = by (name_lt (name x) (name y)) (name_lt (name y) (name x)) refl refl
+    where
+      by : (a b : Bool) → name_lt (name x) (name y) ≡ a → name_lt (name y) (name x) ≡ b → (if a then x ∷ y ∷ [] else y ∷ x ∷ []) ≡ (if b then y ∷ x ∷ [] else x ∷ y ∷ [])
+      by true true e f = let g = name_lt-asym (name x) (name y) e in absurd (cc)
+      by true false e f = refl
+      by false true e f = refl
+      by false false e f = let g = name_gt (name x) (name y) e apart in absurd (cc)
+  put_named-comm x y (z ∷ zs) apart = by (name_lt (name x) (name z)) (name_lt (name y) (name z)) refl refl (name_lt (name x) (name y)) (name_lt (name y) (name x)) refl refl (put_named-comm x y zs apart)
+    where
+      Goal : List A → List A → Type 0
+      Goal a b = a ≡ b
+      by : (xz yz : Bool) → name_lt (name x) (name z) ≡ xz → name_lt (name y) (name z) ≡ yz → (xy yx : Bool) → name_lt (name x) (name y) ≡ xy → name_lt (name y) (name x) ≡ yx
+          → put_named name x (put_named name y zs) ≡ put_named name y (put_named name x zs)
+          → put_named name x (if yz then y ∷ z ∷ zs else z ∷ put_named name y zs) ≡ put_named name y (if xz then x ∷ z ∷ zs else z ∷ put_named name x zs)
+      by true true a b true true c d rest = let g = name_lt-asym (name x) (name y) c in absurd (cc)
+      by true true a b true false c d rest = rw (c, d, b) refl
+      by true true a b false true c d rest = rw (c, d, a) refl
+      by true true a b false false c d rest = let g = name_gt (name x) (name y) c apart in absurd (cc)
+      by true false a b xy true c d rest = let g = name_lt-trans (name y) (name x) (name z) d a in absurd (cc)
+      by true false a b xy false c d rest = rw (a, d, b) refl
+      by false true a b true yx c d rest = let g = name_lt-trans (name x) (name y) (name z) c b in absurd (cc)
+      by false true a b false yx c d rest = rw (c, b, a) refl
+      by false false a b xy yx c d rest = rw (a, b) (ap (λ ys. z ∷ ys) rest)
+
+  -- an item that is put and taken out again
+  pub without_named-put : (x : A) (xs : List A) → item_named name (name x) xs ≡ None → without_named name (name x) (put_named name x xs) ≡ xs
+  without_named-put x [] absent = rw (name_eq-refl (name x)) refl
+  without_named-put x (y ∷ ys) absent = by (name_lt (name x) (name y)) (name_eq (name y) (name x)) refl absent (without_named-put x ys) (without_named-absent (name x) ys)
+    where
+      by : (lt same : Bool) → name_eq (name y) (name x) ≡ same → (if same then Some y else item_named name (name x) ys) ≡ None
+          → (item_named name (name x) ys ≡ None → without_named name (name x) (put_named name x ys) ≡ ys) → (item_named name (name x) ys ≡ None → without_named name (name x) ys ≡ ys)
+          → without_named name (name x) (if lt then x ∷ y ∷ ys else y ∷ put_named name x ys) ≡ y ∷ ys
+      by lt true e a rest other = absurd cc
+      by true false e a rest other = rw (name_eq-refl (name x), e) (ap (λ zs. y ∷ zs) (other a))
+      by false false e a rest other = rw e (ap (λ zs. y ∷ zs) (rest a))
+
 module _ {A : Type 0} where
   -- ---- the entries of a map from names
 

@@ -26,3 +26,8 @@ module _ {A : Type 0} (name : A → Name) where
   abbrev pub put_named : A → List A → List A
   put_named x [] = x ∷ []
   put_named x (y ∷ ys) = if name_lt (name x) (name y) then x ∷ y ∷ ys else y ∷ put_named x ys
+
+  -- the items in ascending order of name
+  abbrev pub in_name_order : List A → List A
+  in_name_order [] = []
+  in_name_order (x ∷ xs) = put_named x (in_name_order xs)
