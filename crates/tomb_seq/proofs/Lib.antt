@@ -8,3 +8,4 @@ pub mod InOrder
 pub mod Skipping
 pub mod Theorems
 pub mod Meaning
+pub mod MarkLemmas

@@ -1,6 +1,6 @@
 -- What becomes of slots, and of their names, when one is put in or taken out.
 use Rattle.std.proofs.Common.{set, get_or, ◌≡◌, ℕ, zero, suc, ⊎_elim, Bool, true, false, not, ◌||◌, List, [], ◌∷◌, insert, remove, refl, ap, ◌∙◌, sym, subst, arith}
-use Rattle.std.proofs.lemmas.Bool.{and_parts, cases_Bool}
+use Rattle.std.proofs.lemmas.Bool.{or_parts, and_parts, cases_Bool}
 use Rattle.element_name.specs.Name.{Name, start, name_eq, has_name, are_distinct}
 use Rattle.std.specs.Prelude.{nat_le, None, if◌then◌else◌}
 use Rattle.std.specs.declared.option.Option.{Option}
@@ -11,13 +11,9 @@ use Rattle.tomb_seq.specs.declared.fault.SeqFault.{SeqFault}
 use Rattle.tomb_seq.specs.declared.fault.SeqFault.TheVariants.{There, NoAnchor, StampOrder}
 use Rattle.tomb_seq.specs.Insert.{insert_fault}
 use Rattle.tomb_seq.specs.declared.slot.Slot.{Slot}
-use Rattle.tomb_seq.specs.Slots.{names_in, shown_in, without, without_name, with_mark, IsSeq}
+use Rattle.tomb_seq.specs.Slots.{names_in, shown_in, without_slot, without_name, with_mark, IsSeq}
 use Rattle.tomb_seq.proofs.NameOrder.{name_eq_comm, name_eq-true}
 use Rattle.tomb_seq.proofs.SlotLemmas.{insert_names}
-
-pub neither : (a b : Bool) → (a || b) ≡ false → (a ≡ false) × (b ≡ false)
-neither true b e = absurd (cc)
-neither false b e = (refl, e)
 
 both_false : (a b : Bool) → a ≡ false → b ≡ false → (a || b) ≡ false
 both_false true b e f = absurd (cc)
@@ -43,7 +39,7 @@ no_name_insert [] zero n m d h = both_false _ _ d h
 no_name_insert [] (suc k) n m d h = both_false _ _ d h
 no_name_insert (x ∷ names) zero n m d h = both_false _ _ d h
 no_name_insert (x ∷ names) (suc k) n m d h =
-    let p = neither (name_eq m x) (has_name names m) h in
+    let p = or_parts (name_eq m x) (has_name names m) h in
     both_false _ _ p.0 (no_name_insert names k n m d p.1)
 
 distinct_insert : (names : List Name) (k : ℕ) (n : Name) → has_name names n ≡ false → are_distinct names ≡ true → are_distinct (insert names k n) ≡ true
@@ -51,7 +47,7 @@ distinct_insert [] zero n h d = refl
 distinct_insert [] (suc k) n h d = refl
 distinct_insert (x ∷ names) zero n h d = distinct_cons n (x ∷ names) h d
 distinct_insert (x ∷ names) (suc k) n h d =
-    let p = neither (name_eq n x) (has_name names n) h in
+    let p = or_parts (name_eq n x) (has_name names n) h in
     distinct_cons x (insert names k n)
     (no_name_insert names k n x (name_eq_comm x n ∙ p.0) (distinct_head x names d))
     (distinct_insert names k n p.1 (distinct_tail x names d))
@@ -65,7 +61,7 @@ IsSeq-insert slots k s h new d = record {
 
 -- a name taken out
 
-pub without_names : (slots : List Slot) (n : Name) → names_in (without slots n) ≡ without_name (names_in slots) n
+pub without_names : (slots : List Slot) (n : Name) → names_in (without_slot slots n) ≡ without_name (names_in slots) n
 without_names [] n = refl
 without_names (s ∷ slots) n =
     ⊎_elim
@@ -76,7 +72,7 @@ without_names (s ∷ slots) n =
 no_name_without : (names : List Name) (n m : Name) → has_name names m ≡ false → has_name (without_name names n) m ≡ false
 no_name_without [] n m h = refl
 no_name_without (x ∷ names) n m h =
-    let p = neither (name_eq m x) (has_name names m) h in
+    let p = or_parts (name_eq m x) (has_name names m) h in
     ⊎_elim
     (λ (t : name_eq n x ≡ true). rw t (no_name_without names n m p.1))
     (λ (f : name_eq n x ≡ false). rw f (both_false _ _ p.0 (no_name_without names n m p.1)))
@@ -90,27 +86,27 @@ distinct_without (x ∷ names) n d =
     (λ (f : name_eq n x ≡ false). rw f (distinct_cons x (without_name names n) (no_name_without names n x (distinct_head x names d)) (distinct_without names n (distinct_tail x names d))))
     (cases_Bool (name_eq n x))
 
-pub IsSeq-without : (slots : List Slot) (n : Name) → IsSeq slots → IsSeq (without slots n)
+pub IsSeq-without : (slots : List Slot) (n : Name) → IsSeq slots → IsSeq (without_slot slots n)
 IsSeq-without slots n h = record {
   distinct = rw (without_names slots n) (distinct_without (names_in slots) n h.distinct);
   elements = rw (without_names slots n) (no_name_without (names_in slots) n start h.elements);
 }
 
 -- nothing is taken out of a list in which the name isn't
-without_none : (slots : List Slot) (n : Name) → has_name (names_in slots) n ≡ false → without slots n ≡ slots
+without_none : (slots : List Slot) (n : Name) → has_name (names_in slots) n ≡ false → without_slot slots n ≡ slots
 without_none [] n h = refl
 without_none (s ∷ slots) n h =
-    let p = neither (name_eq n s.name) (has_name (names_in slots) n) h in
+    let p = or_parts (name_eq n s.name) (has_name (names_in slots) n) h in
     rw p.0 (ap (λ (rest : List Slot). s ∷ rest) (without_none slots n p.1))
 
 -- taking out at its place takes out the element of a name
-pub remove_without : (slots : List Slot) (n : Name) (k : ℕ) → are_distinct (names_in slots) ≡ true → has_name (names_in slots) n ≡ true → k ≡ place_in (names_in slots) n → remove slots k ≡ without slots n
+pub remove_without : (slots : List Slot) (n : Name) (k : ℕ) → are_distinct (names_in slots) ≡ true → has_name (names_in slots) n ≡ true → k ≡ place_in (names_in slots) n → remove slots k ≡ without_slot slots n
 remove_without [] n k d h e = absurd (cc)
 remove_without (s ∷ slots) n k d h e =
     ⊎_elim
     (λ (t : name_eq n s.name ≡ true).
     let here : k ≡ 0 = e ∙ rw t in
-    let gone : without slots n ≡ slots = without_none slots n (subst (λ m. has_name (names_in slots) m ≡ false) (sym (name_eq-true n s.name t)) (distinct_head s.name (names_in slots) d)) in
+    let gone : without_slot slots n ≡ slots = without_none slots n (subst (λ m. has_name (names_in slots) m ≡ false) (sym (name_eq-true n s.name t)) (distinct_head s.name (names_in slots) d)) in
     rw (here, t) (sym gone))
     (λ (f : name_eq n s.name ≡ false).
     let there : k ≡ suc (place_in (names_in slots) n) = e ∙ rw f (omega arith) in
@@ -135,7 +131,7 @@ IsFree-no_fault names n anchor e =
     let a = first_of-None (when (name_eq n start || has_name names n) There) (when (not (is_anchor names anchor)) NoAnchor ∷ last) e in
     let b = first_of-None (when (not (is_anchor names anchor)) NoAnchor) last a.1 in
     let c = first_of-None (when (nat_le n.stamp anchor.stamp) StampOrder) [] b.1 in
-    let p = neither (name_eq n start) (has_name names n) (when-None (name_eq n start || has_name names n) There a.0) in
+    let p = or_parts (name_eq n start) (has_name names n) (when-None (name_eq n start || has_name names n) There a.0) in
     record {
       element = p.0;
       new = p.1;
@@ -158,7 +154,7 @@ shown_insert (s ∷ slots) (suc k) n =
     ∙ ap (λ (names : List Name). if s.shows then s.name ∷ names else names) (shown_insert slots k n)
     ∙ sym (shown_put slots s s.shows refl)
 
-pub shown_without : (slots : List Slot) (n : Name) → shown_in (without slots n) ≡ without_name (shown_in slots) n
+pub shown_without : (slots : List Slot) (n : Name) → shown_in (without_slot slots n) ≡ without_name (shown_in slots) n
 shown_without [] n = refl
 shown_without (s ∷ slots) n =
     ⊎_elim
@@ -187,7 +183,7 @@ IsSeq-mark slots n shows h = record { distinct = rw (names_mark slots n shows) h
 mark_none : (slots : List Slot) (n : Name) (shows : Bool) → has_name (names_in slots) n ≡ false → with_mark slots n shows ≡ slots
 mark_none [] n shows h = refl
 mark_none (s ∷ slots) n shows h =
-    let p = neither (name_eq n s.name) (has_name (names_in slots) n) h in
+    let p = or_parts (name_eq n s.name) (has_name (names_in slots) n) h in
     rw p.0 (ap (λ (rest : List Slot). s ∷ rest) (mark_none slots n shows p.1))
 
 -- a mark set at its place is that of the element of a name

@@ -5,7 +5,7 @@ use Rattle.std.proofs.lemmas.Bool.Decides.{nat_tests}
 use Rattle.std.proofs.lemmas.List.Sums.{prefix_len-le-length, length-filter}
 use Rattle.element_name.proofs.CaseLemmas.{when-None, when-Some}
 use Rattle.std.specs.List.{list_any, prefix_len, position_or_len}
-use Rattle.std.proofs.lemmas.Bool.{cases_Bool}
+use Rattle.std.proofs.lemmas.Bool.{or_parts, cases_Bool}
 use Rattle.element_name.specs.Cases.{when}
 use Rattle.element_name.specs.Name.{Name, start, name_eq, name_lt, has_name}
 use Rattle.element_name.specs.Tree.{after_anchor, skip}
@@ -63,10 +63,6 @@ place_below slots n h = let k = found_below (name_eq n) (names_in slots) h in om
 pub anchor_below : (slots : List Slot) (n : Name) → name_eq n start ≡ false → is_anchor (names_in slots) n ≡ true → place_in (names_in slots) n + 1 ≤ length slots
 anchor_below slots n f h = let k = place_below slots n (rw f at h) in omega (arith, k)
 
-neither : (a b : Bool) → (a || b) ≡ false → (a ≡ false) × (b ≡ false)
-neither true b e = absurd (cc)
-neither false b e = (refl, e)
-
 -- where the skipping ends, over the slots
 pub skip_names : (slots : List Slot) (n anchor : Name) (place more : ℕ) → place ≡ after_anchor (names_in slots) anchor → more ≡ prefix_len (λ s. name_lt n s.name) (drop place slots)
     → place + more ≡ skip (names_in slots) n anchor
@@ -77,7 +73,7 @@ skip_names slots n anchor place more p m =
 no_place : (names : List Name) (n : Name) → has_name names n ≡ false → place_in names n ≡ length names
 no_place [] n h = refl
 no_place (m ∷ names) n h =
-    let p = neither (name_eq n m) (has_name names n) h in
+    let p = or_parts (name_eq n m) (has_name names n) h in
     rw (p.0, no_place names n p.1) (omega arith)
 
 pub place_of_found : (slots : List Slot) (n : Name) (k : ℕ) → k ≡ place_in (names_in slots) n → k < length slots → Some k ≡ when (has_name (names_in slots) n) (place_in (names_in slots) n)

@@ -216,8 +216,8 @@ stable_order items q h =
     (put_without (before_in (q ∷ reverse items) q.name) q.name (order items)
     (λ p. ((joined items q h).0).new_name (from_order (reverse items) q.name p)))
 
-pub free_law : (items : List Placed) (q : Placed) → IsTree (items ++ q ∷ []) → insert_fault (order items) q.name q.anchor ≡ None
-free_law items q h =
+pub no_fault_law : (items : List Placed) (q : Placed) → IsTree (items ++ q ∷ []) → insert_fault (order items) q.name q.anchor ≡ None
+no_fault_law items q h =
     let j = (joined items q h).0 in
     let new : has_name (order items) q.name ≡ false = has_name-none (order items) q.name (λ p. j.new_name (from_order (reverse items) q.name p)) in
     let element : name_eq q.name start ≡ false = ne_names q.name start j.not_start in

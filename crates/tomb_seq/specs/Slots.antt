@@ -12,13 +12,17 @@ names_in slots = map (λ s. s.name) slots
 abbrev pub shown_in : List Slot → List Name
 shown_in slots = names_in (filter (λ s. s.shows) slots)
 
+-- these names, each marked as the test says
+abbrev pub slots_by : (Name → Bool) → List Name → List Slot
+slots_by test names = map {A = Name} {B = Slot} (λ n. record { name = n; shows = test n }) names
+
 -- with a new element at its place, which doesn't show
 abbrev pub with_new : List Slot → Name → Name → List Slot
 with_new slots n anchor = insert slots (skip (names_in slots) n anchor) (record { name = n; shows = false })
 
 -- without the element of a name
-abbrev pub without : List Slot → Name → List Slot
-without slots n = filter (λ s. not (name_eq n s.name)) slots
+abbrev pub without_slot : List Slot → Name → List Slot
+without_slot slots n = filter (λ s. not (name_eq n s.name)) slots
 
 -- the other names
 abbrev pub without_name : List Name → Name → List Name

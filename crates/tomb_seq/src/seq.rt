@@ -7,7 +7,7 @@ ghost use Rattle.element_name.specs.Tree.{skip, with_fresh};
 ghost use Rattle.tomb_seq.specs.declared.fault.SeqFault.TheVariants.{NoMemory};
 ghost use Rattle.tomb_seq.specs.Insert.{insert_fault};
 ghost use Rattle.tomb_seq.specs.Order.{KeepsOrder};
-ghost use Rattle.tomb_seq.specs.Slots.{IsSeq, names_in, shown_in, with_new, with_mark, without, without_name};
+ghost use Rattle.tomb_seq.specs.Slots.{IsSeq, names_in, shown_in, with_new, with_mark, without_slot, without_name};
 
 use crate::fault::SeqFault;
 use crate::slot::{self, Slot};
@@ -16,6 +16,9 @@ use std::alloc::Global;
 use std::marker::Model;
 
 /// The elements of a text in their order, seen as a list of names, each with the mark whether it shows.
+///
+/// It is kept as a plain list of some 24 bytes an element. Each call but `new`, `len` and `name_at` takes
+/// time in proportion to the number of elements.
 #[derive(Drop)]
 pub struct TombSeq {
     slots: Vec<Slot>,
@@ -78,9 +81,9 @@ impl TombSeq {
 
     /// Puts a new element after its anchor and past every next greater name, and answers its place.
     ///
-    /// It doesn't show until it is marked.
+    /// It doesn't show until it is marked. The list grows by doubling, so that most calls take no memory.
     pub fn insert(&mut self, name: Name, after: Name) -> Result<usize, SeqFault>
-        ensures legal { OnOk result (insert_fault (names_in self.old) name after ≡ None) }
+        ensures no_fault { OnOk result (insert_fault (names_in self.old) name after ≡ None) }
         ensures place { IfOk result (λ place. place ≡ skip (names_in self.old) name after) }
         ensures within { IfOk result (λ place. place ≤ length self.old) }
         ensures slots { OnOk result (self.new ≡ with_new self.old name after) }
@@ -104,7 +107,7 @@ impl TombSeq {
     /// Takes an element out, with its mark. Takes no memory.
     pub fn remove(&mut self, name: Name)
         requires { has_name (names_in self.old) name ≡ true }
-        ensures slots { self.new ≡ without self.old name }
+        ensures slots { self.new ≡ without_slot self.old name }
         ensures names { names_in self.new ≡ without_name (names_in self.old) name }
         ensures shown { shown_in self.new ≡ without_name (shown_in self.old) name }
     {
