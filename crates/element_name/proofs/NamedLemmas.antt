@@ -103,6 +103,15 @@ module _ {A : Type 0} (name : A → Name) where
           let r : name_eq (name y) (name x) ≡ true = rw (p, q) (name_eq-refl n) in
           absurd (cc)
 
+  -- of another name than the item's
+  pub item_named-put_other : (n : Name) (x : A) (xs : List A) → name_eq (name x) n ≡ false → item_named name n (put_named name x xs) ≡ item_named name n xs
+  item_named-put_other n x [] apart = rw apart refl
+  item_named-put_other n x (y ∷ ys) apart = by (name_lt (name x) (name y)) (item_named-put_other n x ys apart)
+    where
+      by : (lt : Bool) → item_named name n (put_named name x ys) ≡ item_named name n ys → item_named name n (if lt then x ∷ y ∷ ys else y ∷ put_named name x ys) ≡ item_named name n (y ∷ ys)
+      by true rest = rw apart refl
+      by false rest = ap (λ (o : Option A). if name_eq (name y) n then Some y else o) rest
+
   pub item_named-without : (n m : Name) (xs : List A) → item_named name n (without_named name m xs) ≡ (if name_eq m n then None else item_named name n xs)
   item_named-without n m [] = by (name_eq m n)
     where

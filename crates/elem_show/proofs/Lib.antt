@@ -1,0 +1,3 @@
+mod Letters
+pub mod Cells
+mod Tables

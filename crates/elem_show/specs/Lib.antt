@@ -1,0 +1,4 @@
+pub mod Cell
+pub mod Text
+pub mod Counting
+pub mod Table

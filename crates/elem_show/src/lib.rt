@@ -1,0 +1,8 @@
+//! What shows of an element: cells of the requests that count.
+#![tactic(auto)]
+
+mod cell;
+mod table;
+
+pub use cell::{Cell, shown};
+pub use table::ElemTable;
