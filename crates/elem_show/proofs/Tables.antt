@@ -19,7 +19,7 @@ use Rattle.elem_show.specs.Counting.{with_one_more, with_one_fewer, cell_with, c
 use Rattle.elem_show.specs.Table.{cell_in, except, IsTableOf, IsGrantable, IsCounted}
 use Rattle.coop_request.specs.declared.edit.Edit.{Edit}
 use Rattle.coop_request.specs.declared.edit.Edit.TheVariants.{Insert}
-use Rattle.elem_show.proofs.Cells.{id_of, cell_from-cons, cell_from-snoc, less_except, cell_from-except, has_cut-more, letters_absent, few_letters, few_cuts, letter_name, once-cons, once-except, rest_once, first_new}
+use Rattle.elem_show.proofs.Cells.{id_of, cell_from-cons, cell_from-snoc, cell_of_set, less_except, cell_from-except, has_cut-more, letters_absent, few_letters, few_cuts, letter_name, once-cons, once-except, rest_once, first_new}
 
 -- ---- the pieces of inserts
 
@@ -360,3 +360,57 @@ on_ok (Err x) f h = tt
 pub on_err : {A E : Type 0} {P Q : Type 0} (r : Result A E) → (P → Q) → OnErr r P → OnErr r Q
 on_err (Ok x) f h = tt
 on_err (Err x) f h = f h
+
+-- ---- laws
+
+not_insert : (b c : Bool) → c ≡ false → (b && c) ≡ false
+not_insert true c h = h
+not_insert false c h = refl
+
+pub table-other : (cells : List (Name × Cell)) (requests counted : List Request) (q : Request) → is_insert q.edit ≡ false → IsTableOf cells requests counted → IsTableOf cells (requests ++ q ∷ []) counted
+table-other cells requests counted q other t = record {
+  cells_of = λ e. t.cells_of e ∙ ap (option_map (λ own. cell_from e own counted)) (sym (own_piece-snoc requests q e ∙ ap (option_or (own_piece requests e)) (none e) ∙ or_none (own_piece requests e)));
+  once = t.once;
+  elements = t.elements;
+}
+  where
+    none : (e : Name) → own_piece (q ∷ []) e ≡ None
+    none e = ap (λ (b : Bool). option_or (given b (piece_in q.edit)) None) (not_insert (name_eq q.id e) (is_insert q.edit) other)
+
+-- a test that all requests pass, each passes
+all_found : (f : Request → Bool) (counted : List Request) (n : Name) (q : Request) → list_all f counted ≡ true → request_of counted n ≡ Some q → f q ≡ true
+all_found f [] n q all h = absurd cc
+all_found f (r ∷ counted) n q all h = by (f r) refl (name_eq r.id n) all h (all_found f counted n q)
+  where
+    by : (b : Bool) → f r ≡ b → (here : Bool) → (b && list_all f counted) ≡ true → (if here then Some r else request_of counted n) ≡ Some q → (list_all f counted ≡ true → request_of counted n ≡ Some q → f q ≡ true) → f q ≡ true
+    by true k true a h rest = let here : r ≡ q = cc in subst (λ (x : Request). f x ≡ true) here k
+    by true k false a h rest = rest a h
+    by false k here a h rest = absurd cc
+
+-- and the other way round, of requests each of which is found under its name
+all_from_found : (f : Request → Bool) (ys : List Request) → are_distinct (map id_of ys) ≡ true → ((n : Name) (q : Request) → request_of ys n ≡ Some q → f q ≡ true) → list_all f ys ≡ true
+all_from_found f [] once each = refl
+all_from_found f (y ∷ ys) once each = rw (each y.id y first, all_from_found f ys (rest_once y ys once) later) refl
+  where
+    first : request_of (y ∷ ys) y.id ≡ Some y
+    first = rw (name_eq-refl y.id) refl
+    later : (n : Name) (q : Request) → request_of ys n ≡ Some q → f q ≡ true
+    later n q h = by (name_eq y.id n) refl (each n q)
+      where
+        by : (b : Bool) → name_eq y.id n ≡ b → ((if b then Some y else request_of ys n) ≡ Some q → f q ≡ true) → f q ≡ true
+        by false k g = g h
+        by true k g =
+            let none : request_of ys n ≡ None = subst (λ (m : Name). request_of ys m ≡ None) (same_name y.id n k) (first_new y ys once) in
+            absurd (cc)
+
+pub table-set : (cells : List (Name × Cell)) (requests xs ys : List Request) → are_distinct (map id_of xs) ≡ true → are_distinct (map id_of ys) ≡ true
+    → ((n : Name) → request_of xs n ≡ request_of ys n) → IsTableOf cells requests xs → IsTableOf cells requests ys
+table-set cells requests xs ys once_x once_y alike t = record {
+  cells_of = λ e. t.cells_of e ∙ same e (own_piece requests e);
+  once = once_y;
+  elements = all_from_found _ ys once_y (λ n q h. all_found _ xs n q t.elements (alike n ∙ h));
+}
+  where
+    same : (e : Name) (o : Option (List ℕ)) → option_map (λ own. cell_from e own xs) o ≡ option_map (λ own. cell_from e own ys) o
+    same e None = refl
+    same e (Some own) = ap (λ c. Some c) (cell_of_set e own xs ys once_x once_y alike)

@@ -2,6 +2,7 @@
 #![tactic(auto)]
 
 mod cell;
+pub mod laws;
 mod table;
 
 pub use cell::{Cell, shown};
