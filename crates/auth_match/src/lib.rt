@@ -1,0 +1,12 @@
+//! Which elements an extent covers, and which authorization of a policy decides.
+#![tactic(auto)]
+
+mod coverage;
+mod first_match;
+mod right;
+mod verdict;
+
+pub use coverage::covers;
+pub use first_match::decide;
+pub use right::HasRight;
+pub use verdict::{Judged, Verdict};
