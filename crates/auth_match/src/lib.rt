@@ -6,7 +6,7 @@ mod first_match;
 mod right;
 mod verdict;
 
-pub use coverage::covers;
+pub use coverage::{covers, covers_new};
 pub use first_match::decide;
 pub use right::HasRight;
 pub use verdict::{Judged, Verdict};
