@@ -3,7 +3,8 @@ use Rattle.std.proofs.Common.{◌≡◌, ◌<◌, ◌⊎◌, ℕ, zero, suc, inl
 use Rattle.std.proofs.lemmas.Bool.{both_ways, cases_Bool}
 use Rattle.std.proofs.lemmas.List.Sorted.{Contains-permutation}
 use Rattle.element_name.specs.Name.{Name, name_eq, has_name}
-use Rattle.tomb_seq.proofs.NameOrder.{name_eq_refl, name_eq-true, ne_names}
+use Rattle.element_name.proofs.NameOrder.{name_eq-refl, same_name}
+use Rattle.tomb_seq.proofs.NameOrder.{ne_names}
 
 -- e stands in the list
 abbrev pub Has : {X : Type 0} → List X → X → Type 0
@@ -39,7 +40,7 @@ Has-append_right (x ∷ xs) ys e h = inr (Has-append_right xs ys e h)
 
 pub has_name-from_Has : (names : List Name) (n : Name) → Has names n → has_name names n ≡ true
 has_name-from_Has [] n p = absurd p
-has_name-from_Has (m ∷ names) n (inl p) = let here : name_eq n m ≡ true = subst (λ x. name_eq n x ≡ true) (sym p) (name_eq_refl n) in rw here
+has_name-from_Has (m ∷ names) n (inl p) = let here : name_eq n m ≡ true = subst (λ x. name_eq n x ≡ true) (sym p) (name_eq-refl n) in rw here
 has_name-from_Has (m ∷ names) n (inr p) =
     ⊎_elim
     (λ (t : name_eq n m ≡ true). rw t)
@@ -50,7 +51,7 @@ pub Has-from_has_name : (names : List Name) (n : Name) → has_name names n ≡ 
 Has-from_has_name [] n h = absurd (cc)
 Has-from_has_name (m ∷ names) n h =
     ⊎_elim
-    (λ (t : name_eq n m ≡ true). inl (sym (name_eq-true n m t)))
+    (λ (t : name_eq n m ≡ true). inl (sym (same_name n m t)))
     (λ (f : name_eq n m ≡ false). inr (Has-from_has_name names n (rw f at h)))
     (cases_Bool (name_eq n m))
 

@@ -7,7 +7,7 @@ use Rattle.element_name.specs.Name.{Name, name_eq, name_lt}
 use Rattle.element_name.specs.Tree.{after_anchor, skip, with_fresh}
 use Rattle.tomb_seq.specs.declared.slot.Slot.{Slot}
 use Rattle.tomb_seq.specs.Slots.{names_in, shown_in, slots_by, with_new, with_mark, without_slot, without_name}
-use Rattle.tomb_seq.proofs.NameOrder.{name_lt_asym}
+use Rattle.element_name.proofs.NameOrder.{name_lt-asym}
 use Rattle.tomb_seq.proofs.Has.{Has}
 
 pub names_by : (test : Name → Bool) (names : List Name) → names_in (slots_by test names) ≡ names
@@ -62,7 +62,7 @@ without_by test (m ∷ names) n =
 
 none_ahead : (names : List Name) (n : Name) → list_all (λ m. name_lt m n) names ≡ true → prefix_len (name_lt n) names ≡ 0
 none_ahead [] n h = refl
-none_ahead (m ∷ names) n h = let off : name_lt n m ≡ false = name_lt_asym m n (and_parts (name_lt m n) _ h).0 in rw off refl
+none_ahead (m ∷ names) n h = let off : name_lt n m ≡ false = name_lt-asym m n (and_parts (name_lt m n) _ h).0 in rw off refl
 
 all_drop : (names : List Name) (n : Name) (k : ℕ) → list_all (λ m. name_lt m n) names ≡ true → list_all (λ m. name_lt m n) (drop k names) ≡ true
 all_drop names n zero h = h

@@ -12,7 +12,7 @@ use Rattle.tomb_seq.specs.declared.fault.SeqFault.TheVariants.{There, NoAnchor, 
 use Rattle.tomb_seq.specs.Insert.{insert_fault}
 use Rattle.tomb_seq.specs.declared.slot.Slot.{Slot}
 use Rattle.tomb_seq.specs.Slots.{names_in, shown_in, without_slot, without_name, with_mark, IsSeq}
-use Rattle.tomb_seq.proofs.NameOrder.{name_eq_comm, name_eq-true}
+use Rattle.element_name.proofs.NameOrder.{name_eq-comm, same_name}
 use Rattle.tomb_seq.proofs.SlotLemmas.{insert_names}
 
 both_false : (a b : Bool) → a ≡ false → b ≡ false → (a || b) ≡ false
@@ -49,14 +49,14 @@ distinct_insert (x ∷ names) zero n h d = distinct_cons n (x ∷ names) h d
 distinct_insert (x ∷ names) (suc k) n h d =
     let p = or_parts (name_eq n x) (has_name names n) h in
     distinct_cons x (insert names k n)
-    (no_name_insert names k n x (name_eq_comm x n ∙ p.0) (distinct_head x names d))
+    (no_name_insert names k n x (name_eq-comm x n ∙ p.0) (distinct_head x names d))
     (distinct_insert names k n p.1 (distinct_tail x names d))
 
 -- a new element leaves the elements distinct
 pub IsSeq-insert : (slots : List Slot) (k : ℕ) (s : Slot) → IsSeq slots → has_name (names_in slots) s.name ≡ false → name_eq s.name start ≡ false → IsSeq (insert slots k s)
 IsSeq-insert slots k s h new d = record {
   distinct = rw (insert_names slots k s) (distinct_insert (names_in slots) k s.name new h.distinct);
-  elements = rw (insert_names slots k s) (no_name_insert (names_in slots) k s.name start (name_eq_comm start s.name ∙ d) h.elements);
+  elements = rw (insert_names slots k s) (no_name_insert (names_in slots) k s.name start (name_eq-comm start s.name ∙ d) h.elements);
 }
 
 -- a name taken out
@@ -106,7 +106,7 @@ remove_without (s ∷ slots) n k d h e =
     ⊎_elim
     (λ (t : name_eq n s.name ≡ true).
     let here : k ≡ 0 = e ∙ rw t in
-    let gone : without_slot slots n ≡ slots = without_none slots n (subst (λ m. has_name (names_in slots) m ≡ false) (sym (name_eq-true n s.name t)) (distinct_head s.name (names_in slots) d)) in
+    let gone : without_slot slots n ≡ slots = without_none slots n (subst (λ m. has_name (names_in slots) m ≡ false) (sym (same_name n s.name t)) (distinct_head s.name (names_in slots) d)) in
     rw (here, t) (sym gone))
     (λ (f : name_eq n s.name ≡ false).
     let there : k ≡ suc (place_in (names_in slots) n) = e ∙ rw f (omega arith) in
@@ -195,7 +195,7 @@ set_mark (s ∷ slots) n shows k x d h e is =
     (λ (t : name_eq n s.name ≡ true).
     let here : k ≡ 0 = e ∙ rw t in
     let one : x ≡ s = is ∙ ap (λ (i : ℕ). get_or (s ∷ slots) i x) here in
-    let rest : with_mark slots n shows ≡ slots = mark_none slots n shows (subst (λ m. has_name (names_in slots) m ≡ false) (sym (name_eq-true n s.name t)) (distinct_head s.name (names_in slots) d)) in
+    let rest : with_mark slots n shows ≡ slots = mark_none slots n shows (subst (λ m. has_name (names_in slots) m ≡ false) (sym (same_name n s.name t)) (distinct_head s.name (names_in slots) d)) in
     rw (here, t) (λ i. record { name = (one i).name; shows = shows } ∷ sym rest i))
     (λ (f : name_eq n s.name ≡ false).
     let there : k ≡ suc (place_in (names_in slots) n) = e ∙ rw f (omega arith) in
