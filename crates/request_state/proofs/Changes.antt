@@ -268,3 +268,20 @@ pub written_none : (entries : List (Name × Kept)) (table : List Kept) (n : Name
 written_none entries table n state e found =
     let absent : kept_of table n ≡ None = sym (found ∙ ap (lookup (is_at (name_cmp n))) e ∙ lookup_keyed n table) in
     e ∙ ap keyed (sym (set_absent n state table absent))
+
+-- what is found after a state was set
+pub kept_after_set : (table : List Kept) (m : Name) (state : State) (n : Name)
+    → kept_of (with_state table m state) n ≡ option_map (λ k. if name_eq k.request.id m then record { request = k.request; state = state } else k) (kept_of table n)
+kept_after_set [] m state n = refl
+kept_after_set (k ∷ table) m state n = by (name_eq k.request.id m) refl (name_eq k.request.id n) refl (kept_after_set table m state n)
+  where
+    set : Kept → Kept
+    set x = if name_eq x.request.id m then record { request = x.request; state = state } else x
+    by : (hit : Bool) → name_eq k.request.id m ≡ hit → (here : Bool) → name_eq k.request.id n ≡ here
+        → kept_of (with_state table m state) n ≡ option_map (λ x. if name_eq x.request.id m then record { request = x.request; state = state } else x) (kept_of table n)
+        → kept_of ((if hit then record { request = k.request; state = state } else k) ∷ with_state table m state) n
+        ≡ option_map (λ x. if name_eq x.request.id m then record { request = x.request; state = state } else x) (if here then Some k else kept_of table n)
+    by true h true g rest = rw (g, h) refl
+    by true h false g rest = rw g rest
+    by false h true g rest = rw (g, h) refl
+    by false h false g rest = rw g rest
