@@ -5,3 +5,6 @@ pub mod laws;
 mod message;
 
 pub use message::{Key, Message, Missing};
+
+#[cfg(test)]
+mod tests;
