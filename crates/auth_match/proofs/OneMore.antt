@@ -125,7 +125,7 @@ has_old names i n e h =
 
 -- ---- a new element, before it is made
 
-cases_le : (i p : ℕ) → (i ≤ p) ⊎ (p < i)
+pub cases_le : (i p : ℕ) → (i ≤ p) ⊎ (p < i)
 cases_le i p = ⊎_elim (λ (k : p < i). inr k) (λ (k : i ≤ p). inl k) (cases_lt p i)
 
 -- it gets a place at most behind the last

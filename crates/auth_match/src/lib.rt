@@ -3,6 +3,7 @@
 
 mod coverage;
 mod first_match;
+pub mod laws;
 mod right;
 mod verdict;
 
