@@ -160,6 +160,7 @@ module _ {A : Type 0} (name : A → Name) where
     where
       Goal : List A → List A → Type 0
       Goal a b = a ≡ b
+
       by : (xz yz : Bool) → name_lt (name x) (name z) ≡ xz → name_lt (name y) (name z) ≡ yz → (xy yx : Bool) → name_lt (name x) (name y) ≡ xy → name_lt (name y) (name x) ≡ yx
           → put_named name x (put_named name y zs) ≡ put_named name y (put_named name x zs)
           → put_named name x (if yz then y ∷ z ∷ zs else z ∷ put_named name y zs) ≡ put_named name y (if xz then x ∷ z ∷ zs else z ∷ put_named name x zs)
