@@ -40,7 +40,8 @@ module _ {X : Type 0} where
   all_back p [] ys h = h
   all_back p (x ∷ xs) ys h = let b = both_true (p x) (list_all p (xs ++ ys)) h in all_back p xs ys b.1
 
-  all_filter_step : (p q : X → Bool) (x : X) (xs : List X) (b : Bool) → q x ≡ b → list_all p (x ∷ xs) ≡ true → list_all p (filter q xs) ≡ true → list_all p (filter q (x ∷ xs)) ≡ true
+  all_filter_step : (p q : X → Bool) (x : X) (xs : List X) (b : Bool) → q x ≡ b → list_all p (x ∷ xs) ≡ true → list_all p (filter q xs) ≡ true
+      → list_all p (filter q (x ∷ xs)) ≡ true
   all_filter_step p q x xs true e h k = let c = both_true (p x) (list_all p xs) h in rw e (both_are (p x) (list_all p (filter q xs)) c.0 k)
   all_filter_step p q x xs false e h k = rw e k
 
@@ -49,7 +50,8 @@ module _ {X : Type 0} where
   all_filter p q (x ∷ xs) h =
       let b = both_true (p x) (list_all p xs) h in all_filter_step p q x xs (q x) refl h (all_filter p q xs b.1)
 
-  length_filter_step : (q : X → Bool) (x : X) (xs : List X) (b : Bool) → q x ≡ b → length (filter q xs) ≤ length xs → length (filter q (x ∷ xs)) ≤ length (x ∷ xs)
+  length_filter_step : (q : X → Bool) (x : X) (xs : List X) (b : Bool) → q x ≡ b → length (filter q xs) ≤ length xs
+      → length (filter q (x ∷ xs)) ≤ length (x ∷ xs)
   length_filter_step q x xs true e h = rw e (omega (arith, h))
   length_filter_step q x xs false e h = rw e (omega (arith, h))
 
@@ -75,7 +77,8 @@ rising_cons x [] h k = refl
 rising_cons x (y ∷ ys) h k =
     let b = both_true (nat_lt x y) (list_all (nat_lt x) ys) h in both_are (nat_lt x y) (is_rising nat_lt (y ∷ ys)) b.0 k
 
-rising_filter_step : (q : ℕ → Bool) (x : ℕ) (xs : List ℕ) (b : Bool) → q x ≡ b → is_rising nat_lt (x ∷ xs) ≡ true → is_rising nat_lt (filter q xs) ≡ true → is_rising nat_lt (filter q (x ∷ xs)) ≡ true
+rising_filter_step : (q : ℕ → Bool) (x : ℕ) (xs : List ℕ) (b : Bool) → q x ≡ b → is_rising nat_lt (x ∷ xs) ≡ true
+    → is_rising nat_lt (filter q xs) ≡ true → is_rising nat_lt (filter q (x ∷ xs)) ≡ true
 rising_filter_step q x xs true e h k = rw e (rising_cons x (filter q xs) (all_filter (nat_lt x) q xs (rising_above x xs h)) k)
 rising_filter_step q x xs false e h k = rw e k
 
@@ -105,7 +108,8 @@ module _ {X : Type 0} (number : X → ℕ) where
   insert-put_by x n [] e = refl
   insert-put_by x n (y ∷ ys) e = insert_step x n y ys (nat_le (number y) n) refl e (insert-put_by x n ys e)
 
-  length_put_step : (x y : X) (ys : List X) (b : Bool) → nat_lt (number x) (number y) ≡ b → length (put_by number x ys) ≡ length ys + 1 → length (put_by number x (y ∷ ys)) ≡ length (y ∷ ys) + 1
+  length_put_step : (x y : X) (ys : List X) (b : Bool) → nat_lt (number x) (number y) ≡ b → length (put_by number x ys) ≡ length ys + 1
+      → length (put_by number x (y ∷ ys)) ≡ length (y ∷ ys) + 1
   length_put_step x y ys true e h = rw e (omega arith)
   length_put_step x y ys false e h = rw e (omega (arith, h))
 
@@ -113,7 +117,8 @@ module _ {X : Type 0} (number : X → ℕ) where
   length-put_by x [] = refl
   length-put_by x (y ∷ ys) = length_put_step x y ys (nat_lt (number x) (number y)) refl (length-put_by x ys)
 
-  all_put_step : (p : X → Bool) (x y : X) (ys : List X) (b : Bool) → nat_lt (number x) (number y) ≡ b → p x ≡ true → list_all p (y ∷ ys) ≡ true → list_all p (put_by number x ys) ≡ true → list_all p (put_by number x (y ∷ ys)) ≡ true
+  all_put_step : (p : X → Bool) (x y : X) (ys : List X) (b : Bool) → nat_lt (number x) (number y) ≡ b → p x ≡ true → list_all p (y ∷ ys) ≡ true
+      → list_all p (put_by number x ys) ≡ true → list_all p (put_by number x (y ∷ ys)) ≡ true
   all_put_step p x y ys true e px h k = rw e (both_are (p x) (list_all p (y ∷ ys)) px h)
   all_put_step p x y ys false e px h k =
       let b = both_true (p y) (list_all p ys) h in rw e (both_are (p y) (list_all p (put_by number x ys)) b.0 k)

@@ -1,5 +1,6 @@
 -- A legal operation leaves a policy within its limits.
-use Rattle.std.proofs.Common.{◌≡◌, ℕ, ◌<◌, ◌≤◌, Bool, true, false, not, List, [], ◌∷◌, ◌++◌, length, map, take, drop, suc, refl, subst, ap, arith, eqb}
+use Rattle.std.proofs.Common.{◌≡◌, ℕ, ◌<◌, ◌≤◌, Bool, true, false, not, List, [], ◌∷◌, ◌++◌, length, map, take, drop, suc, refl, subst, ap, arith}
+use Rattle.std.proofs.Common.{eqb}
 use Rattle.std.specs.Prelude.{nat_lt, nat_le, is_some, option_map, insert, remove}
 use Rattle.std.specs.Option.{option_map_or}
 use Rattle.std.specs.declared.option.Option.{Option}
@@ -17,15 +18,19 @@ use Rattle.policy_book.specs.declared.parts.Object.{Object}
 use Rattle.policy_book.specs.declared.parts.Group.{Group}
 use Rattle.policy_book.specs.declared.parts.NumberedAuth.{NumberedAuth}
 use Rattle.policy_book.specs.declared.op.AdminOp.{AdminOp}
-use Rattle.policy_book.specs.declared.op.AdminOp.TheVariants.{AddUser, DelUser, AddObj, DelObj, AddGroup, DelGroup, AddMember, DelMember, AddAuth, DelAuth, Validate}
+use Rattle.policy_book.specs.declared.op.AdminOp.TheVariants.{AddUser, DelUser, AddObj, DelObj, AddGroup, DelGroup, AddMember, DelMember, AddAuth}
+use Rattle.policy_book.specs.declared.op.AdminOp.TheVariants.{DelAuth, Validate}
 use Rattle.policy_book.specs.declared.fault.EntryFault.TheVariants.{UserThere, ObjectThere, BadPlace, TooMany, GroupThere, NoGroup, MemberThere}
-use Rattle.policy_book.specs.Policy.{Policy, IsWithinLimits, IsLegal, is_number_set, is_full, is_full_group, is_user, is_object, is_group, is_member, with_members, policy_after}
-use Rattle.policy_book.proofs.Ascending.{both_true, both_are, all_append, all_front, all_back, all_filter, length_filter, rising_filter, rising_above, rising_rest, rising_put_by, length-put_by, all_put_by, map-put_by, map-without}
+use Rattle.policy_book.specs.Policy.{Policy, IsWithinLimits, IsLegal, is_number_set, is_full, is_full_group, is_user, is_object, is_group, is_member}
+use Rattle.policy_book.specs.Policy.{with_members, policy_after}
+use Rattle.policy_book.proofs.Ascending.{both_true, both_are, all_append, all_front, all_back, all_filter, length_filter, rising_filter}
+use Rattle.policy_book.proofs.Ascending.{rising_above, rising_rest, rising_put_by, length-put_by, all_put_by, map-put_by, map-without}
 use Rattle.policy_book.proofs.GroupChange.{others_stay}
 
 -- ---- sets of numbers
 
-pub set_put_by : (n : ℕ) (xs : List ℕ) → has_number xs n ≡ false → is_full xs ≡ false → is_number_set xs ≡ true → is_number_set (put_by (λ m. m) n xs) ≡ true
+pub set_put_by : (n : ℕ) (xs : List ℕ) → has_number xs n ≡ false → is_full xs ≡ false → is_number_set xs ≡ true
+    → is_number_set (put_by (λ m. m) n xs) ≡ true
 set_put_by n xs new room h =
     let b = both_true (nat_le (length xs) 256) (is_rising nat_lt xs) h in
     let few : nat_le (length (put_by (λ m. m) n xs)) 256 ≡ true = rw (length-put_by (λ m. m) n xs) (grind (arith, nat_tests, room)) in
@@ -55,7 +60,8 @@ module _ {X : Type 0} (number : X → ℕ) where
   not_there_step f n x xs false e h ih = rw e (ih (rw e at h))
 
   -- what isn't found by its number has none
-  pub not_there : {Y : Type 0} (f : X → Y) (n : ℕ) (xs : List X) → is_some (option_map f (find_by number n xs)) ≡ false → has_number (map number xs) n ≡ false
+  pub not_there : {Y : Type 0} (f : X → Y) (n : ℕ) (xs : List X) → is_some (option_map f (find_by number n xs)) ≡ false
+      → has_number (map number xs) n ≡ false
   not_there f n [] h = refl
   not_there f n (x ∷ xs) h = not_there_step f n x xs (eqb (number x) n) refl h (not_there f n xs)
 
@@ -133,7 +139,8 @@ module _ {X : Type 0} (p : X → Bool) where
 
 -- ---- the eleven operations
 
-pub kept : (p : Policy) (version : ℕ) (op : AdminOp) → IsWithinLimits p → IsLegal p op → is_operation op ≡ true → IsWithinLimits (policy_after p version op)
+pub kept : (p : Policy) (version : ℕ) (op : AdminOp) → IsWithinLimits p → IsLegal p op → is_operation op ≡ true
+    → IsWithinLimits (policy_after p version op)
 kept p version (AddUser u) w legal ranges =
     let rows = first_of-None (when (is_user p u) UserThere) (when (is_full p.users) (TooMany 256) ∷ []) legal in
     let room = first_of-None (when (is_full p.users) (TooMany 256)) [] rows.1 in
@@ -147,7 +154,8 @@ kept p version (AddObj n extent) w legal ranges =
     let room = first_of-None (when (is_full p.objects) (TooMany 256)) [] rows.1 in
     let new = not_there (λ (o : Object). o.number) (λ (o : Object). o.extent) n p.objects (when-None (is_object p n) ObjectThere rows.0) in
     let objects = table_put_by (λ (o : Object). o.number) object p.objects new (when-None (is_full p.objects) (TooMany 256) room.0) w.objects in
-    let extents = all_put_by (λ (o : Object). o.number) (λ (o : Object). is_extent o.extent) object p.objects (both_true (is_short n) (is_extent extent) ranges).1 w.extents in
+    let extents =
+    all_put_by (λ (o : Object). o.number) (λ (o : Object). is_extent o.extent) object p.objects (both_true (is_short n) (is_extent extent) ranges).1 w.extents in
     record { users = w.users; objects = objects; extents = extents; groups = w.groups; members = w.members; few_auths = w.few_auths; auths = w.auths }
 kept p version (DelObj n) w legal ranges =
     let objects = table_without (λ (o : Object). o.number) n p.objects w.objects in
@@ -166,15 +174,20 @@ kept p version (DelGroup g) w legal ranges =
     let members = all_filter has_set (λ (o : Group). not (eqb o.number g)) p.groups w.members in
     record { users = w.users; objects = w.objects; extents = w.extents; groups = groups; members = members; few_auths = w.few_auths; auths = w.auths }
 kept p version (AddMember g u) w legal ranges =
-    let rows = first_of-None (when (is_full_group p g) (TooMany 256)) (when (not (is_group p g)) NoGroup ∷ when (is_member p g u) MemberThere ∷ []) legal in
+    let rows =
+    first_of-None (when (is_full_group p g) (TooMany 256)) (when (not (is_group p g)) NoGroup ∷ when (is_member p g u) MemberThere ∷ []) legal in
     let there = first_of-None (when (not (is_group p g)) NoGroup) (when (is_member p g u) MemberThere ∷ []) rows.1 in
     let new = first_of-None (when (is_member p g u) MemberThere) [] there.1 in
-    let rising = (both_true (nat_le (length (map (λ (o : Group). o.number) p.groups)) 256) (is_rising nat_lt (map (λ (o : Group). o.number) p.groups)) w.groups).1 in
-    let groups : is_number_set (map (λ (o : Group). o.number) (map (with_members g (put_by (λ m. m) u)) p.groups)) ≡ true = rw (numbers_stay g (put_by (λ m. m) u) p.groups) w.groups in
-    let members = members_put g u p.groups rising (when-None (is_full_group p g) (TooMany 256) rows.0) (when-None (is_member p g u) MemberThere new.0) w.members in
+    let rising =
+    (both_true (nat_le (length (map (λ (o : Group). o.number) p.groups)) 256) (is_rising nat_lt (map (λ (o : Group). o.number) p.groups)) w.groups).1 in
+    let groups : is_number_set (map (λ (o : Group). o.number) (map (with_members g (put_by (λ m. m) u)) p.groups)) ≡ true =
+    rw (numbers_stay g (put_by (λ m. m) u) p.groups) w.groups in
+    let members =
+    members_put g u p.groups rising (when-None (is_full_group p g) (TooMany 256) rows.0) (when-None (is_member p g u) MemberThere new.0) w.members in
     record { users = w.users; objects = w.objects; extents = w.extents; groups = groups; members = members; few_auths = w.few_auths; auths = w.auths }
 kept p version (DelMember g u) w legal ranges =
-    let groups : is_number_set (map (λ (o : Group). o.number) (map (with_members g (without (λ m. m) u)) p.groups)) ≡ true = rw (numbers_stay g (without (λ m. m) u) p.groups) w.groups in
+    let groups : is_number_set (map (λ (o : Group). o.number) (map (with_members g (without (λ m. m) u)) p.groups)) ≡ true =
+    rw (numbers_stay g (without (λ m. m) u) p.groups) w.groups in
     record { users = w.users; objects = w.objects; extents = w.extents; groups = groups; members = members_without g u p.groups w.members; few_auths = w.few_auths; auths = w.auths }
 kept p version (AddAuth place auth) w legal ranges =
     let made : NumberedAuth = record { number = version; auth = auth } in

@@ -8,7 +8,8 @@ use Rattle.policy_book.specs.declared.auth.UserSet.{UserSet}
 use Rattle.policy_book.specs.declared.auth.UserSet.TheVariants as users
 use Rattle.policy_book.specs.declared.auth.Auth.{Auth}
 use Rattle.policy_book.specs.declared.op.AdminOp.{AdminOp}
-use Rattle.policy_book.specs.declared.op.AdminOp.TheVariants.{AddUser, DelUser, AddObj, DelObj, AddGroup, DelGroup, AddMember, DelMember, AddAuth, DelAuth, Validate}
+use Rattle.policy_book.specs.declared.op.AdminOp.TheVariants.{AddUser, DelUser, AddObj, DelObj, AddGroup, DelGroup, AddMember, DelMember, AddAuth}
+use Rattle.policy_book.specs.declared.op.AdminOp.TheVariants.{DelAuth, Validate}
 
 abbrev pub is_extent : Extent → Bool
 is_extent extents.All = true

@@ -1,5 +1,6 @@
 -- Policies as values: version 0, the change by an operation, and the faults of one.
-use Rattle.std.specs.Prelude.{◌≡◌, ℕ, ◌≤◌, Bool, true, false, not, ◌&&◌, List, [], ◌∷◌, map, length, Option, Some, None, is_some, option_map, ◌==◌, nat_lt, nat_le, insert, remove, if◌then◌else◌}
+use Rattle.std.specs.Prelude.{◌≡◌, ℕ, ◌≤◌, Bool, true, false, not, ◌&&◌, List, [], ◌∷◌, map, length, Option, Some, None, is_some, option_map, ◌==◌}
+use Rattle.std.specs.Prelude.{nat_lt, nat_le, insert, remove, if◌then◌else◌}
 use Rattle.std.specs.Option.{option_map_or}
 use Rattle.std.specs.List.{list_all}
 use Rattle.element_name.specs.Cases.{when, first_of}
@@ -13,9 +14,11 @@ use Rattle.policy_book.specs.declared.parts.NumberedAuth.{NumberedAuth}
 use Rattle.policy_book.specs.declared.auth.Extent.{Extent}
 use Rattle.policy_book.specs.declared.auth.Extent.TheVariants.{All}
 use Rattle.policy_book.specs.declared.op.AdminOp.{AdminOp}
-use Rattle.policy_book.specs.declared.op.AdminOp.TheVariants.{AddUser, DelUser, AddObj, DelObj, AddGroup, DelGroup, AddMember, DelMember, AddAuth, DelAuth, Validate}
+use Rattle.policy_book.specs.declared.op.AdminOp.TheVariants.{AddUser, DelUser, AddObj, DelObj, AddGroup, DelGroup, AddMember, DelMember, AddAuth}
+use Rattle.policy_book.specs.declared.op.AdminOp.TheVariants.{DelAuth, Validate}
 use Rattle.policy_book.specs.declared.fault.EntryFault.{EntryFault}
-use Rattle.policy_book.specs.declared.fault.EntryFault.TheVariants.{UserThere, NoUser, IsAdministrator, ObjectThere, NoObject, BadPlace, TooMany, GroupThere, NoGroup, MemberThere, NoMember}
+use Rattle.policy_book.specs.declared.fault.EntryFault.TheVariants.{UserThere, NoUser, IsAdministrator, ObjectThere, NoObject, BadPlace, TooMany}
+use Rattle.policy_book.specs.declared.fault.EntryFault.TheVariants.{GroupThere, NoGroup, MemberThere, NoMember}
 use Rattle.policy_book.specs.declared.fault.ApplyFault.{ApplyFault}
 use Rattle.policy_book.specs.declared.fault.ApplyFault.TheVariants.{Illegal, NoMemory}
 

@@ -5,7 +5,8 @@ use Rattle.policy_book.specs.declared.auth.UserSet.{UserSet}
 use Rattle.policy_book.specs.declared.auth.UserSet.TheVariants.{All, Listed, Groups}
 use Rattle.policy_book.specs.declared.auth.Auth.{Auth}
 use Rattle.policy_book.specs.declared.op.AdminOp.{AdminOp}
-use Rattle.policy_book.specs.declared.op.AdminOp.TheVariants.{AddUser, DelUser, AddObj, DelObj, AddGroup, DelGroup, AddMember, DelMember, AddAuth, DelAuth, Validate}
+use Rattle.policy_book.specs.declared.op.AdminOp.TheVariants.{AddUser, DelUser, AddObj, DelObj, AddGroup, DelGroup, AddMember, DelMember, AddAuth}
+use Rattle.policy_book.specs.declared.op.AdminOp.TheVariants.{DelAuth, Validate}
 use Rattle.policy_book.specs.declared.reach.Reach.{Reach}
 use Rattle.policy_book.specs.declared.reach.Reach.TheVariants.{Nobody, Users, Everyone}
 use Rattle.policy_book.specs.Policy.{Policy, policy_fault}

@@ -7,5 +7,6 @@ ghost use Rattle.policy_book.specs.declared.op.AdminOp.{AdminOp};
 /// The first policy is within the limits, and a legal operation, whose parts are in their ranges, leaves a policy within them.
 pub fn kept_limits()
     ensures first { IsWithinLimits first_policy }
-    ensures kept { (p : Policy) (version : ℕ) (op : AdminOp) → IsWithinLimits p → IsLegal p op → is_operation op ≡ true → IsWithinLimits (policy_after p version op) }
+    ensures kept { (p : Policy) (version : ℕ) (op : AdminOp)
+        → IsWithinLimits p → IsLegal p op → is_operation op ≡ true → IsWithinLimits (policy_after p version op) }
 {}

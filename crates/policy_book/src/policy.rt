@@ -2,7 +2,8 @@
 ghost use Rattle.std.specs.Prelude.{◌≡◌, IfOk, IfErr, OnOk, OnErr, ◌==◌, [], ◌∷◌, not, nat_le, nat_lt, length, slice_get, option_map};
 ghost use Rattle.element_name.specs.Cases.{when, first_of};
 ghost use Rattle.std.specs.Option.{option_copied};
-ghost use Rattle.policy_book.specs.Policy.{IsWithinLimits, IsLegal, IsRefusal, first_policy, policy_after, is_user, extent_of, members_of, is_object, is_group, is_member, is_full, is_full_group, policy_fault};
+ghost use Rattle.policy_book.specs.Policy.{IsWithinLimits, IsLegal, IsRefusal, first_policy, policy_after, is_user, extent_of, members_of, is_object};
+ghost use Rattle.policy_book.specs.Policy.{is_group, is_member, is_full, is_full_group, policy_fault};
 ghost use Rattle.policy_book.specs.Reach.{reach_of, reach_of_legal};
 
 use crate::auth::{Auth, Extent};
@@ -168,7 +169,10 @@ impl Policy {
     }
 
     fn add_user_fault(&self, u: u16) -> Option<EntryFault>
-        ensures { result ≡ first_of (when (is_user self.now u) EntryFault.UserThere ∷ when (is_full self.now.users) (EntryFault.TooMany MAX_OF_KIND) ∷ []) }
+        ensures { result ≡ first_of (
+            when (is_user self.now u) EntryFault.UserThere
+            ∷ when (is_full self.now.users) (EntryFault.TooMany MAX_OF_KIND)
+            ∷ []) }
     {
         if self.user(u) {
             return Some(EntryFault::UserThere);
@@ -186,7 +190,10 @@ impl Policy {
     }
 
     fn add_object_fault(&self, n: u16) -> Option<EntryFault>
-        ensures { result ≡ first_of (when (is_object self.now n) EntryFault.ObjectThere ∷ when (is_full self.now.objects) (EntryFault.TooMany MAX_OF_KIND) ∷ []) }
+        ensures { result ≡ first_of (
+            when (is_object self.now n) EntryFault.ObjectThere
+            ∷ when (is_full self.now.objects) (EntryFault.TooMany MAX_OF_KIND)
+            ∷ []) }
     {
         if self.extent(n).is_some() {
             return Some(EntryFault::ObjectThere);
@@ -225,7 +232,10 @@ impl Policy {
     }
 
     fn add_auth_fault(&self, place: u16) -> Option<EntryFault>
-        ensures { result ≡ first_of (when (nat_lt (length self.now.auths) place) (EntryFault.BadPlace (length self.now.auths)) ∷ when (is_full self.now.auths) (EntryFault.TooMany MAX_OF_KIND) ∷ []) }
+        ensures { result ≡ first_of (
+            when (nat_lt (length self.now.auths) place) (EntryFault.BadPlace (length self.now.auths))
+            ∷ when (is_full self.now.auths) (EntryFault.TooMany MAX_OF_KIND)
+            ∷ []) }
     {
         let len = self.auths();
         if u32::from(place) > len {
