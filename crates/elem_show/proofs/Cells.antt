@@ -114,7 +114,7 @@ has_id (q ∷ counted) n = rw (name_eq-comm n q.id) (by (name_eq q.id n) (has_id
     by true h = refl
     by false h = h
 
-absent_from : {A : Type 0} (found : Option A) → is_some found ≡ false → found ≡ None
+pub absent_from : {A : Type 0} (found : Option A) → is_some found ≡ false → found ≡ None
 absent_from None h = refl
 absent_from (Some x) h = absurd cc
 
@@ -153,6 +153,15 @@ once-except n (q ∷ counted) once = by (name_eq q.id n) (once-except n counted 
         → are_distinct (map id_of (if not b then q ∷ except counted n else except counted n)) ≡ true
     by true rest new there = rest
     by false rest new there = once-cons q (except counted n) rest (there ∙ ap (λ (r : Option Request). if name_eq n q.id then None else r) new ∙ off (name_eq n q.id))
+
+-- what is found under a name has it
+pub found_id : (counted : List Request) (n : Name) (q : Request) → request_of counted n ≡ Some q → q.id ≡ n
+found_id [] n q h = absurd cc
+found_id (r ∷ counted) n q h = by (name_eq r.id n) refl h (found_id counted n q)
+  where
+    by : (b : Bool) → name_eq r.id n ≡ b → (if b then Some r else request_of counted n) ≡ Some q → (request_of counted n ≡ Some q → q.id ≡ n) → q.id ≡ n
+    by true k e rest = let here : r ≡ q = cc in subst (λ (x : Request). x.id ≡ n) here (same_name r.id n k)
+    by false k e rest = rest e
 
 -- ---- one taken out
 

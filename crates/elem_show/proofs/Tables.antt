@@ -394,6 +394,7 @@ all_from_found f (y ∷ ys) once each = rw (each y.id y first, all_from_found f 
   where
     first : request_of (y ∷ ys) y.id ≡ Some y
     first = rw (name_eq-refl y.id) refl
+
     later : (n : Name) (q : Request) → request_of ys n ≡ Some q → f q ≡ true
     later n q h = by (name_eq y.id n) refl (each n q)
       where
