@@ -77,7 +77,7 @@ place_other (m ∷ front) back n e h =
     let new : place_in (m ∷ (front ++ n ∷ back)) e ≡ 1 + place_in (front ++ n ∷ back) e = rw f in
     record {
       front = λ l. let k = rest.front (omega (arith, l, old)) in omega (arith, k, old, new);
-      back = λ l. let k = rest.back (omega (arith, l, old)) in omega (arith, k, old, new)
+      back = λ l. let k = rest.back (omega (arith, l, old)) in omega (arith, k, old, new);
     })
     (cases_Bool (name_eq e m))
 

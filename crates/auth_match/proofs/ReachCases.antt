@@ -206,7 +206,7 @@ reach_after names p version (AddMember n v) u right e legal nonzero out h =
     (record {
       user = refl;
       member = changed_group (put_by (λ m. m) v) n u (λ members. put_other v u members (no_user v u out)) p.groups;
-      extent = λ n. refl
+      extent = λ n. refl;
     })
     ∙ h
 reach_after names p version (DelMember n v) u right e legal nonzero out h =
@@ -214,7 +214,7 @@ reach_after names p version (DelMember n v) u right e legal nonzero out h =
     (record {
       user = refl;
       member = changed_group (without (λ m. m) v) n u (λ members. without_other v u members (no_user v u out)) p.groups;
-      extent = λ n. refl
+      extent = λ n. refl;
     })
     ∙ h
 reach_after names p version (AddAuth place auth) u right e legal nonzero out h =

@@ -11,3 +11,8 @@ pub use coverage::{covers, covers_new};
 pub use first_match::decide;
 pub use right::HasRight;
 pub use verdict::{Judged, Verdict};
+
+#[cfg(test)]
+mod row;
+#[cfg(test)]
+mod tests;
