@@ -1,5 +1,5 @@
 -- The laws of cells.
-use Rattle.std.specs.Prelude.{◌≡◌, ℕ, Bool, true, false, List, [], ◌∷◌, ◌++◌, None, Some, map}
+use Rattle.std.specs.Prelude.{◌≡◌, ℕ, true, false, List, [], ◌∷◌, ◌++◌, None, Some, map}
 use Rattle.element_name.specs.Name.{Name, name_eq, are_distinct}
 use Rattle.coop_request.specs.Edit.{is_insert}
 use Rattle.coop_request.specs.Request.{Request, element_of}

@@ -1,8 +1,9 @@
 //! Cells.
-ghost use Rattle.std.specs.Prelude.{◌≡◌, ℕ, ◌+◌, ◌<◌, ◌^◌, [], false, length, slice_get, OnOk, OnErr, None, IsTrue};
-ghost use Rattle.element_name.specs.Named.{item_named, is_ascending};
+ghost use Rattle.std.specs.Prelude.{◌≡◌, ℕ, ◌+◌, ◌<◌, ◌≤◌, ◌^◌, [], false, length, slice_get, OnOk, OnErr, None, IsTrue};
+ghost use Rattle.std.specs.BTreeMap.{IsOrdered};
+ghost use Rattle.element_name.specs.Named.{name_cmp, item_named, put_named, without_named, is_ascending};
 ghost use Rattle.elem_show.specs.Cell.{shown};
-ghost use Rattle.elem_show.specs.Counting.{with_one_more, with_one_fewer, has_cut};
+ghost use Rattle.elem_show.specs.Counting.{with_one_more, with_one_fewer, has_cut, unboxed};
 
 use coop_request::{Edit, Piece};
 use element_name::{Name, NoMemory};
@@ -12,25 +13,55 @@ use std::marker::Model;
 
 /// What is known of an element by the requests that count.
 ///
-/// It takes about 300 bytes, and has no allocation of its own while it has no update.
+/// It takes about 300 bytes, and has no allocation of its own while it has no update. The pieces of updates
+/// lie in boxes, so that the map of a few letters is small.
 #[derive(Drop)]
 pub struct Cell {
     made: bool,
     cuts: u32,
-    letters: BTreeMap<Name, Piece>,
+    alloc: Global,
+    letters: BTreeMap<Name, Box<Piece>>,
     own: Piece,
 }
 
 impl Model for Cell {
     ghost use Rattle.std.specs.Prelude.{◌<◌, ◌^◌, length};
     ghost use Rattle.elem_show.specs.Cell as spec;
-    ghost use Rattle.elem_show.specs.Counting.{HasLetters};
+    ghost use Rattle.elem_show.specs.Counting.{HasLetters, unboxed};
 
     ghost Value = { spec.Cell };
 
-    ghost view = { λ c. record { made = c.made; cuts = c.cuts; letters = c.letters.entries; own = c.own } };
+    ghost view = { λ c. record { made = c.made; cuts = c.cuts; letters = unboxed c.letters.entries; own = c.own } };
 
     ghost invariant = { λ c. HasLetters c.letters.entries };
+}
+
+// One more letter.
+fn put_letter(
+    alloc: Global,
+    letters: &mut BTreeMap<Name, Box<Piece>>,
+    id: Name,
+    letter: Piece,
+) -> Result<(), NoMemory>
+    requires new { item_named (λ x. x.0) id (unboxed letters.old.entries) ≡ None }
+    ensures ok { OnOk result (unboxed letters.new.entries ≡ put_named (λ x. x.0) (id, letter) (unboxed letters.old.entries)) }
+    ensures err { OnErr result (letters.new.entries ≡ letters.old.entries) }
+    ensures ordered { IsOrdered name_cmp letters.old → IsOrdered name_cmp letters.new }
+    ensures len { length letters.new.entries ≤ length letters.old.entries + 1 }
+{
+    let letter = Box::new(alloc, letter)?;
+    letters.insert(id, letter)?;
+    Ok(())
+}
+
+// One letter fewer.
+fn take_letter(letters: &mut BTreeMap<Name, Box<Piece>>, id: Name)
+    requires ordered { IsOrdered name_cmp letters.old }
+    ensures taken { unboxed letters.new.entries ≡ without_named (λ x. x.0) id (unboxed letters.old.entries) }
+    ensures ordered { IsOrdered name_cmp letters.new }
+    ensures len { length letters.new.entries ≤ length letters.old.entries }
+{
+    letters.remove(&id);
 }
 
 impl Cell {
@@ -41,6 +72,7 @@ impl Cell {
         Cell {
             made: false,
             cuts: 0,
+            alloc,
             letters: BTreeMap::new(alloc),
             own,
         }
@@ -73,7 +105,7 @@ impl Cell {
         ensures in_order { IsTrue (is_ascending (λ x. x.0) self.now.letters) }
     {
         match self.letters.iter().nth(i as usize) {
-            Some((name, piece)) => Some((*name, *piece)),
+            Some((name, piece)) => Some((*name, **piece)),
             None => None,
         }
     }
@@ -97,7 +129,7 @@ impl Cell {
             Edit::Insert { .. } => self.made = true,
             Edit::Delete { .. } => self.cuts += 1,
             Edit::Update { letter, .. } => {
-                self.letters.insert(id, letter)?;
+                put_letter(self.alloc, &mut self.letters, id, letter)?;
             }
         }
         Ok(())
@@ -112,7 +144,7 @@ impl Cell {
             Edit::Insert { .. } => self.made = false,
             Edit::Delete { .. } => self.cuts -= 1,
             Edit::Update { .. } => {
-                self.letters.remove(&id);
+                take_letter(&mut self.letters, id);
             }
         }
     }
@@ -126,7 +158,7 @@ pub fn shown(cell: &Cell) -> Option<Piece>
         return None;
     }
     match cell.letters.last_key_value() {
-        Some((_, piece)) => Some(*piece),
+        Some((_, piece)) => Some(**piece),
         None => Some(cell.own),
     }
 }
