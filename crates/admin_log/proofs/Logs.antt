@@ -49,7 +49,7 @@ pub policy_push : (log : List Entry) (e : Entry) → policy_of (log ++ e ∷ [])
 policy_push log e = fold_push log first_policy e
 
 -- a legal validation is the first of its name
-first_validation : (log : List Entry) (n : Name) (op : AdminOp) → entry_fault log op ≡ None → validates n op ≡ true → validated_at log n ≡ None
+pub first_validation : (log : List Entry) (n : Name) (op : AdminOp) → entry_fault log op ≡ None → validates n op ≡ true → validated_at log n ≡ None
 first_validation log n (Validate request) legal same =
     ap (validated_at log) (same_name n request same) ∙ mapped_none ValidatedAt (validated_at log request) legal
 first_validation log n (AddUser u) legal same = absurd (cc)
