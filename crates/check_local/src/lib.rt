@@ -4,3 +4,8 @@
 mod check;
 
 pub use check::{LocalVerdict, check_local};
+
+#[cfg(test)]
+mod row;
+#[cfg(test)]
+mod tests;
