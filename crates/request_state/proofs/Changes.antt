@@ -277,6 +277,7 @@ kept_after_set (k ∷ table) m state n = by (name_eq k.request.id m) refl (name_
   where
     set : Kept → Kept
     set x = if name_eq x.request.id m then record { request = x.request; state = state } else x
+
     by : (hit : Bool) → name_eq k.request.id m ≡ hit → (here : Bool) → name_eq k.request.id n ≡ here
         → kept_of (with_state table m state) n ≡ option_map (λ x. if name_eq x.request.id m then record { request = x.request; state = state } else x) (kept_of table n)
         → kept_of ((if hit then record { request = k.request; state = state } else k) ∷ with_state table m state) n
