@@ -1,4 +1,6 @@
 //! Why an entry isn't legal, or a policy isn't changed.
+ghost use Rattle.std.specs.Prelude.{◌≡◌};
+ghost use Rattle.policy_book.specs.Fault.{fault_number};
 
 use element_name::NoMemory;
 
@@ -29,6 +31,28 @@ pub enum EntryFault {
     MemberThere,
     /// The member to be removed is none.
     NoMember,
+}
+
+impl EntryFault {
+    /// Its number, from 1. Where several faults hold, that of the least number is told.
+    pub fn number(self) -> u32
+        ensures { result ≡ fault_number self }
+    {
+        match self {
+            EntryFault::UserThere => 1,
+            EntryFault::NoUser => 2,
+            EntryFault::IsAdministrator => 3,
+            EntryFault::ObjectThere => 4,
+            EntryFault::NoObject => 5,
+            EntryFault::BadPlace(_) => 6,
+            EntryFault::TooMany(_) => 7,
+            EntryFault::ValidatedAt(_) => 8,
+            EntryFault::GroupThere => 9,
+            EntryFault::NoGroup => 10,
+            EntryFault::MemberThere => 11,
+            EntryFault::NoMember => 12,
+        }
+    }
 }
 
 /// Why an operation didn't change a policy, which is as before.
