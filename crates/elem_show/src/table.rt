@@ -90,7 +90,8 @@ impl ElemTable {
         requires insert { IsTrue (is_insert request.edit) }
         requires new { cell_in self.old request.id ≡ None }
         ensures cells { OnOk result ((e : Name) → cell_in self.new e ≡ (if name_eq request.id e then cell_of (request ∷ []) [] e else cell_in self.old e)) }
-        ensures shows { OnOk result ((requests counted : List Request) → IsTableOf self.old requests counted → IsTableOf self.new (requests ++ request ∷ []) counted) }
+        ensures shows { OnOk result ((requests counted : List Request) → IsTableOf self.old requests counted
+            → IsTableOf self.new (requests ++ request ∷ []) counted) }
         ensures err { OnErr result (self.new ≡ self.old) }
     {
         let Edit::Insert { letter, .. } = request.edit() else {

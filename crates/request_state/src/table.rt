@@ -7,7 +7,8 @@ ghost use Rattle.element_name.specs.Named.{name_cmp};
 ghost use Rattle.request_state.specs.declared.kept.Kept.{Kept};
 ghost use Rattle.request_state.specs.declared.state.State.TheVariants.{Tentative};
 ghost use Rattle.request_state.specs.Lines.{keyed};
-ghost use Rattle.request_state.specs.Table.{is_in_order, kept_of, state_in, request_in, with_request, with_state, without_request, first_tentative, next_tentative, next_tentative_of};
+ghost use Rattle.request_state.specs.Table.{is_in_order, kept_of, state_in, request_in, with_request, with_state, without_request};
+ghost use Rattle.request_state.specs.Table.{first_tentative, next_tentative, next_tentative_of};
 
 use crate::kept::Kept;
 use crate::lines::{Line, Place, first_of_others, leave, lesser, line_up, next_in};
