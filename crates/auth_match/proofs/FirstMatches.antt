@@ -1,6 +1,6 @@
 -- The first authorization that matches: what it decides, and when it is the same.
-use Rattle.std.proofs.Common.{◌≡◌, ◌<◌, ℕ, zero, suc, ⊎_elim, Bool, true, false, cond, List, [], ◌∷◌, ◌++◌, take, drop, Some, None, refl, sym, ap, ◌∙◌, arith, eqb}
-use Rattle.std.specs.Prelude.{◌&&◌, ◌||◌, find, slice_get, remove}
+use Rattle.std.proofs.Common.{◌≡◌, ◌<◌, ℕ, zero, suc, ⊎_elim, Bool, true, false, cond, List, [], ◌∷◌, ◌++◌, Some, None, refl, ap, ◌∙◌, arith, eqb}
+use Rattle.std.specs.Prelude.{◌||◌, find, slice_get, remove}
 use Rattle.std.specs.Option.{option_map_or}
 use Rattle.std.specs.declared.option.Option.{Option}
 use Rattle.std.specs.List.{list_any}
@@ -16,7 +16,7 @@ use Rattle.policy_book.specs.Policy.{Policy, is_user, is_member, extent_of}
 use Rattle.auth_match.specs.declared.verdict.Verdict.{Verdict}
 use Rattle.auth_match.specs.declared.verdict.Verdict.TheVariants.{Granted, Denied}
 use Rattle.auth_match.specs.Coverage.{covers}
-use Rattle.auth_match.specs.Verdict.{has_right, has_user, object_covers, matches, decided_by, verdict}
+use Rattle.auth_match.specs.Verdict.{has_user, object_covers, matches, decided_by, verdict}
 
 -- ---- tests of a list
 

@@ -1,6 +1,6 @@
 -- A legal operation denies nothing that was granted to a user outside its reach.
-use Rattle.std.proofs.Common.{◌≡◌, ℕ, ⊎_elim, Bool, true, false, cond, not, List, [], ◌∷◌, map, take, drop, Some, None, refl, sym, subst, ap, ◌∙◌, arith, eqb}
-use Rattle.std.specs.Prelude.{◌&&◌, ◌||◌, nat_lt, find, filter, slice_get, is_some, option_map, insert, remove, if◌then◌else◌}
+use Rattle.std.proofs.Common.{◌≡◌, ℕ, ⊎_elim, Bool, true, false, List, [], ◌∷◌, map, take, drop, Some, None, refl, sym, subst, ap, ◌∙◌, arith, eqb}
+use Rattle.std.specs.Prelude.{◌&&◌, ◌||◌, nat_lt, find, slice_get, is_some, option_map, insert, remove, if◌then◌else◌}
 use Rattle.std.specs.Option.{option_map_or}
 use Rattle.std.specs.declared.option.Option.{Option}
 use Rattle.std.specs.List.{list_any}
@@ -8,7 +8,7 @@ use Rattle.std.proofs.Math.ListN.{take-append-drop}
 use Rattle.std.proofs.lemmas.Bool.{cases_Bool}
 use Rattle.std.proofs.lemmas.Bool.Decides.{nat_tests}
 use Rattle.element_name.specs.Numbered.{put_by, without, find_by}
-use Rattle.element_name.specs.Cases.{when, first_of}
+use Rattle.element_name.specs.Cases.{when}
 use Rattle.element_name.specs.Name.{Name}
 use Rattle.element_name.proofs.CaseLemmas.{when-None, first_of-None}
 use Rattle.coop_request.specs.declared.edit.Right.{Right}
@@ -23,11 +23,11 @@ use Rattle.policy_book.specs.declared.op.AdminOp.TheVariants.{AddUser, DelUser, 
 use Rattle.policy_book.specs.declared.fault.EntryFault.{EntryFault}
 use Rattle.policy_book.specs.declared.fault.EntryFault.TheVariants.{TooMany, GroupThere}
 use Rattle.policy_book.specs.declared.reach.Reach.TheVariants.{Everyone}
-use Rattle.policy_book.specs.Policy.{Policy, IsLegal, is_full, is_user, is_group, is_member, with_members, policy_after, policy_fault}
+use Rattle.policy_book.specs.Policy.{Policy, IsLegal, is_full, is_user, is_group, with_members, policy_after}
 use Rattle.policy_book.specs.Reach.{reach_of, reach_of_legal, reach_of_users, reach_of_added, reach_of_removed, is_reached}
 use Rattle.auth_match.specs.declared.verdict.Verdict.TheVariants.{Granted}
 use Rattle.auth_match.specs.Verdict.{has_right, has_user, object_covers, matches, verdict}
-use Rattle.auth_match.proofs.FirstMatches.{IsSameFor, verdict_same, outcome, by_first, granted_zero, granted_user, more_off, more_grants, less_off, less_denies}
+use Rattle.auth_match.proofs.FirstMatches.{verdict_same, outcome, by_first, granted_zero, granted_user, more_off, more_grants, less_off, less_denies}
 
 -- ---- numbers that come and go
 

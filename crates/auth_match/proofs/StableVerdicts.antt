@@ -1,9 +1,9 @@
 -- One more element leaves the verdicts on the old ones.
-use Rattle.std.proofs.Common.{◌≡◌, ◌≤◌, ◌+◌, ◌<◌, ℕ, ⊎_elim, Bool, true, false, cond, not, List, [], ◌∷◌, length, Some, None, refl, sym, ap, ◌∙◌, arith, eqb}
-use Rattle.std.specs.Prelude.{◌&&◌, ◌||◌, nat_lt, insert, find, option_map}
+use Rattle.std.proofs.Common.{◌≡◌, ◌≤◌, ◌+◌, ◌<◌, ℕ, ⊎_elim, Bool, true, false, cond, not, List, [], ◌∷◌, length, refl, ap, arith, eqb}
+use Rattle.std.specs.Prelude.{◌&&◌, ◌||◌, nat_lt, insert, option_map}
 use Rattle.std.specs.Option.{option_map_or}
 use Rattle.std.specs.declared.option.Option.{Option}
-use Rattle.std.specs.List.{list_any, list_all}
+use Rattle.std.specs.List.{list_all}
 use Rattle.std.proofs.lemmas.Bool.{cases_Bool, and_parts, not-true}
 use Rattle.std.proofs.lemmas.Bool.Decides.{nat_tests}
 use Rattle.std.proofs.lemmas.List.Edits.{length-insert}
@@ -16,7 +16,7 @@ use Rattle.policy_book.specs.declared.auth.Extent.{Extent}
 use Rattle.policy_book.specs.declared.auth.Extent.TheVariants.{All, Span, Elems, By}
 use Rattle.policy_book.specs.declared.parts.Object.{Object}
 use Rattle.policy_book.specs.declared.parts.NumberedAuth.{NumberedAuth}
-use Rattle.policy_book.specs.Policy.{Policy, is_user, extent_of}
+use Rattle.policy_book.specs.Policy.{Policy, is_user}
 use Rattle.auth_match.specs.declared.verdict.Verdict.TheVariants.{Granted}
 use Rattle.auth_match.specs.Coverage.{covers}
 use Rattle.auth_match.specs.Verdict.{has_right, has_user, object_covers, matches, verdict}
