@@ -40,7 +40,8 @@ none_pass : {X : Type 0} (test : X → Bool) → ((x : X) → test x ≡ false) 
 none_pass test h [] = refl
 none_pass test h (x ∷ xs) = rw (h x) (none_pass test h xs)
 
-find_first : {X : Type 0} (test : X → Bool) (front : List X) (x : X) (behind : List X) → list_any test front ≡ false → test x ≡ true → find test (front ++ x ∷ behind) ≡ Some x
+find_first : {X : Type 0} (test : X → Bool) (front : List X) (x : X) (behind : List X) → list_any test front ≡ false → test x ≡ true
+    → find test (front ++ x ∷ behind) ≡ Some x
 find_first test [] x behind h t = rw t refl
 find_first test (y ∷ front) x behind h t =
     ⊎_elim
@@ -67,11 +68,13 @@ by_first names p u right e h = rw h refl
 no_zero : (u : ℕ) → 0 < u → eqb u 0 ≡ false
 no_zero u l = ne_eqb u 0 (λ e. omega (arith, e, l))
 
-pub unmatched_law : (names : List Name) (p : Policy) (u : ℕ) (right : Right) (e : Name) → 0 < u → list_any (λ a. matches names p u right e a.auth) p.auths ≡ false
+pub unmatched_law : (names : List Name) (p : Policy) (u : ℕ) (right : Right) (e : Name) → 0 < u
+    → list_any (λ a. matches names p u right e a.auth) p.auths ≡ false
     → verdict names p u right e ≡ Denied None
 unmatched_law names p u right e l h = by_first names p u right e (no_zero u l) ∙ ap outcome (find_none (λ a. matches names p u right e a.auth) p.auths h)
 
-pub first_match_law : (names : List Name) (p : Policy) (u : ℕ) (right : Right) (e : Name) (front : List NumberedAuth) (a : NumberedAuth) (behind : List NumberedAuth)
+pub first_match_law : (names : List Name) (p : Policy) (u : ℕ) (right : Right) (e : Name)
+    (front : List NumberedAuth) (a : NumberedAuth) (behind : List NumberedAuth)
     → 0 < u → p.auths ≡ front ++ a ∷ behind → list_any (λ b. matches names p u right e b.auth) front ≡ false → matches names p u right e a.auth ≡ true
     → verdict names p u right e ≡ decided_by a
 first_match_law names p u right e front a behind l is off on =
@@ -80,7 +83,8 @@ first_match_law names p u right e front a behind l is off on =
     ∙ ap outcome (find_first (λ b. matches names p u right e b.auth) front a behind off on)
 
 -- who is no user is granted nothing
-pub granted_user : (names : List Name) (p : Policy) (u : ℕ) (right : Right) (e : Name) → eqb u 0 ≡ false → verdict names p u right e ≡ Granted → is_user p u ≡ true
+pub granted_user : (names : List Name) (p : Policy) (u : ℕ) (right : Right) (e : Name) → eqb u 0 ≡ false → verdict names p u right e ≡ Granted
+    → is_user p u ≡ true
 granted_user names p u right e nonzero granted =
     ⊎_elim
     (λ (t : is_user p u ≡ true). t)
@@ -107,9 +111,11 @@ users_same u p q (Groups groups) h = any_same (λ g. is_member q g u) (λ g. is_
 objects_same : (names : List Name) (e : Name) (u : ℕ) (p q : Policy) (objects : List ℕ) → IsSameFor u p q
     → list_any (object_covers names q e) objects ≡ list_any (object_covers names p e) objects
 objects_same names e u p q objects h =
-    any_same (object_covers names q e) (object_covers names p e) (λ n. ap (λ (o : Option Extent). option_map_or (λ extent. covers names extent e) o false) (h.extent n)) objects
+    any_same (object_covers names q e) (object_covers names p e)
+    (λ n. ap (λ (o : Option Extent). option_map_or (λ extent. covers names extent e) o false) (h.extent n)) objects
 
-matches_same : (names : List Name) (p q : Policy) (u : ℕ) (right : Right) (e : Name) (auth : Auth) → IsSameFor u p q → matches names q u right e auth ≡ matches names p u right e auth
+matches_same : (names : List Name) (p q : Policy) (u : ℕ) (right : Right) (e : Name) (auth : Auth) → IsSameFor u p q
+    → matches names q u right e auth ≡ matches names p u right e auth
 matches_same names p q u right e auth h =
     let users = users_same u p q auth.users h in
     let objects = objects_same names e u p q auth.objects h in
@@ -117,7 +123,8 @@ matches_same names p q u right e auth h =
     rw (user, users, objects) refl
 
 -- so it decides the same with the same authorizations
-pub verdict_same : (names : List Name) (p q : Policy) (u : ℕ) (right : Right) (e : Name) → q.auths ≡ p.auths → IsSameFor u p q → verdict names q u right e ≡ verdict names p u right e
+pub verdict_same : (names : List Name) (p q : Policy) (u : ℕ) (right : Right) (e : Name) → q.auths ≡ p.auths → IsSameFor u p q
+    → verdict names q u right e ≡ verdict names p u right e
 verdict_same names p q u right e auths h =
     ap (λ (o : Option NumberedAuth). cond (eqb u 0) Granted (outcome o))
     (ap (find (λ a. matches names q u right e a.auth)) auths
@@ -127,7 +134,8 @@ verdict_same names p q u right e auths h =
 
 module _ (test : NumberedAuth → Bool) where
   -- one that doesn't match changes nothing
-  pub more_off : (front : List NumberedAuth) (a : NumberedAuth) (behind : List NumberedAuth) → test a ≡ false → find test (front ++ a ∷ behind) ≡ find test (front ++ behind)
+  pub more_off : (front : List NumberedAuth) (a : NumberedAuth) (behind : List NumberedAuth) → test a ≡ false
+      → find test (front ++ a ∷ behind) ≡ find test (front ++ behind)
   more_off [] a behind h = rw h refl
   more_off (b ∷ front) a behind h = ap (λ o. cond (test b) (Some b) o) (more_off front a behind h)
 
@@ -143,7 +151,8 @@ module _ (test : NumberedAuth → Bool) where
       (cases_Bool (test b))
 
   -- without one that doesn't match nothing changes
-  pub less_off : (auths : List NumberedAuth) (i : ℕ) (a : NumberedAuth) → slice_get auths i ≡ Some a → test a ≡ false → find test (remove auths i) ≡ find test auths
+  pub less_off : (auths : List NumberedAuth) (i : ℕ) (a : NumberedAuth) → slice_get auths i ≡ Some a → test a ≡ false
+      → find test (remove auths i) ≡ find test auths
   less_off [] i a at h = absurd (cc)
   less_off (b ∷ auths) zero a at h = let same : b ≡ a = cc in rw (same, h) refl
   less_off (b ∷ auths) (suc i) a at h = ap (λ o. cond (test b) (Some b) o) (less_off auths i a at h)

@@ -60,7 +60,8 @@ place_own (m ∷ front) back n h =
     (λ (f : name_eq n m ≡ false). rw f (let k = place_own front back n (rw f at h) in omega (arith, k)))
     (cases_Bool (name_eq n m))
 
-place_other : (front back : List Name) (n e : Name) → name_eq e n ≡ false → IsShifted (length front) (place_in (front ++ back) e) (place_in (front ++ n ∷ back) e)
+place_other : (front back : List Name) (n e : Name) → name_eq e n ≡ false
+    → IsShifted (length front) (place_in (front ++ back) e) (place_in (front ++ n ∷ back) e)
 place_other [] back n e h =
     let k : place_in (n ∷ back) e ≡ 1 + place_in back e = rw h in
     record { front = λ l. absurd (omega (arith, l)); back = λ l. omega (arith, k) }
@@ -100,7 +101,8 @@ place_new names i n l h =
     place_own (take i names) (drop i names) n (has_front (take i names) (drop i names) n (has_split names i n ∙ h)) ∙ length_take names i l
 
 -- and those behind it go on by one
-pub place_old : (names : List Name) (i : ℕ) (n e : Name) → i ≤ length names → name_eq e n ≡ false → IsShifted i (place_in names e) (place_in (insert names i n) e)
+pub place_old : (names : List Name) (i : ℕ) (n e : Name) → i ≤ length names → name_eq e n ≡ false
+    → IsShifted i (place_in names e) (place_in (insert names i n) e)
 place_old names i n e l h =
     subst (λ (k : ℕ). IsShifted k (place_in names e) (place_in (insert names i n) e)) (length_take names i l)
     (subst (λ (ns : List Name). IsShifted (length (take i names)) (place_in ns e) (place_in (insert names i n) e)) (take-append-drop i names)
