@@ -1,0 +1,68 @@
+use Rattle.std.proofs.Common.{◌≡◌, ℕ, ◌+◌, ◌<◌, ◌≤◌, List, Some, None, length, sym, ap, ◌∙◌, arith}
+use Rattle.std.proofs.lemmas.Option.{slice_get-get_or}
+use Rattle.request_state.specs.declared.kept.Kept.{Kept}
+use Rattle.retro_undo.specs.Undo.{have_elements}
+use Rattle.retro_undo.specs.Part.{states_after_in, undone_in}
+use Rattle.retro_undo.proofs.Parts.{states_of_none, undone_of_none, few_undone, elements_after}
+use Rattle.retro_undo.proofs.Steps.{is_of_first, states_more, undone_more, states_of_all, undone_of_all}
+use Rattle.retro_undo.proofs.sweep.sweep_users.Goals as goal
+use Rattle.retro_undo.proofs.sweep.sweep_users.Goals.{in-Some, in_default}
+
+pub loop-i-init : goal.loop-i-init
+loop-i-init g c = record {
+  states = sym (states_of_none (g.P.Places.names c.args.places.now) c.args.policy.now c.args.version c.args.states.now);
+  count = sym (undone_of_none (g.P.Places.names c.args.places.now) c.args.policy.now c.args.version c.args.states.now);
+  cells = λ requests shown. shown;
+}
+
+pub sweep_line-count-requires-clause-elements : goal.sweep_line-count-requires-clause-elements
+sweep_line-count-requires-clause-elements g c =
+    let names = g.P.Places.names c.args.places.now in
+    ap (λ (t : List Kept). have_elements names t) c.loop-i.invariant.states
+    ∙ elements_after names c.args.policy.now c.args.version (is_of_first c.args.users c.loop-i.i) c.args.states.now ∙ c.requires.elements
+
+pub sweep_line-count-requires-clause-counted : goal.sweep_line-count-requires-clause-counted
+sweep_line-count-requires-clause-counted g c = (c.requires.counted.0, c.loop-i.invariant.cells c.requires.counted.0 c.requires.counted.1)
+
+pub overflow_add-count : goal.overflow_add-count
+overflow_add-count g c =
+    let names = g.P.Places.names c.args.places.now in
+    let p = c.args.policy.now in
+    let more = undone_more names p c.args.version c.args.users c.loop-i.i c.in-Some.user c.args.states.now c.loop-i.states (sym c.at.ensures ∙ c.in-Some.is) c.loop-i.invariant.states in
+    let few = few_undone names p c.args.version (is_of_first c.args.users (c.loop-i.i + 1)) c.args.states.now in
+    omega (arith, more, few, c.loop-i.invariant.count, c.sweep_line-count.ensures.count, c.requires.few)
+
+pub loop-i-preserved : goal.loop-i-preserved
+loop-i-preserved g c =
+    let names = g.P.Places.names c.args.places.now in
+    let p = c.args.policy.now in
+    elim c.match-at.branch [
+    | in-Some w ↦
+        let there = sym c.at.ensures ∙ w.in-Some.is in
+        let more = undone_more names p c.args.version c.args.users c.loop-i.i w.in-Some.user c.args.states.now c.loop-i.states there c.loop-i.invariant.states in
+        record {
+          states = w.states-is ∙ states_more names p c.args.version c.args.users c.loop-i.i w.in-Some.user c.args.states.now c.loop-i.states w.sweep_line-count.new.states there c.loop-i.invariant.states w.sweep_line-count.ensures.states;
+          count = omega (arith, more, w.count-is, c.loop-i.invariant.count, w.sweep_line-count.ensures.count);
+          cells = rw (w.table-is, w.states-is) (λ requests shown. w.sweep_line-count.ensures.cells requests (c.loop-i.invariant.cells requests shown));
+        }
+    | in_default w ↦
+        let lt : c.loop-i.i < length c.args.users = omega (arith, c.len-i-end.ensures, c.loop-i-test.true) in
+        let some = slice_get-get_or c.args.users c.loop-i.i 0 lt in
+        absurd (cc (some, c.at.ensures, w.in_default.is))
+    ]
+
+pub returns-clause-states : goal.returns-clause-states
+returns-clause-states g c =
+    let names = g.P.Places.names c.args.places.now in
+    let end : c.loop-i.i ≡ length c.args.users = omega (arith, c.len-i-end.ensures, c.loop-i-test.false) in
+    c.loop-i.invariant.states
+    ∙ ap (λ (i : ℕ). states_after_in (is_of_first c.args.users i) names c.args.policy.now c.args.version c.args.states.now) end
+    ∙ states_of_all names c.args.policy.now c.args.version c.args.users c.args.states.now
+
+pub returns-clause-count : goal.returns-clause-count
+returns-clause-count g c =
+    let names = g.P.Places.names c.args.places.now in
+    let end : c.loop-i.i ≡ length c.args.users = omega (arith, c.len-i-end.ensures, c.loop-i-test.false) in
+    c.loop-i.invariant.count
+    ∙ ap (λ (i : ℕ). undone_in (is_of_first c.args.users i) names c.args.policy.now c.args.states.now) end
+    ∙ undone_of_all names c.args.policy.now c.args.version c.args.users c.args.states.now

@@ -1,0 +1,39 @@
+-- A sweep of a part of the requests.
+use Rattle.std.specs.Prelude.{ℕ, Bool, true, ◌&&◌, ◌==◌, List, Option, map, find, count_by, option_map, if◌then◌else◌}
+use Rattle.element_name.specs.Name.{Name, name_eq, name_lt}
+use Rattle.coop_request.specs.Request.{Request, user_of}
+use Rattle.policy_book.specs.Policy.{Policy}
+use Rattle.request_state.specs.declared.kept.Kept.{Kept}
+use Rattle.request_state.specs.State.{is_tentative}
+use Rattle.retro_undo.specs.declared.walk.Line.{Line}
+use Rattle.retro_undo.specs.declared.walk.Line.TheVariants.{Everyone, Of}
+use Rattle.retro_undo.specs.Undo.{kept_after, is_undone}
+
+-- what is kept after the requests of the part were judged
+abbrev pub states_after_in : (Request → Bool) → List Name → Policy → ℕ → List Kept → List Kept
+states_after_in part names p version table = map (λ k. if part k.request then kept_after names p version k else k) table
+
+-- how many of the part are undone
+abbrev pub undone_in : (Request → Bool) → List Name → Policy → List Kept → ℕ
+undone_in part names p table = count_by (λ k. part k.request && is_undone names p k) table
+
+-- the request of a name
+abbrev pub is_named : Name → Request → Bool
+is_named n q = name_eq q.id n
+
+-- the requests of a line
+abbrev pub is_in : Line → Request → Bool
+is_in Everyone q = true
+is_in (Of user) q = user_of q == user
+
+-- those of a line above a name
+abbrev pub is_above : Line → Name → Request → Bool
+is_above line above q = is_in line q && name_lt above q.id
+
+-- the Tentative request of a line with the least name above a name
+abbrev pub next_of : List Kept → Line → Name → Option Request
+next_of table line above = option_map (λ k. k.request) (find (λ k. is_tentative k.state && is_above line above k.request) table)
+
+-- how many Tentative requests have a name above this one
+abbrev pub waiting_count : Name → List Kept → ℕ
+waiting_count above table = count_by (λ k. is_tentative k.state && name_lt above k.request.id) table

@@ -1,0 +1,8 @@
+//! Retroactive undo: what one new version of the policy makes of the requests that were accepted before it.
+#![tactic(auto)]
+
+mod judge;
+mod sweep;
+mod walk;
+
+pub use sweep::sweep_reach;

@@ -1,0 +1,69 @@
+//! The sweep.
+ghost use Rattle.std.specs.Prelude.{◌≡◌, ◌<◌, ◌^◌, true, length};
+ghost use Rattle.coop_request.specs.Request.{user_of};
+ghost use Rattle.policy_book.specs.Lists.{has_number};
+ghost use Rattle.retro_undo.specs.Undo.{have_elements, are_reached, states_after, undone_count, ShowsCounted, IsShownAfter};
+ghost use Rattle.retro_undo.specs.Part.{states_after_in, undone_in};
+
+use crate::walk::{Line, sweep_line};
+use elem_show::ElemTable;
+use element_name::Places;
+use policy_book::{Policy, Reach, UserRow};
+use request_state::{StateTable, Undone};
+
+// The same for the listed users.
+fn sweep_users<P: Places>(
+    users: UserRow,
+    policy: &Policy,
+    version: u32,
+    states: &mut StateTable,
+    table: &mut ElemTable,
+    places: &P,
+) -> u32
+    requires elements { have_elements (P.names places.now) states.old ≡ true }
+    requires counted { ShowsCounted table.old states.old }
+    requires few { length states.old < 2 ^ 32 }
+    ensures states { states.new ≡ states_after_in (λ q. has_number users (user_of q)) (P.names places.now) policy.now version states.old }
+    ensures cells { IsShownAfter table.old states.old table.new states.new }
+    ensures count { result ≡ undone_in (λ q. has_number users (user_of q)) (P.names places.now) policy.now states.old }
+{
+    let mut count = 0;
+    for i in 0..users.len() {
+        if let Some(user) = users.at(i) {
+            count += sweep_line(Line::Of(user), policy, version, states, table, places);
+        }
+    }
+    count
+}
+
+/// Undoes each Tentative request that the policy of a new version denies, and says how many.
+///
+/// Such a request becomes Invalid at that version, by its authorization or none, and counts no more. No other
+/// state changes, and no other request's counting. It takes no memory, and visits only the Tentative requests
+/// of users within the reach: one verdict for each, and a look-up in both tables, in time logarithmic in them.
+pub fn sweep_reach<P: Places>(
+    reach: Reach,
+    policy: &Policy,
+    version: u32,
+    states: &mut StateTable,
+    table: &mut ElemTable,
+    places: &P,
+) -> Undone
+    requires elements { have_elements (P.names places.now) states.old ≡ true }
+    requires counted { ShowsCounted table.old states.old }
+    requires outside { are_reached reach (P.names places.now) policy.now states.old ≡ true }
+    requires few { length states.old < 2 ^ 32 }
+    ensures states { states.new ≡ states_after (P.names places.now) policy.now version states.old }
+    ensures cells { IsShownAfter table.old states.old table.new states.new }
+    ensures count { result.count ≡ undone_count (P.names places.now) policy.now states.old }
+{
+    match reach {
+        Reach::Nobody => Undone { count: 0 },
+        Reach::Users(users) => Undone {
+            count: sweep_users(users, policy, version, states, table, places),
+        },
+        Reach::Everyone => Undone {
+            count: sweep_line(Line::Everyone, policy, version, states, table, places),
+        },
+    }
+}

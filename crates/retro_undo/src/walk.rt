@@ -1,0 +1,74 @@
+//! The walk along the Tentative requests of a line.
+ghost use Rattle.std.specs.Prelude.{◌≡◌, ◌<◌, ◌^◌, true, None, IsTrue, length};
+ghost use Rattle.element_name.specs.Name.{start};
+ghost use Rattle.request_state.specs.Table.{kept_of, is_in_order};
+ghost use Rattle.retro_undo.specs.Undo.{have_elements, ShowsCounted, IsShownAfter};
+ghost use Rattle.retro_undo.specs.Part.{is_in, states_after_in, undone_in, next_of};
+
+use crate::judge::judge;
+use coop_request::Request;
+use elem_show::ElemTable;
+use element_name::{Name, Places};
+use policy_book::Policy;
+use request_state::StateTable;
+
+/// Whose Tentative requests a walk visits, in ascending order of name.
+#[derive(Clone, Copy, Debug, PartialEq, Eq)]
+pub(crate) enum Line {
+    Everyone,
+    /// Those of one user.
+    Of(u16),
+}
+
+fn next(states: &StateTable, line: Line, above: Name) -> Option<Request>
+    ensures found { result ≡ next_of states.now line above }
+    ensures in_order { IsTrue (is_in_order states.now) }
+{
+    match line {
+        Line::Everyone => states.next_tentative(above),
+        Line::Of(user) => states.next_tentative_of(user, above),
+    }
+}
+
+// The start, from which a walk begins. It is no request's name, since a request's stamp is greater than
+// that of what it speaks of.
+fn below_all(states: &StateTable) -> Name
+    ensures value { result ≡ start }
+    ensures absent { kept_of states.now start ≡ None }
+{
+    match states.request(Name::start()) {
+        Some(request) => {
+            // What it speaks of would have a stamp below 0.
+            let _ = request.edit();
+            unreachable!()
+        }
+        None => Name::start(),
+    }
+}
+
+/// Judges each Tentative request of the line, and undoes those that are denied. How many those are.
+pub(crate) fn sweep_line<P: Places>(
+    line: Line,
+    policy: &Policy,
+    version: u32,
+    states: &mut StateTable,
+    table: &mut ElemTable,
+    places: &P,
+) -> u32
+    requires elements { have_elements (P.names places.now) states.old ≡ true }
+    requires counted { ShowsCounted table.old states.old }
+    requires few { length states.old < 2 ^ 32 }
+    ensures states { states.new ≡ states_after_in (is_in line) (P.names places.now) policy.now version states.old }
+    ensures cells { IsShownAfter table.old states.old table.new states.new }
+    ensures count { result ≡ undone_in (is_in line) (P.names places.now) policy.now states.old }
+{
+    let mut count = 0;
+    let mut above = below_all(states);
+    while let Some(request) = next(states, line, above) {
+        above = request.id();
+        if judge(request, policy, version, states, table, places) {
+            count += 1;
+        }
+    }
+    count
+}
