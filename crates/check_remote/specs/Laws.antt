@@ -5,7 +5,8 @@ use Rattle.coop_request.specs.Request.{Request, user_of}
 use Rattle.policy_book.specs.Entry.{Entry}
 use Rattle.auth_match.specs.declared.verdict.Verdict.{Verdict}
 use Rattle.auth_match.specs.declared.verdict.Verdict.TheVariants.{Granted, Denied}
-use Rattle.admin_log.specs.Log.{IsLog, validates, validated_at}
+use Rattle.auth_match.specs.Requests.{request_verdict}
+use Rattle.admin_log.specs.Log.{IsLog, policy_of, validates, validated_at}
 use Rattle.request_state.specs.declared.state.State.{State}
 use Rattle.request_state.specs.declared.state.State.TheVariants.{Tentative, Valid, Invalid}
 use Rattle.request_state.specs.State.{is_invalid}
@@ -64,7 +65,7 @@ state_after (Invalid at by) version verdict validation = Invalid at by
 abbrev pub EntryLaw : Type 0
 EntryLaw = (names : List Name) (log : List Entry) (e : Entry) (q : Request) → q.version ≤ length log → IsLog (log ++ e ∷ [])
     → state_of names (log ++ e ∷ []) q
-    ≡ state_after (state_of names log q) (length log + 1) (verdict_at names (log ++ e ∷ []) q (length log + 1)) (validates q.id e.op)
+    ≡ state_after (state_of names log q) (length log + 1) (request_verdict names (policy_of (log ++ e ∷ [])) q) (validates q.id e.op)
 
 -- the verdicts at the versions before stay
 abbrev pub OldVerdictLaw : Type 0

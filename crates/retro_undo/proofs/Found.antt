@@ -1,12 +1,12 @@
 -- What is found in a table whose names ascend.
-use Rattle.std.proofs.Common.{◌≡◌, ◌⊎◌, inl, inr, ⊎_elim, Bool, true, false, not, cond, ◌&&◌, ◌||◌, List, [], ◌∷◌, None, Some, refl, sym, ap, subst, ◌∙◌, arith}
+use Rattle.std.proofs.Common.{◌≡◌, ◌⊎◌, inl, inr, ⊎_elim, Bool, true, false, cond, ◌&&◌, List, [], ◌∷◌, None, Some, refl, sym, ap, subst, ◌∙◌, arith}
 use Rattle.std.specs.Prelude.{ℕ, find, nat_le, nat_lt}
 use Rattle.std.proofs.lemmas.Bool.Decides.{nat_tests}
 use Rattle.std.specs.declared.option.Option.{Option}
 use Rattle.std.specs.Option.{option_map}
 use Rattle.std.specs.List.{AllByRecursion}
 use Rattle.element_name.specs.Name.{Name, start, name_eq, name_lt}
-use Rattle.element_name.proofs.NameOrder.{same_name, name_eq-refl, name_eq-comm, name_lt-irrefl, name_lt-apart, name_lt-trans, name_gt}
+use Rattle.element_name.proofs.NameOrder.{same_name, name_eq-refl, name_eq-comm, name_lt-apart, name_lt-trans, name_gt}
 use Rattle.element_name.proofs.CaseLemmas.{when-None, first_of-None}
 use Rattle.element_name.specs.Cases.{when}
 use Rattle.element_name.specs.declared.limits.TheConstants.{MAX_VERSION}
@@ -14,7 +14,7 @@ use Rattle.coop_request.specs.Edit.{anchor_or_target, targets_start}
 use Rattle.coop_request.specs.declared.request.RequestFault.TheVariants.{BadVersion, StartTarget, StampOrder}
 use Rattle.coop_request.specs.Request.{Request, IsAccepted}
 use Rattle.request_state.specs.declared.kept.Kept.{Kept}
-use Rattle.request_state.specs.Table.{name_of, kept_of, request_in, is_in_order}
+use Rattle.request_state.specs.Table.{kept_of, request_in, is_in_order}
 use Rattle.retro_undo.proofs.Parts.{all_by}
 
 abbrev pub IsAbove : Name → Kept → Type 0
@@ -68,11 +68,13 @@ pub alone : (test : Kept → Bool) (k : Kept) (table : List Kept) → IsAt test 
 alone test k [] at = tt
 alone test k (x ∷ table) at =
     ⊎_elim
-    (λ (h : (x ≡ k) × (test k ≡ true) × AllByRecursion (IsAbove k.request.id) table).
-        ((λ same. h.0), all_by (IsAbove k.request.id) (λ y. name_eq y.request.id k.request.id ≡ true → y ≡ k)
-            (λ y above same. let apart = name_lt-apart k.request.id y.request.id above in let turned = name_eq-comm k.request.id y.request.id in absurd cc) table h.2))
+    (λ (h : (x ≡ k) × (test k ≡ true) × AllByRecursion (IsAbove k.request.id) table). (
+      (λ same. h.0),
+      all_by (IsAbove k.request.id) (λ y. name_eq y.request.id k.request.id ≡ true → y ≡ k)
+          (λ y above same. let apart = name_lt-apart k.request.id y.request.id above in let turned = name_eq-comm k.request.id y.request.id in absurd cc) table h.2,
+    ))
     (λ (l : (test x ≡ false) × (name_lt x.request.id k.request.id ≡ true) × IsAt test k table).
-        ((λ same. let apart = name_lt-apart x.request.id k.request.id l.1 in absurd cc), alone test k table l.2))
+    ((λ same. let apart = name_lt-apart x.request.id k.request.id l.1 in absurd cc), alone test k table l.2))
     at
 
 -- it is what is kept under its name
@@ -81,9 +83,9 @@ kept_at test k [] at = absurd at
 kept_at test k (x ∷ table) at =
     ⊎_elim
     (λ (h : (x ≡ k) × (test k ≡ true) × AllByRecursion (IsAbove k.request.id) table).
-        ap (λ y. kept_of (y ∷ table) k.request.id) h.0 ∙ ap (λ b. cond b (Some k) (kept_of table k.request.id)) (name_eq-refl k.request.id))
+    ap (λ y. kept_of (y ∷ table) k.request.id) h.0 ∙ ap (λ b. cond b (Some k) (kept_of table k.request.id)) (name_eq-refl k.request.id))
     (λ (l : (test x ≡ false) × (name_lt x.request.id k.request.id ≡ true) × IsAt test k table).
-        ap (λ b. cond b (Some x) (kept_of table k.request.id)) (name_lt-apart x.request.id k.request.id l.1) ∙ kept_at test k table l.2)
+    ap (λ b. cond b (Some x) (kept_of table k.request.id)) (name_lt-apart x.request.id k.request.id l.1) ∙ kept_at test k table l.2)
     at
 
 pub at_passes : (test : Kept → Bool) (k : Kept) (table : List Kept) → IsAt test k table → test k ≡ true

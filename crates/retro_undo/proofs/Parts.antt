@@ -1,7 +1,7 @@
 -- Sweeps of parts of the requests, put together.
-use Rattle.std.proofs.Common.{◌≡◌, ℕ, suc, ◌+◌, ◌≤◌, Bool, true, false, not, cond, ◌&&◌, ◌||◌, List, [], ◌∷◌, map, length, refl, sym, ap, ◌∙◌, arith}
+use Rattle.std.proofs.Common.{◌≡◌, ℕ, suc, ◌+◌, ◌≤◌, Bool, true, false, not, cond, ◌&&◌, ◌||◌, List, [], ◌∷◌, length, refl, sym, ap, ◌∙◌, arith}
 use Rattle.std.specs.Prelude.{count_by}
-use Rattle.std.specs.List.{list_all, AllByRecursion}
+use Rattle.std.specs.List.{AllByRecursion}
 use Rattle.std.proofs.lemmas.List.Sums.{sum_by-cons, count_by-le-length}
 use Rattle.element_name.specs.Name.{Name, has_name}
 use Rattle.coop_request.specs.Request.{Request, user_of, element_of}
@@ -15,7 +15,7 @@ use Rattle.request_state.specs.declared.state.State.{State}
 use Rattle.request_state.specs.declared.state.State.TheVariants.{Tentative, Valid, Invalid}
 use Rattle.request_state.specs.declared.kept.Kept.{Kept}
 use Rattle.request_state.specs.State.{is_tentative}
-use Rattle.retro_undo.specs.Undo.{state_after, kept_after, states_after, is_denied, is_undone, undone_count, have_elements, are_reached}
+use Rattle.retro_undo.specs.Undo.{state_after, kept_after, is_denied, is_undone, have_elements, are_reached}
 use Rattle.retro_undo.specs.Part.{states_after_in, undone_in}
 
 -- ---- of one state

@@ -1,9 +1,9 @@
 -- A walk along the Tentative requests of a line.
-use Rattle.std.proofs.Common.{◌≡◌, ℕ, ◌+◌, ◌<◌, ◌≤◌, ⊎_elim, Bool, true, false, not, cond, ◌&&◌, ◌||◌, List, [], ◌∷◌, map, length, None, Some, refl, sym, ap, subst, ◌∙◌, arith}
+use Rattle.std.proofs.Common.{◌≡◌, ℕ, ◌+◌, ◌<◌, ◌≤◌, ⊎_elim, Bool, true, false, cond, ◌&&◌, ◌||◌, List, [], ◌∷◌, length, None, Some, refl, sym, ap, subst, ◌∙◌, arith}
 use Rattle.std.specs.Prelude.{find, count_by, slice_get, take, ◌++◌, ◌==◌}
 use Rattle.std.specs.declared.option.Option.{Option}
 use Rattle.std.specs.Option.{option_map}
-use Rattle.std.specs.List.{list_all, list_any, AllByRecursion}
+use Rattle.std.specs.List.{list_any, AllByRecursion}
 use Rattle.std.proofs.lemmas.Bool.Decides.{nat_tests}
 use Rattle.std.proofs.lemmas.List.{take_more}
 use Rattle.std.proofs.lemmas.Option.{slice_get_within, get_or_from_slice_get}
@@ -22,11 +22,15 @@ use Rattle.request_state.specs.declared.kept.Kept.{Kept}
 use Rattle.request_state.specs.State.{is_tentative}
 use Rattle.request_state.specs.Table.{kept_of, is_in_order}
 use Rattle.retro_undo.specs.Undo.{kept_after, states_after, is_denied, is_undone, undone_count, have_elements, are_reached}
-use Rattle.retro_undo.specs.Part.{states_after_in, undone_in, is_named, is_in, is_above, next_of, waiting_count}
+use Rattle.retro_undo.specs.Part.{states_after_in, undone_in, is_named, is_in, is_above, next_of}
 use Rattle.retro_undo.specs.declared.walk.Line.{Line}
 use Rattle.retro_undo.specs.declared.walk.Line.TheVariants.{Of}
 use Rattle.retro_undo.proofs.Parts.{all_by, each_by, within_reach, count_cons, states_same, undone_same, states_twice, undone_twice, states_of_none, undone_of_none, IsSameFor}
 use Rattle.retro_undo.proofs.Found.{IsAbove, IsAt, both, found_at, kept_at, at_passes, none_found, all_above_start}
+
+-- how many Tentative requests have a name above this one
+abbrev pub waiting_count : Name → List Kept → ℕ
+waiting_count above table = count_by (λ k. is_tentative k.state && name_lt above k.request.id) table
 
 -- 1 where it holds
 abbrev pub one_if : Bool → ℕ
@@ -116,8 +120,8 @@ module _ (names : List Name) (p : Policy) (version : ℕ) where
     front_same k fails low =
         not_next line above k fails
         ∙ sym (ap (λ b. (b || (is_in line k.request && name_lt q.id k.request.id)) && is_undone names p k) (name_lt-apart k.request.id q.id low)
-          ∙ ap (λ b. (is_in line k.request && b) && is_undone names p k) (name_lt-asym k.request.id q.id low)
-          ∙ by (is_in line k.request) (is_undone names p k))
+        ∙ ap (λ b. (is_in line k.request && b) && is_undone names p k) (name_lt-asym k.request.id q.id low)
+        ∙ by (is_in line k.request) (is_undone names p k))
       where
         by : (a u : Bool) → ((a && false) && u) ≡ false
         by true u = refl
@@ -127,7 +131,7 @@ module _ (names : List Name) (p : Policy) (version : ℕ) where
     behind_same from k high =
         ap (λ b. (is_in line k.request && b) && is_undone names p k) (name_lt-trans above q.id k.request.id from high)
         ∙ sym (ap (λ b. (b || (is_in line k.request && name_lt q.id k.request.id)) && is_undone names p k) (name_eq-comm k.request.id q.id ∙ name_lt-apart q.id k.request.id high)
-          ∙ ap (λ b. (is_in line k.request && b) && is_undone names p k) high)
+        ∙ ap (λ b. (is_in line k.request && b) && is_undone names p k) high)
 
     here_same : is_next line above waits ≡ true → IsSameFor names p version (is_above line above) onward waits
     here_same passes =
@@ -141,11 +145,12 @@ module _ (names : List Name) (p : Policy) (version : ℕ) where
     step_same [] at = absurd at
     step_same (x ∷ table) at =
         ⊎_elim
-        (λ (h : (x ≡ waits) × (is_next line above waits ≡ true) × AllByRecursion (IsAbove q.id) table).
-            (subst (IsSameFor names p version (is_above line above) onward) (sym h.0) (here_same h.1),
-              all_by (IsAbove q.id) (IsSameFor names p version (is_above line above) onward) (behind_same (low_enough h.1)) table h.2))
+        (λ (h : (x ≡ waits) × (is_next line above waits ≡ true) × AllByRecursion (IsAbove q.id) table). (
+          subst (IsSameFor names p version (is_above line above) onward) (sym h.0) (here_same h.1),
+          all_by (IsAbove q.id) (IsSameFor names p version (is_above line above) onward) (behind_same (low_enough h.1)) table h.2,
+        ))
         (λ (l : (is_next line above x ≡ false) × (name_lt x.request.id q.id ≡ true) × IsAt (is_next line above) waits table).
-            (front_same x l.0 l.1, step_same table l.2))
+        (front_same x l.0 l.1, step_same table l.2))
         at
 
     -- the one that is found is undone exactly where it is denied
@@ -154,17 +159,17 @@ module _ (names : List Name) (p : Policy) (version : ℕ) where
     named_undone (x ∷ table) at =
         ⊎_elim
         (λ (h : (x ≡ waits) × (is_next line above waits ≡ true) × AllByRecursion (IsAbove q.id) table).
-            let one = count_cons (λ k. name_eq k.request.id q.id && is_undone names p k) x table in
-            let here : one_if (name_eq x.request.id q.id && is_undone names p x) ≡ one_if (is_denied (request_verdict names p q)) =
-              ap (λ (k : Kept). one_if (name_eq k.request.id q.id && is_undone names p k)) h.0
-              ∙ ap (λ b. one_if (b && is_undone names p waits)) (name_eq-refl q.id) in
-            let none = none_named table h.2 in
-            omega (arith, one, here, none))
+        let one = count_cons (λ k. name_eq k.request.id q.id && is_undone names p k) x table in
+        let here : one_if (name_eq x.request.id q.id && is_undone names p x) ≡ one_if (is_denied (request_verdict names p q)) =
+        ap (λ (k : Kept). one_if (name_eq k.request.id q.id && is_undone names p k)) h.0
+        ∙ ap (λ b. one_if (b && is_undone names p waits)) (name_eq-refl q.id) in
+        let none = none_named table h.2 in
+        omega (arith, one, here, none))
         (λ (l : (is_next line above x ≡ false) × (name_lt x.request.id q.id ≡ true) × IsAt (is_next line above) waits table).
-            count_cons (λ k. name_eq k.request.id q.id && is_undone names p k) x table
-            ∙ ap (λ b. one_if (b && is_undone names p x) + undone_in (is_named q.id) names p table) (name_lt-apart x.request.id q.id l.1)
-            ∙ ap (λ n. 0 + n) (named_undone table l.2)
-            ∙ no_more (one_if (is_denied (request_verdict names p q))))
+        count_cons (λ k. name_eq k.request.id q.id && is_undone names p k) x table
+        ∙ ap (λ b. one_if (b && is_undone names p x) + undone_in (is_named q.id) names p table) (name_lt-apart x.request.id q.id l.1)
+        ∙ ap (λ n. 0 + n) (named_undone table l.2)
+        ∙ no_more (one_if (is_denied (request_verdict names p q))))
         at
       where
         no_more : (n : ℕ) → 0 + n ≡ n
@@ -208,8 +213,8 @@ module _ (names : List Name) (p : Policy) (version : ℕ) where
         let first = count_cons (λ k. is_tentative k.state && name_lt q.id k.request.id) (judged x) (states_after_in (is_named q.id) names p version table) in
         let second = count_cons (λ k. is_tentative k.state && name_lt above k.request.id) x table in
         let here : one_if (is_tentative (judged x).state && name_lt q.id (judged x).request.id) ≡ one_if (is_tentative x.state && name_lt above x.request.id) =
-          ap (λ (k : Kept). one_if (is_tentative k.state && name_lt q.id k.request.id)) same
-          ∙ ap (λ b. one_if (is_tentative x.state && b)) (all.0 ∙ sym (name_lt-trans above q.id x.request.id from all.0)) in
+        ap (λ (k : Kept). one_if (is_tentative k.state && name_lt q.id k.request.id)) same
+        ∙ ap (λ b. one_if (is_tentative x.state && b)) (all.0 ∙ sym (name_lt-trans above q.id x.request.id from all.0)) in
         let rest = waiting_behind from table all.1 in
         omega (arith, first, second, here, rest)
 
@@ -220,18 +225,18 @@ module _ (names : List Name) (p : Policy) (version : ℕ) where
         let second = count_cons (λ k. is_tentative k.state && name_lt above k.request.id) x table in
         ⊎_elim
         (λ (h : (x ≡ waits) × (is_next line above waits ≡ true) × AllByRecursion (IsAbove q.id) table).
-            let mine : one_if (is_tentative x.state && name_lt above x.request.id) ≡ 1 =
-              ap (λ (k : Kept). one_if (is_tentative k.state && name_lt above k.request.id)) h.0 ∙ ap (λ b. one_if b) (low_enough h.1) in
-            let gone : one_if (is_tentative (judged x).state && name_lt q.id (judged x).request.id) ≡ 0 =
-              ap (λ (k : Kept). one_if (is_tentative (judged k).state && name_lt q.id (judged k).request.id)) h.0 ∙ gone_by (name_eq q.id q.id) in
-            let rest = waiting_behind (low_enough h.1) table h.2 in
-            omega (arith, first, second, mine, gone, rest))
+        let mine : one_if (is_tentative x.state && name_lt above x.request.id) ≡ 1 =
+        ap (λ (k : Kept). one_if (is_tentative k.state && name_lt above k.request.id)) h.0 ∙ ap (λ b. one_if b) (low_enough h.1) in
+        let gone : one_if (is_tentative (judged x).state && name_lt q.id (judged x).request.id) ≡ 0 =
+        ap (λ (k : Kept). one_if (is_tentative (judged k).state && name_lt q.id (judged k).request.id)) h.0 ∙ gone_by (name_eq q.id q.id) in
+        let rest = waiting_behind (low_enough h.1) table h.2 in
+        omega (arith, first, second, mine, gone, rest))
         (λ (l : (is_next line above x ≡ false) × (name_lt x.request.id q.id ≡ true) × IsAt (is_next line above) waits table).
-            let none : one_if (is_tentative (judged x).state && name_lt q.id (judged x).request.id) ≡ 0 =
-              ap (λ (k : Kept). one_if (is_tentative k.state && name_lt q.id k.request.id)) (apart_judged x (name_lt-apart x.request.id q.id l.1))
-              ∙ ap (λ b. one_if (is_tentative x.state && b)) (name_lt-asym x.request.id q.id l.1) ∙ zero_by (is_tentative x.state) in
-            let rest = waiting_fewer table l.2 in
-            omega (arith, first, second, none, rest))
+        let none : one_if (is_tentative (judged x).state && name_lt q.id (judged x).request.id) ≡ 0 =
+        ap (λ (k : Kept). one_if (is_tentative k.state && name_lt q.id k.request.id)) (apart_judged x (name_lt-apart x.request.id q.id l.1))
+        ∙ ap (λ b. one_if (is_tentative x.state && b)) (name_lt-asym x.request.id q.id l.1) ∙ zero_by (is_tentative x.state) in
+        let rest = waiting_fewer table l.2 in
+        omega (arith, first, second, none, rest))
         at
       where
         zero_by : (b : Bool) → one_if (b && false) ≡ 0
@@ -283,8 +288,8 @@ of_more : (users : List ℕ) (i u : ℕ) → slice_get users i ≡ Some u → (q
 of_more users i u at q =
     let more : take (i + 1) users ≡ take i users ++ u ∷ [] = take_more users i u (slice_get_within users i u at) ∙ ap (λ d. take i users ++ d ∷ []) (get_or_from_slice_get users i u u at) in
     sym (ap (λ us. has_number us (user_of q)) more
-      ∙ any_more (λ m. m == user_of q) (take i users) u
-      ∙ ap (λ b. has_number (take i users) (user_of q) || b) (eq-comm u (user_of q)))
+    ∙ any_more (λ m. m == user_of q) (take i users) u
+    ∙ ap (λ b. has_number (take i users) (user_of q) || b) (eq-comm u (user_of q)))
 
 module _ (names : List Name) (p : Policy) (version : ℕ) where
   part_same : (a b : Request → Bool) → ((q : Request) → a q ≡ b q) → (table : List Kept) → AllByRecursion (IsSameFor names p version a b) table
@@ -345,5 +350,5 @@ module _ (names : List Name) (p : Policy) (version : ℕ) where
   walk_count line above next q table new order found is made =
       let step = undone_step names p version line above q table order found in
       let same : undone_in (is_above line next) names p new ≡ undone_in (is_above line q.id) names p (states_after_in (is_named q.id) names p version table) =
-        ap (λ n. undone_in (is_above line n) names p new) is ∙ ap (undone_in (is_above line q.id) names p) made in
+      ap (λ n. undone_in (is_above line n) names p new) is ∙ ap (undone_in (is_above line q.id) names p) made in
       omega (arith, step, same)

@@ -1,27 +1,24 @@
 -- One request that is undone.
-use Rattle.std.proofs.Common.{◌≡◌, ℕ, ◌+◌, ◌<◌, ◌≤◌, ⊎_elim, Bool, true, false, not, cond, ◌&&◌, ◌||◌, List, [], ◌∷◌, map, None, Some, refl, sym, ap, subst, ◌∙◌, arith}
-use Rattle.std.specs.Prelude.{find, filter}
+use Rattle.std.proofs.Common.{◌≡◌, ℕ, Bool, true, false, not, cond, ◌&&◌, List, [], ◌∷◌, map, Some, refl, sym, ap, ◌∙◌}
+use Rattle.std.specs.Prelude.{filter}
 use Rattle.std.specs.declared.option.Option.{Option}
 use Rattle.std.specs.List.{AllByRecursion}
-use Rattle.element_name.specs.Name.{Name, name_eq, name_lt}
-use Rattle.element_name.proofs.NameOrder.{name_eq-refl}
+use Rattle.element_name.specs.Name.{Name, name_eq}
 use Rattle.coop_request.specs.Request.{Request}
 use Rattle.coop_request.specs.History.{request_of}
 use Rattle.policy_book.specs.Policy.{Policy}
-use Rattle.auth_match.specs.declared.verdict.Verdict.{Verdict}
 use Rattle.auth_match.specs.declared.verdict.Verdict.TheVariants.{Granted, Denied}
 use Rattle.auth_match.specs.Requests.{request_verdict}
-use Rattle.request_state.specs.declared.state.State.{State}
-use Rattle.request_state.specs.declared.state.State.TheVariants.{Tentative, Valid, Invalid}
+use Rattle.request_state.specs.declared.state.State.TheVariants.{Tentative, Invalid}
 use Rattle.request_state.specs.declared.kept.Kept.{Kept}
-use Rattle.request_state.specs.State.{is_tentative, is_invalid}
+use Rattle.request_state.specs.State.{is_invalid}
 use Rattle.request_state.specs.Table.{kept_of, with_state, is_in_order}
 use Rattle.elem_show.specs.Cell.{Cell}
-use Rattle.elem_show.specs.Table.{except, IsTableOf, IsCounted}
+use Rattle.elem_show.specs.Table.{except, IsCounted}
 use Rattle.retro_undo.specs.Undo.{state_after, kept_after, is_denied, is_undone, counted_of, ShowsCounted}
-use Rattle.retro_undo.specs.Part.{is_named, states_after_in, undone_in}
-use Rattle.retro_undo.proofs.Parts.{all_by, count_cons, states_same, states_of_none, undone_same, undone_of_none, IsSameFor}
-use Rattle.retro_undo.proofs.Found.{IsAbove, IsAt, found_at, alone}
+use Rattle.retro_undo.specs.Part.{is_named, states_after_in}
+use Rattle.retro_undo.proofs.Parts.{all_by, states_same, states_of_none, IsSameFor}
+use Rattle.retro_undo.proofs.Found.{found_at, alone}
 
 -- ---- what counts
 

@@ -33,7 +33,3 @@ is_above line above q = is_in line q && name_lt above q.id
 -- the Tentative request of a line with the least name above a name
 abbrev pub next_of : List Kept → Line → Name → Option Request
 next_of table line above = option_map (λ k. k.request) (find (λ k. is_tentative k.state && is_above line above k.request) table)
-
--- how many Tentative requests have a name above this one
-abbrev pub waiting_count : Name → List Kept → ℕ
-waiting_count above table = count_by (λ k. is_tentative k.state && name_lt above k.request.id) table

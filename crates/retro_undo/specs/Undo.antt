@@ -1,5 +1,5 @@
 -- What one new version makes of states and of what counts.
-use Rattle.std.specs.Prelude.{◌≡◌, ℕ, Bool, true, false, not, ◌&&◌, ◌||◌, List, map, filter, count_by, if◌then◌else◌}
+use Rattle.std.specs.Prelude.{ℕ, Bool, true, false, not, ◌&&◌, ◌||◌, List, map, filter, count_by}
 use Rattle.std.specs.List.{list_all}
 use Rattle.element_name.specs.Name.{Name, has_name}
 use Rattle.coop_request.specs.Request.{Request, user_of, element_of}

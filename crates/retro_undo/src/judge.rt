@@ -16,13 +16,7 @@ use policy_book::Policy;
 use request_state::{State, StateTable};
 
 /// A Tentative request becomes Invalid, and counts no more.
-fn undo(
-    request: Request,
-    at: u32,
-    by: Option<u32>,
-    states: &mut StateTable,
-    table: &mut ElemTable,
-)
+fn undo(request: Request, at: u32, by: Option<u32>, states: &mut StateTable, table: &mut ElemTable)
     requires tentative { kept_of states.old request.id ≡ Some (record { request = request; state = Tentative }) }
     requires counted { ShowsCounted table.old states.old }
     ensures states { states.new ≡ with_state states.old request.id (Invalid at by) }

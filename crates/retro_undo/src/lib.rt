@@ -6,3 +6,6 @@ mod sweep;
 mod walk;
 
 pub use sweep::sweep_reach;
+
+#[cfg(test)]
+mod tests;

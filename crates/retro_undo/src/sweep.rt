@@ -11,7 +11,7 @@ use element_name::Places;
 use policy_book::{Policy, Reach, UserRow};
 use request_state::{StateTable, Undone};
 
-// The same for the listed users.
+// Judges each Tentative request of the listed users, and undoes those that are denied. How many those are.
 fn sweep_users<P: Places>(
     users: UserRow,
     policy: &Policy,

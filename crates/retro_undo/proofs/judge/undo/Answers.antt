@@ -15,7 +15,7 @@ withdraw-requires c = record { counted = is_counted c.args.table.now c.args.stat
 pub returns-clause-cells : goal.returns-clause-cells
 returns-clause-cells c requests shown =
     let set : c.set.new.self ≡ with_state c.args.states.now c.args.request.id (Invalid c.args.at c.args.by) =
-      c.set.ensures ∙ ap (λ (n : Name). with_state c.args.states.now n (Invalid c.args.at c.args.by)) c.id.ensures.value in
+    c.set.ensures ∙ ap (λ (n : Name). with_state c.args.states.now n (Invalid c.args.at c.args.by)) c.id.ensures.value in
     let counted = ap (λ (t : List Kept). counted_of t) set ∙ counted_without c.args.states.now c.args.request.id c.args.at c.args.by in
     subst (λ (qs : List Request). IsTableOf c.withdraw.new.self requests qs) (sym counted)
     (c.withdraw.ensures requests (counted_of c.args.states.now) shown (tentative_counts c.args.request c.args.states.now c.requires.tentative))

@@ -1,4 +1,4 @@
-use Rattle.std.proofs.Common.{◌≡◌, ℕ, ◌+◌, ◌<◌, ◌≤◌, List, Some, None, length, sym, ap, ◌∙◌, arith}
+use Rattle.std.proofs.Common.{◌≡◌, ℕ, ◌+◌, ◌<◌, List, length, sym, ap, ◌∙◌, arith}
 use Rattle.std.proofs.lemmas.Option.{slice_get-get_or}
 use Rattle.request_state.specs.declared.kept.Kept.{Kept}
 use Rattle.retro_undo.specs.Undo.{have_elements}
@@ -37,18 +37,18 @@ loop-i-preserved g c =
     let names = g.P.Places.names c.args.places.now in
     let p = c.args.policy.now in
     elim c.match-at.branch [
-    | in-Some w ↦
-        let there = sym c.at.ensures ∙ w.in-Some.is in
-        let more = undone_more names p c.args.version c.args.users c.loop-i.i w.in-Some.user c.args.states.now c.loop-i.states there c.loop-i.invariant.states in
-        record {
-          states = w.states-is ∙ states_more names p c.args.version c.args.users c.loop-i.i w.in-Some.user c.args.states.now c.loop-i.states w.sweep_line-count.new.states there c.loop-i.invariant.states w.sweep_line-count.ensures.states;
-          count = omega (arith, more, w.count-is, c.loop-i.invariant.count, w.sweep_line-count.ensures.count);
-          cells = rw (w.table-is, w.states-is) (λ requests shown. w.sweep_line-count.ensures.cells requests (c.loop-i.invariant.cells requests shown));
-        }
-    | in_default w ↦
-        let lt : c.loop-i.i < length c.args.users = omega (arith, c.len-i-end.ensures, c.loop-i-test.true) in
-        let some = slice_get-get_or c.args.users c.loop-i.i 0 lt in
-        absurd (cc (some, c.at.ensures, w.in_default.is))
+      | in-Some w ↦
+          let there = sym c.at.ensures ∙ w.in-Some.is in
+          let more = undone_more names p c.args.version c.args.users c.loop-i.i w.in-Some.user c.args.states.now c.loop-i.states there c.loop-i.invariant.states in
+          record {
+            states = w.states-is ∙ states_more names p c.args.version c.args.users c.loop-i.i w.in-Some.user c.args.states.now c.loop-i.states w.sweep_line-count.new.states there c.loop-i.invariant.states w.sweep_line-count.ensures.states;
+            count = omega (arith, more, w.count-is, c.loop-i.invariant.count, w.sweep_line-count.ensures.count);
+            cells = rw (w.table-is, w.states-is) (λ requests shown. w.sweep_line-count.ensures.cells requests (c.loop-i.invariant.cells requests shown));
+          }
+      | in_default w ↦
+          let lt : c.loop-i.i < length c.args.users = omega (arith, c.len-i-end.ensures, c.loop-i-test.true) in
+          let some = slice_get-get_or c.args.users c.loop-i.i 0 lt in
+          absurd (cc (some, c.at.ensures, w.in_default.is))
     ]
 
 pub returns-clause-states : goal.returns-clause-states

@@ -1,7 +1,5 @@
-use Rattle.std.proofs.Common.{◌≡◌, sym, ap, ◌∙◌}
-use Rattle.retro_undo.proofs.Found.{request_named, never_start, none_kept}
-use Rattle.request_state.specs.Table.{kept_of, request_in}
-use Rattle.element_name.specs.Name.{Name}
+use Rattle.std.proofs.Common.{sym, ◌∙◌}
+use Rattle.retro_undo.proofs.Found.{request_named, never_start}
 use Rattle.retro_undo.proofs.walk.below_all.Goals as goal
 
 pub unreachable-requires : goal.unreachable-requires

@@ -1,10 +1,8 @@
-use Rattle.std.proofs.Common.{◌≡◌, ℕ, ◌+◌, ◌<◌, ◌≤◌, List, Some, sym, ap, ◌∙◌, arith}
+use Rattle.std.proofs.Common.{List, sym, ap, ◌∙◌, arith}
 use Rattle.element_name.specs.Name.{Name}
-use Rattle.coop_request.specs.Request.{Request}
 use Rattle.request_state.specs.declared.kept.Kept.{Kept}
-use Rattle.request_state.specs.Table.{kept_of}
-use Rattle.retro_undo.specs.Undo.{have_elements, is_denied}
-use Rattle.retro_undo.specs.Part.{is_in, is_above, is_named, states_after_in, undone_in, next_of}
+use Rattle.retro_undo.specs.Undo.{have_elements}
+use Rattle.retro_undo.specs.Part.{is_in, is_above, is_named, states_after_in, undone_in}
 use Rattle.retro_undo.proofs.Parts.{few_undone, elements_after}
 use Rattle.retro_undo.proofs.Steps.{one_if, next_kept, kept_element, states_at_start, undone_at_start, states_at_end, undone_at_end, walk_smaller, walk_states, walk_count}
 use Rattle.retro_undo.proofs.walk.sweep_line.Goals as goal
@@ -15,11 +13,11 @@ loop-request-init g c =
     let p = c.args.policy.now in
     record {
       states = states_at_start names p c.args.version c.args.states.now c.args.line c.below_all-above.ensures.absent
-        ∙ sym (ap (λ (n : Name). states_after_in (is_above c.args.line n) names p c.args.version c.args.states.now) c.below_all-above.ensures.value);
+          ∙ sym (ap (λ (n : Name). states_after_in (is_above c.args.line n) names p c.args.version c.args.states.now) c.below_all-above.ensures.value);
       count =
-        let all = undone_at_start names p c.args.version c.args.states.now c.args.line c.below_all-above.ensures.absent in
-        let same = ap (λ (n : Name). undone_in (is_above c.args.line n) names p c.args.states.now) c.below_all-above.ensures.value in
-        omega (arith, all, same);
+          let all = undone_at_start names p c.args.version c.args.states.now c.args.line c.below_all-above.ensures.absent in
+          let same = ap (λ (n : Name). undone_in (is_above c.args.line n) names p c.args.states.now) c.below_all-above.ensures.value in
+          omega (arith, all, same);
       cells = λ requests shown. shown;
       elements = c.requires.elements;
     }
@@ -43,7 +41,7 @@ overflow_add-count g c =
     let few = few_undone names p c.args.version (is_in c.args.line) c.args.states.now in
     let denied = sym c.judge.ensures.undone ∙ c.if-judge.true in
     let step = walk_count names p c.args.version c.args.line c.loop-request.above c.id-above.result c.in-Some.request c.loop-request.states c.judge.new.states
-        c.next.ensures.in_order (sym c.next.ensures.found ∙ c.in-Some.is) c.id-above.ensures.value c.judge.ensures.states in
+    c.next.ensures.in_order (sym c.next.ensures.found ∙ c.in-Some.is) c.id-above.ensures.value c.judge.ensures.states in
     let one = ap one_if denied in
     omega (arith, few, step, one, c.loop-request.invariant.count, c.requires.few)
 
@@ -63,16 +61,16 @@ loop-request-preserved-then-judge g c =
     let p = c.args.policy.now in
     let found = sym c.next.ensures.found ∙ c.in-Some.is in
     let step = walk_count names p c.args.version c.args.line c.loop-request.above c.id-above.result c.in-Some.request c.loop-request.states c.judge.new.states
-        c.next.ensures.in_order found c.id-above.ensures.value c.judge.ensures.states in
+    c.next.ensures.in_order found c.id-above.ensures.value c.judge.ensures.states in
     let one = ap one_if (sym c.judge.ensures.undone ∙ c.if-judge.true) in
     record {
       states = c.loop-request.invariant.states
-        ∙ walk_states names p c.args.version c.args.line c.loop-request.above c.id-above.result c.in-Some.request c.loop-request.states c.judge.new.states
+          ∙ walk_states names p c.args.version c.args.line c.loop-request.above c.id-above.result c.in-Some.request c.loop-request.states c.judge.new.states
           c.next.ensures.in_order found c.id-above.ensures.value c.judge.ensures.states;
       count = omega (arith, step, one, c.loop-request.invariant.count);
       cells = λ requests shown. c.judge.ensures.cells requests (c.loop-request.invariant.cells requests shown);
       elements = ap (λ (t : List Kept). have_elements names t) c.judge.ensures.states
-        ∙ elements_after names p c.args.version (is_named c.in-Some.request.id) c.loop-request.states ∙ c.loop-request.invariant.elements;
+          ∙ elements_after names p c.args.version (is_named c.in-Some.request.id) c.loop-request.states ∙ c.loop-request.invariant.elements;
     }
 
 pub loop-request-preserved : goal.loop-request-preserved
@@ -81,22 +79,22 @@ loop-request-preserved g c =
     let p = c.args.policy.now in
     let found = sym c.next.ensures.found ∙ c.in-Some.is in
     let step = walk_count names p c.args.version c.args.line c.loop-request.above c.id-above.result c.in-Some.request c.loop-request.states c.judge.new.states
-        c.next.ensures.in_order found c.id-above.ensures.value c.judge.ensures.states in
+    c.next.ensures.in_order found c.id-above.ensures.value c.judge.ensures.states in
     let none = ap one_if (sym c.judge.ensures.undone ∙ c.if-judge.false) in
     record {
       states = c.loop-request.invariant.states
-        ∙ walk_states names p c.args.version c.args.line c.loop-request.above c.id-above.result c.in-Some.request c.loop-request.states c.judge.new.states
+          ∙ walk_states names p c.args.version c.args.line c.loop-request.above c.id-above.result c.in-Some.request c.loop-request.states c.judge.new.states
           c.next.ensures.in_order found c.id-above.ensures.value c.judge.ensures.states;
       count = omega (arith, step, none, c.loop-request.invariant.count);
       cells = λ requests shown. c.judge.ensures.cells requests (c.loop-request.invariant.cells requests shown);
       elements = ap (λ (t : List Kept). have_elements names t) c.judge.ensures.states
-        ∙ elements_after names p c.args.version (is_named c.in-Some.request.id) c.loop-request.states ∙ c.loop-request.invariant.elements;
+          ∙ elements_after names p c.args.version (is_named c.in-Some.request.id) c.loop-request.states ∙ c.loop-request.invariant.elements;
     }
 
 pub returns-clause-states : goal.returns-clause-states
 returns-clause-states g c =
     sym (c.loop-request.invariant.states
-      ∙ states_at_end (g.P.Places.names c.args.places.now) c.args.policy.now c.args.version c.loop-request.states c.args.line c.loop-request.above (sym c.next.ensures.found ∙ c.in_default.is))
+    ∙ states_at_end (g.P.Places.names c.args.places.now) c.args.policy.now c.args.version c.loop-request.states c.args.line c.loop-request.above (sym c.next.ensures.found ∙ c.in_default.is))
 
 pub returns-clause-count : goal.returns-clause-count
 returns-clause-count g c =
