@@ -1,20 +1,18 @@
 -- Items in ascending order of name, as the entries of a map from names.
-use Rattle.std.proofs.Common.{◌≡◌, ℕ, Bool, true, false, ◌&&◌, ◌||◌, not, List, [], ◌∷◌, map, Some, None, IsSome, refl, sym, ◌∙◌, ap, subst, arith, if◌then◌else◌}
-use Rattle.std.specs.Prelude.{find, filter, Contains, is_some}
+use Rattle.std.proofs.Common.{◌≡◌, Bool, true, false, not, List, [], ◌∷◌, map, Some, None, refl, sym, ◌∙◌, ap, subst, if◌then◌else◌}
 use Rattle.std.specs.declared.option.Option.{Option}
 use Rattle.std.specs.declared.cmp.Ordering.{Ordering}
 use Rattle.std.specs.declared.cmp.Ordering.TheVariants.{Less, Equal, Greater}
 use Rattle.std.specs.Ordering.{is_eq, is_lt, match_ordering}
 use Rattle.std.specs.Option.{option_map}
-use Rattle.std.specs.List.{list_any, AllByRecursion}
+use Rattle.std.specs.List.{AllByRecursion}
 use Rattle.std.specs.List.Sorted.{IsStrictlySortedBy}
-use Rattle.std.specs.Map.{keys_of, values_of, lookup, remove_entry, set_value}
+use Rattle.std.specs.Map.{keys_of, lookup, remove_entry}
 use Rattle.std.specs.BTreeMap.{is_at, insert_entry}
-use Rattle.std.proofs.lemmas.Bool.Decides.{nat_tests}
 use Rattle.std.proofs.lemmas.Map.Keys.{sorted_head, sorted_tail}
 use Rattle.element_name.specs.Name.{Name, name_eq, name_lt}
 use Rattle.element_name.specs.Named.{name_cmp, is_ascending, item_named, without_named, put_named}
-use Rattle.element_name.proofs.NameOrder.{name_cmp_total, is_eq-name_cmp, is_lt-name_cmp, name_eq-comm, name_eq-refl, same_name, name_lt-apart, name_lt-asym, name_lt-trans, name_gt}
+use Rattle.element_name.proofs.NameOrder.{is_eq-name_cmp, is_lt-name_cmp, name_eq-comm, name_eq-refl, same_name, name_lt-apart, name_lt-asym, name_lt-trans, name_gt}
 
 -- the three ways in which two names compare
 pub data Compared (a b : Name) : Ordering → Type 0 where
