@@ -1,31 +1,24 @@
 -- Logs with one more entry.
-use Rattle.std.proofs.Common.{◌≡◌, ℕ, ◌+◌, ◌<◌, ◌≤◌, take, drop, get_or, take-append-drop, Bool, true, false, not, cond, List, [], ◌∷◌, ◌++◌, None, Some, length, refl, sym, ap, subst, ◌∙◌, arith, length-append, ◌⊎◌, inl, inr}
+use Rattle.std.proofs.Common.{◌≡◌, ℕ, ◌+◌, ◌<◌, ◌≤◌, take, drop, get_or, take-append-drop, true, false, not, cond, List, [], ◌∷◌, ◌++◌, None, Some, length, refl, sym, ap, subst, ◌∙◌, arith}
 use Rattle.std.specs.Prelude.{nat_eq, fold, find, count_by, option_map}
-use Rattle.std.specs.declared.option.Option.{Option}
 use Rattle.std.specs.Option.{option_or}
 use Rattle.std.proofs.lemmas.List.{take_more}
 use Rattle.std.proofs.lemmas.List.Folds.{find-append}
 use Rattle.std.proofs.lemmas.List.Sums.{sum_by-cons}
 use Rattle.std.proofs.lemmas.Bool.Decides.{nat_tests}
-use Rattle.element_name.specs.Cases.{when, first_of}
+use Rattle.element_name.specs.Cases.{when}
 use Rattle.element_name.specs.Growing.{EachFrom}
-use Rattle.element_name.proofs.CaseLemmas.{when-None, first_of-None}
+use Rattle.element_name.proofs.CaseLemmas.{when-None, first_of-None, option_or-None, option_map-None}
 use Rattle.element_name.proofs.EachAfterLemmas.{EachAfter-front, EachAfter-last}
 use Rattle.element_name.proofs.NameOrder.{same_name}
-use Rattle.element_name.specs.Name.{Name, name_eq}
+use Rattle.element_name.specs.Name.{Name}
 use Rattle.policy_book.specs.declared.op.AdminOp.{AdminOp}
 use Rattle.policy_book.specs.declared.op.AdminOp.TheVariants.{AddUser, DelUser, AddObj, DelObj, AddGroup, DelGroup, AddMember, DelMember, AddAuth, DelAuth, Validate}
-use Rattle.policy_book.specs.declared.fault.EntryFault.{EntryFault}
 use Rattle.policy_book.specs.declared.fault.EntryFault.TheVariants.{ValidatedAt}
 use Rattle.policy_book.specs.Entry.{Entry}
 use Rattle.policy_book.specs.Policy.{Policy, first_policy, policy_after, policy_fault}
-use Rattle.admin_log.specs.declared.log.LogFault.{LogFault}
 use Rattle.admin_log.specs.declared.log.LogFault.TheVariants.{NotNext, Illegal}
 use Rattle.admin_log.specs.Log.{policy_of, validates, validated_at, entry_fault, push_fault, FollowsLog, IsLog}
-
-mapped_none : {A B : Type 0} (f : A → B) (x : Option A) → option_map f x ≡ None → x ≡ None
-mapped_none f None e = refl
-mapped_none f (Some x) e = absurd (cc)
 
 same_number : (a b : ℕ) → not (nat_eq a b) ≡ false → a ≡ b
 same_number a b h = grind (arith, nat_tests)
@@ -37,7 +30,7 @@ follows_pushed log e h =
     let last = first_of-None (option_map Illegal (entry_fault log e.op)) [] rows.1 in
     record {
       numbered = same_number e.version (length log + 1) (when-None (not (nat_eq e.version (length log + 1))) (NotNext (length log + 1)) rows.0);
-      legal = mapped_none Illegal (entry_fault log e.op) last.0;
+      legal = option_map-None Illegal (entry_fault log e.op) last.0;
     }
 
 fold_push : (log : List Entry) (p : Policy) (e : Entry) → fold (λ q d. policy_after q d.version d.op) p (log ++ e ∷ []) ≡ policy_after (fold (λ q d. policy_after q d.version d.op) p log) e.version e.op
@@ -51,7 +44,7 @@ policy_push log e = fold_push log first_policy e
 -- a legal validation is the first of its name
 pub first_validation : (log : List Entry) (n : Name) (op : AdminOp) → entry_fault log op ≡ None → validates n op ≡ true → validated_at log n ≡ None
 first_validation log n (Validate request) legal same =
-    ap (validated_at log) (same_name n request same) ∙ mapped_none ValidatedAt (validated_at log request) legal
+    ap (validated_at log) (same_name n request same) ∙ option_map-None ValidatedAt (validated_at log request) legal
 first_validation log n (AddUser u) legal same = absurd (cc)
 first_validation log n (DelUser u) legal same = absurd (cc)
 first_validation log n (AddObj o x) legal same = absurd (cc)
@@ -63,10 +56,6 @@ first_validation log n (DelMember g u) legal same = absurd (cc)
 first_validation log n (AddAuth i a) legal same = absurd (cc)
 first_validation log n (DelAuth i) legal same = absurd (cc)
 
-or_none : {A : Type 0} (x : Option A) → option_or x None ≡ x
-or_none None = refl
-or_none (Some x) = refl
-
 validated_or : (log : List Entry) (e : Entry) (n : Name) → validated_at (log ++ e ∷ []) n ≡ option_map (λ d. d.version) (option_or (find (λ d. validates n d.op) log) (cond (validates n e.op) (Some e) None))
 validated_or log e n = ap (option_map (λ d. d.version)) (find-append (λ d. validates n d.op) log (e ∷ []))
 
@@ -76,11 +65,11 @@ validated_push log e n follows = elim (validates n e.op) as (λ b. validates n e
   | true ↦ λ same.
       validated_or log e n
       ∙ ap (λ b. option_map (λ d. d.version) (option_or (find (λ d. validates n d.op) log) (cond b (Some e) None))) same
-      ∙ ap (λ x. option_map (λ d. d.version) (option_or x (Some e))) (mapped_none (λ d. d.version) (find (λ d. validates n d.op) log) (first_validation log n e.op follows.legal same))
+      ∙ ap (λ x. option_map (λ d. d.version) (option_or x (Some e))) (option_map-None (λ d. d.version) (find (λ d. validates n d.op) log) (first_validation log n e.op follows.legal same))
   | false ↦ λ other.
       validated_or log e n
       ∙ ap (λ b. option_map (λ d. d.version) (option_or (find (λ d. validates n d.op) log) (cond b (Some e) None))) other
-      ∙ ap (option_map (λ d. d.version)) (or_none (find (λ d. validates n d.op) log))
+      ∙ ap (option_map (λ d. d.version)) (option_or-None (find (λ d. validates n d.op) log))
 ] refl
 
 -- ---- a name is validated at most once

@@ -1,5 +1,5 @@
 -- A history's inserts are a tree.
-use Rattle.std.proofs.Common.{◌≡◌, ℕ, ◌<◌, Bool, true, false, ◌||◌, List, [], ◌∷◌, ◌++◌, None, refl, subst, ◌∙◌, arith}
+use Rattle.std.proofs.Common.{◌≡◌, ℕ, ◌<◌, false, List, [], ◌∷◌, ◌++◌, None, refl, subst, ◌∙◌, arith}
 use Rattle.std.specs.Prelude.{nat_le, nat_lt}
 use Rattle.std.specs.List.{list_any}
 use Rattle.std.proofs.lemmas.List.{append-nil}
@@ -9,10 +9,12 @@ use Rattle.element_name.proofs.CaseLemmas.{when-None, first_of-None}
 use Rattle.element_name.specs.Cases.{when}
 use Rattle.element_name.specs.declared.limits.TheConstants.{MAX_VERSION}
 use Rattle.std.specs.declared.option.Option.{Option}
+use Rattle.std.proofs.lemmas.Bool.{or_parts}
 use Rattle.coop_request.specs.declared.request.RequestFault.{RequestFault}
 use Rattle.coop_request.specs.declared.request.RequestFault.TheVariants.{BadVersion, StampOrder}
 use Rattle.element_name.specs.Name.{Name, name_eq, has_name}
 use Rattle.element_name.specs.Tree.{Placed, FollowsTree, IsTree}
+use Rattle.element_name.proofs.NameOrder.{name_eq-comm}
 use Rattle.element_name.specs.Growing.{EachFrom}
 use Rattle.coop_request.specs.declared.edit.Edit.{Edit}
 use Rattle.coop_request.specs.declared.edit.Edit.TheVariants.{Insert, Delete, Update}
@@ -20,17 +22,10 @@ use Rattle.coop_request.specs.Edit.{placed_by}
 use Rattle.coop_request.specs.Request.{Request, request_fault}
 use Rattle.coop_request.specs.History.{placed_of, elements_of, FollowsHistory, IsHistory}
 
-neither : (a b : Bool) → (a || b) ≡ false → (a ≡ false) × (b ≡ false)
-neither true b e = absurd (cc)
-neither false b e = (refl, e)
-
-name_eq-comm : (a b : Name) → name_eq a b ≡ false → name_eq b a ≡ false
-name_eq-comm a b h = grind (arith, nat_tests)
-
 -- of the request in front, which has another name
 new_element_before : (id n : Name) (version : ℕ) (edit : Edit) (requests : List Request) → name_eq id n ≡ false → has_name (elements_of requests) n ≡ false
     → has_name (elements_of (record { id = id; version = version; edit = edit } ∷ requests)) n ≡ false
-new_element_before id n version (Insert after letter) requests other rest = rw (name_eq-comm id n other) rest
+new_element_before id n version (Insert after letter) requests other rest = rw (name_eq-comm n id ∙ other) rest
 new_element_before id n version (Delete target) requests other rest = rest
 new_element_before id n version (Update target letter) requests other rest = rest
 
@@ -38,7 +33,7 @@ new_element_before id n version (Update target letter) requests other rest = res
 pub new_element : (requests : List Request) (n : Name) → list_any (λ r. name_eq r.id n) requests ≡ false → has_name (elements_of requests) n ≡ false
 new_element [] n h = refl
 new_element (q ∷ requests) n h =
-    let both = neither (name_eq q.id n) (list_any (λ r. name_eq r.id n) requests) h in
+    let both = or_parts (name_eq q.id n) (list_any (λ r. name_eq r.id n) requests) h in
     new_element_before q.id n q.version q.edit requests both.0 (new_element requests n both.1)
 
 -- an accepted insert has a greater stamp than its anchor

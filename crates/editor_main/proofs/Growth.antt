@@ -8,10 +8,13 @@ use Rattle.std.proofs.lemmas.List.{reverse-append, map-append}
 use Rattle.std.proofs.lemmas.List.Folds.{list_any-append, find-append}
 use Rattle.std.proofs.lemmas.List.Elements.{filter_map-append}
 use Rattle.std.proofs.lemmas.Bool.Decides.{nat_tests}
+use Rattle.std.proofs.lemmas.Bool.{or_parts, or_right}
 use Rattle.element_name.specs.Cases.{◌>>=◌}
 use Rattle.element_name.specs.Name.{Name, start, name_eq, has_name}
 use Rattle.element_name.specs.Places.{is_anchor}
 use Rattle.element_name.specs.Tree.{Placed, put_before, before_in, order_in, names_of}
+use Rattle.element_name.proofs.CaseLemmas.{option_or-None}
+use Rattle.element_name.proofs.NameOrder.{name_eq-refl, same_name}
 use Rattle.coop_request.specs.declared.edit.Edit.{Edit}
 use Rattle.coop_request.specs.declared.edit.Edit.TheVariants.{Insert, Delete, Update}
 use Rattle.coop_request.specs.Edit.{piece_in, anchor_or_target}
@@ -21,20 +24,6 @@ use Rattle.editor_main.specs.World.{piece_of, greatest_stamp, element_before}
 
 -- ---- names in lists
 
-neither : (a b : Bool) → (a || b) ≡ false → (a ≡ false) × (b ≡ false)
-neither true b e = absurd (cc)
-neither false b e = (refl, e)
-
-name_eq_refl : (n : Name) → name_eq n n ≡ true
-name_eq_refl n = grind (arith, nat_tests)
-
-name_eq-true : (a b : Name) → name_eq a b ≡ true → a.stamp ≡ b.stamp
-name_eq-true a b h = grind (arith, nat_tests)
-
-pub or_right : (a b : Bool) → b ≡ true → (a || b) ≡ true
-or_right true b e = refl
-or_right false b e = e
-
 or_cases : (a b : Bool) → (a || b) ≡ true → (a ≡ true) ⊎ (b ≡ true)
 or_cases true b e = inl refl
 or_cases false b e = inr e
@@ -42,7 +31,7 @@ or_cases false b e = inr e
 -- what stands at a place is in the list
 pub has_got : (names : List Name) (i : ℕ) (n : Name) → slice_get names i ≡ Some n → has_name names n ≡ true
 has_got [] i n e = absurd (cc)
-has_got (m ∷ names) zero n e = let same : m ≡ n = cc in rw (same, name_eq_refl n) refl
+has_got (m ∷ names) zero n e = let same : m ≡ n = cc in rw (same, name_eq-refl n) refl
 has_got (m ∷ names) (suc i) n e = or_right (name_eq n m) (has_name names n) (has_got names i n e)
 
 swap_or : (a b c : Bool) → (a || (b || c)) ≡ (b || (a || c))
@@ -94,7 +83,7 @@ has_text_order requests n = has_order_in (reverse (placed_of requests)) n ∙ ha
 above_first : (n : Name) (id after : Name) (letter : List ℕ) (version : ℕ) (requests : List Request) → (has_name (elements_of requests) n ≡ true → n.stamp ≤ greatest_stamp requests)
     → (edit : Edit) → has_name (elements_of (record { id = id; version = version; edit = edit } ∷ requests)) n ≡ true → n.stamp ≤ max id.stamp (greatest_stamp requests)
 above_first n id after letter version requests rest (Insert a l) h = elim (or_cases (name_eq n id) (has_name (elements_of requests) n) h) [
-  | inl e ↦ let same = name_eq-true n id e in grind arith
+  | inl e ↦ let same = ap (λ (m : Name). m.stamp) (same_name n id e) in grind arith
   | inr e ↦ let low = rest e in grind arith
 ]
 above_first n id after letter version requests rest (Delete target) h = let low = rest h in grind arith
@@ -160,7 +149,7 @@ follows_old requests q accepted lt anchored = record {
 -- a name that isn't in a list isn't in its parts
 has_parts : (names : List Name) (k : ℕ) (n : Name) → has_name names n ≡ false → (has_name (take k names) n ≡ false) × (has_name (drop k names) n ≡ false)
 has_parts names k n h =
-    neither (has_name (take k names) n) (has_name (drop k names) n)
+    or_parts (has_name (take k names) n) (has_name (drop k names) n)
     (sym (list_any-append (name_eq n) (take k names) (drop k names)) ∙ ap (λ l. has_name l n) (take-append-drop k names) ∙ h)
 
 -- two readings of pieces that agree but on one name are one on a list without it
@@ -168,7 +157,7 @@ same_pieces : (f g : Name → Option (List ℕ)) (n : Name) → ((e : Name) → 
     → filter_map f names ≡ filter_map g names
 same_pieces f g n agree [] h = refl
 same_pieces f g n agree (e ∷ names) h =
-    let other = neither (name_eq n e) (has_name names n) h in
+    let other = or_parts (name_eq n e) (has_name names n) h in
     ap (λ x. cons_option x (filter_map f names)) (agree e other.0) ∙ ap (cons_option (g e)) (same_pieces f g n agree names other.1)
 
 no_more_after : (x : Option (List ℕ)) (pieces : List (List ℕ)) (m : ℕ) → length pieces ≤ m → length (cons_option x pieces) ≤ suc m
@@ -214,19 +203,15 @@ module _ (g : Name → Option (List ℕ)) where
 
 -- ---- what is kept, with one more insert
 
-or_none : {A : Type 0} (x : Option A) → option_or x None ≡ x
-or_none None = refl
-or_none (Some x) = refl
-
 -- old elements keep their pieces
 pub old_piece : (requests : List Request) (q : Request) (e : Name) → name_eq q.id e ≡ false → piece_of (requests ++ q ∷ []) e ≡ piece_of requests e
 old_piece requests q e other =
     ap (λ r. r >>= λ p. piece_in p.edit)
-    (find-append (λ r. name_eq r.id e) requests (q ∷ []) ∙ ap (λ b. option_or (request_of requests e) (cond b (Some q) None)) other ∙ or_none (request_of requests e))
+    (find-append (λ r. name_eq r.id e) requests (q ∷ []) ∙ ap (λ b. option_or (request_of requests e) (cond b (Some q) None)) other ∙ option_or-None (request_of requests e))
 
 none_found : (test : Request → Bool) (requests : List Request) → list_any test requests ≡ false → find test requests ≡ None
 none_found test [] h = refl
-none_found test (r ∷ requests) h = let other = neither (test r) (list_any test requests) h in rw other.0 (none_found test requests other.1)
+none_found test (r ∷ requests) h = let other = or_parts (test r) (list_any test requests) h in rw other.0 (none_found test requests other.1)
 
 -- the new element has its own
 pub new_piece : (requests : List Request) (q : Request) → list_any (λ r. name_eq r.id q.id) requests ≡ false → piece_of (requests ++ q ∷ []) q.id ≡ piece_in q.edit
@@ -234,4 +219,4 @@ new_piece requests q new =
     ap (λ r. r >>= λ p. piece_in p.edit)
     (find-append (λ r. name_eq r.id q.id) requests (q ∷ [])
     ∙ ap (λ r. option_or r (cond (name_eq q.id q.id) (Some q) None)) (none_found (λ r. name_eq r.id q.id) requests new)
-    ∙ ap (λ b. option_or None (cond b (Some q) None)) (name_eq_refl q.id))
+    ∙ ap (λ b. option_or None (cond b (Some q) None)) (name_eq-refl q.id))

@@ -1,22 +1,12 @@
 -- Lists in ascending order of their numbers, after a change.
-use Rattle.std.proofs.Common.{◌≡◌, ℕ, ◌+◌, ◌≤◌, Bool, true, false, not, ◌&&◌, ◌||◌, List, [], ◌∷◌, ◌++◌, length, map, refl, ap, arith, eqb}
+use Rattle.std.proofs.Common.{◌≡◌, ℕ, ◌+◌, ◌≤◌, Bool, true, false, not, List, [], ◌∷◌, ◌++◌, length, map, refl, ap, arith, eqb}
 use Rattle.std.specs.Prelude.{nat_le, nat_lt, insert, take_while, filter}
 use Rattle.std.specs.List.{list_all}
 use Rattle.std.proofs.lemmas.Bool.Decides.{nat_tests}
 use Rattle.std.proofs.lemmas.List.Sums.{take_while-cons}
+use Rattle.std.proofs.lemmas.Bool.{and_parts, or_parts, and_from}
 use Rattle.element_name.specs.Numbered.{is_rising, put_by, without}
 use Rattle.policy_book.specs.Lists.{has_number}
-
-pub both_true : (a b : Bool) → (a && b) ≡ true → (a ≡ true) × (b ≡ true)
-both_true true b e = (refl, e)
-both_true false b e = absurd (cc)
-
-pub both_are : (a b : Bool) → a ≡ true → b ≡ true → (a && b) ≡ true
-both_are a b h k = rw (h, k) refl
-
-pub neither : (a b : Bool) → (a || b) ≡ false → (a ≡ false) × (b ≡ false)
-neither true b e = absurd (cc)
-neither false b e = (refl, e)
 
 -- ---- tests of each item
 
@@ -24,31 +14,31 @@ module _ {X : Type 0} where
   pub all_weaker : (p q : X → Bool) → ((x : X) → p x ≡ true → q x ≡ true) → (xs : List X) → list_all p xs ≡ true → list_all q xs ≡ true
   all_weaker p q weaker [] h = refl
   all_weaker p q weaker (x ∷ xs) h =
-      let b = both_true (p x) (list_all p xs) h in both_are (q x) (list_all q xs) (weaker x b.0) (all_weaker p q weaker xs b.1)
+      let b = and_parts (p x) (list_all p xs) h in and_from (q x) (list_all q xs) (weaker x b.0) (all_weaker p q weaker xs b.1)
 
   pub all_append : (p : X → Bool) (xs ys : List X) → list_all p xs ≡ true → list_all p ys ≡ true → list_all p (xs ++ ys) ≡ true
   all_append p [] ys h k = k
   all_append p (x ∷ xs) ys h k =
-      let b = both_true (p x) (list_all p xs) h in both_are (p x) (list_all p (xs ++ ys)) b.0 (all_append p xs ys b.1 k)
+      let b = and_parts (p x) (list_all p xs) h in and_from (p x) (list_all p (xs ++ ys)) b.0 (all_append p xs ys b.1 k)
 
   pub all_front : (p : X → Bool) (xs ys : List X) → list_all p (xs ++ ys) ≡ true → list_all p xs ≡ true
   all_front p [] ys h = refl
   all_front p (x ∷ xs) ys h =
-      let b = both_true (p x) (list_all p (xs ++ ys)) h in both_are (p x) (list_all p xs) b.0 (all_front p xs ys b.1)
+      let b = and_parts (p x) (list_all p (xs ++ ys)) h in and_from (p x) (list_all p xs) b.0 (all_front p xs ys b.1)
 
   pub all_back : (p : X → Bool) (xs ys : List X) → list_all p (xs ++ ys) ≡ true → list_all p ys ≡ true
   all_back p [] ys h = h
-  all_back p (x ∷ xs) ys h = let b = both_true (p x) (list_all p (xs ++ ys)) h in all_back p xs ys b.1
+  all_back p (x ∷ xs) ys h = let b = and_parts (p x) (list_all p (xs ++ ys)) h in all_back p xs ys b.1
 
   all_filter_step : (p q : X → Bool) (x : X) (xs : List X) (b : Bool) → q x ≡ b → list_all p (x ∷ xs) ≡ true → list_all p (filter q xs) ≡ true
       → list_all p (filter q (x ∷ xs)) ≡ true
-  all_filter_step p q x xs true e h k = let c = both_true (p x) (list_all p xs) h in rw e (both_are (p x) (list_all p (filter q xs)) c.0 k)
+  all_filter_step p q x xs true e h k = let c = and_parts (p x) (list_all p xs) h in rw e (and_from (p x) (list_all p (filter q xs)) c.0 k)
   all_filter_step p q x xs false e h k = rw e k
 
   pub all_filter : (p q : X → Bool) (xs : List X) → list_all p xs ≡ true → list_all p (filter q xs) ≡ true
   all_filter p q [] h = refl
   all_filter p q (x ∷ xs) h =
-      let b = both_true (p x) (list_all p xs) h in all_filter_step p q x xs (q x) refl h (all_filter p q xs b.1)
+      let b = and_parts (p x) (list_all p xs) h in all_filter_step p q x xs (q x) refl h (all_filter p q xs b.1)
 
   length_filter_step : (q : X → Bool) (x : X) (xs : List X) (b : Bool) → q x ≡ b → length (filter q xs) ≤ length xs
       → length (filter q (x ∷ xs)) ≤ length (x ∷ xs)
@@ -64,18 +54,18 @@ module _ {X : Type 0} where
 pub rising_above : (x : ℕ) (xs : List ℕ) → is_rising nat_lt (x ∷ xs) ≡ true → list_all (nat_lt x) xs ≡ true
 rising_above x [] h = refl
 rising_above x (y ∷ ys) h =
-    let b = both_true (nat_lt x y) (is_rising nat_lt (y ∷ ys)) h in
-    both_are (nat_lt x y) (list_all (nat_lt x) ys) b.0
+    let b = and_parts (nat_lt x y) (is_rising nat_lt (y ∷ ys)) h in
+    and_from (nat_lt x y) (list_all (nat_lt x) ys) b.0
     (all_weaker (nat_lt y) (nat_lt x) (λ z k. grind (arith, nat_tests, b.0, k)) ys (rising_above y ys b.1))
 
 pub rising_rest : (x : ℕ) (xs : List ℕ) → is_rising nat_lt (x ∷ xs) ≡ true → is_rising nat_lt xs ≡ true
 rising_rest x [] h = refl
-rising_rest x (y ∷ ys) h = (both_true (nat_lt x y) (is_rising nat_lt (y ∷ ys)) h).1
+rising_rest x (y ∷ ys) h = (and_parts (nat_lt x y) (is_rising nat_lt (y ∷ ys)) h).1
 
 pub rising_cons : (x : ℕ) (xs : List ℕ) → list_all (nat_lt x) xs ≡ true → is_rising nat_lt xs ≡ true → is_rising nat_lt (x ∷ xs) ≡ true
 rising_cons x [] h k = refl
 rising_cons x (y ∷ ys) h k =
-    let b = both_true (nat_lt x y) (list_all (nat_lt x) ys) h in both_are (nat_lt x y) (is_rising nat_lt (y ∷ ys)) b.0 k
+    let b = and_parts (nat_lt x y) (list_all (nat_lt x) ys) h in and_from (nat_lt x y) (is_rising nat_lt (y ∷ ys)) b.0 k
 
 rising_filter_step : (q : ℕ → Bool) (x : ℕ) (xs : List ℕ) (b : Bool) → q x ≡ b → is_rising nat_lt (x ∷ xs) ≡ true
     → is_rising nat_lt (filter q xs) ≡ true → is_rising nat_lt (filter q (x ∷ xs)) ≡ true
@@ -119,14 +109,14 @@ module _ {X : Type 0} (number : X → ℕ) where
 
   all_put_step : (p : X → Bool) (x y : X) (ys : List X) (b : Bool) → nat_lt (number x) (number y) ≡ b → p x ≡ true → list_all p (y ∷ ys) ≡ true
       → list_all p (put_by number x ys) ≡ true → list_all p (put_by number x (y ∷ ys)) ≡ true
-  all_put_step p x y ys true e px h k = rw e (both_are (p x) (list_all p (y ∷ ys)) px h)
+  all_put_step p x y ys true e px h k = rw e (and_from (p x) (list_all p (y ∷ ys)) px h)
   all_put_step p x y ys false e px h k =
-      let b = both_true (p y) (list_all p ys) h in rw e (both_are (p y) (list_all p (put_by number x ys)) b.0 k)
+      let b = and_parts (p y) (list_all p ys) h in rw e (and_from (p y) (list_all p (put_by number x ys)) b.0 k)
 
   pub all_put_by : (p : X → Bool) (x : X) (xs : List X) → p x ≡ true → list_all p xs ≡ true → list_all p (put_by number x xs) ≡ true
-  all_put_by p x [] px h = both_are (p x) true px refl
+  all_put_by p x [] px h = and_from (p x) true px refl
   all_put_by p x (y ∷ ys) px h =
-      all_put_step p x y ys (nat_lt (number x) (number y)) refl px h (all_put_by p x ys px (both_true (p y) (list_all p ys) h).1)
+      all_put_step p x y ys (nat_lt (number x) (number y)) refl px h (all_put_by p x ys px (and_parts (p y) (list_all p ys) h).1)
 
   map_put_step : (x y : X) (ys : List X) (b : Bool) → nat_lt (number x) (number y) ≡ b
       → map number (put_by number x ys) ≡ put_by (λ n. n) (number x) (map number ys)
@@ -150,7 +140,7 @@ module _ {X : Type 0} (number : X → ℕ) where
 
 rising_put_step : (n y : ℕ) (ys : List ℕ) (b : Bool) → nat_lt n y ≡ b → eqb y n ≡ false → is_rising nat_lt (y ∷ ys) ≡ true
     → is_rising nat_lt (put_by (λ m. m) n ys) ≡ true → is_rising nat_lt (put_by (λ m. m) n (y ∷ ys)) ≡ true
-rising_put_step n y ys true e ne h k = rw e (both_are (nat_lt n y) (is_rising nat_lt (y ∷ ys)) e h)
+rising_put_step n y ys true e ne h k = rw e (and_from (nat_lt n y) (is_rising nat_lt (y ∷ ys)) e h)
 rising_put_step n y ys false e ne h k =
     let lt : nat_lt y n ≡ true = grind (arith, nat_tests, e, ne) in
     rw e (rising_cons y (put_by (λ m. m) n ys) (all_put_by (λ m. m) (nat_lt y) n ys lt (rising_above y ys h)) k)
@@ -159,5 +149,5 @@ rising_put_step n y ys false e ne h k =
 pub rising_put_by : (n : ℕ) (xs : List ℕ) → has_number xs n ≡ false → is_rising nat_lt xs ≡ true → is_rising nat_lt (put_by (λ m. m) n xs) ≡ true
 rising_put_by n [] new h = refl
 rising_put_by n (y ∷ ys) new h =
-    let b = neither (eqb y n) (has_number ys n) new in
+    let b = or_parts (eqb y n) (has_number ys n) new in
     rising_put_step n y ys (nat_lt n y) refl b.0 h (rising_put_by n ys b.1 (rising_rest y ys h))

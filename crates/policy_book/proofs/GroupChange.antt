@@ -5,18 +5,19 @@ use Rattle.std.specs.Prelude.{nat_lt, position}
 use Rattle.std.specs.List.{list_all, prefix_len}
 use Rattle.std.proofs.lemmas.Bool.Decides.{nat_tests}
 use Rattle.std.proofs.lemmas.List.Quantifiers.{position-Some}
+use Rattle.std.proofs.lemmas.Bool.{and_parts}
 use Rattle.element_name.proofs.CaseLemmas.{when-None}
 use Rattle.element_name.specs.Numbered.{is_rising}
 use Rattle.policy_book.specs.declared.parts.Group.{Group}
 use Rattle.policy_book.specs.Policy.{with_members}
-use Rattle.policy_book.proofs.Ascending.{both_true, rising_above, rising_rest}
+use Rattle.policy_book.proofs.Ascending.{rising_above, rising_rest}
 
 -- a group of another number stays
 pub others_stay : (n : ℕ) (f : List ℕ → List ℕ) (gs : List Group) → list_all (nat_lt n) (map (λ g. g.number) gs) ≡ true
     → map (with_members n f) gs ≡ gs
 others_stay n f [] h = refl
 others_stay n f (g ∷ gs) h =
-    let b = both_true (nat_lt n g.number) (list_all (nat_lt n) (map (λ g. g.number) gs)) h in
+    let b = and_parts (nat_lt n g.number) (list_all (nat_lt n) (map (λ g. g.number) gs)) h in
     let other : eqb g.number n ≡ false = grind (arith, nat_tests, b.0) in
     rw other (ap (λ (rest : List Group). g ∷ rest) (others_stay n f gs b.1))
 
@@ -24,9 +25,9 @@ below_later : (n : ℕ) (gs : List Group) (i : ℕ) (d : Group) → list_all (na
     → n < (get_or gs i d).number
 below_later n [] i d h lt = absurd (omega (arith, lt))
 below_later n (g ∷ gs) zero d h lt =
-    let b = both_true (nat_lt n g.number) (list_all (nat_lt n) (map (λ g. g.number) gs)) h in grind (arith, nat_tests, b.0)
+    let b = and_parts (nat_lt n g.number) (list_all (nat_lt n) (map (λ g. g.number) gs)) h in grind (arith, nat_tests, b.0)
 below_later n (g ∷ gs) (suc i) d h lt =
-    let b = both_true (nat_lt n g.number) (list_all (nat_lt n) (map (λ g. g.number) gs)) h in below_later n gs i d b.1 (omega (arith, lt))
+    let b = and_parts (nat_lt n g.number) (list_all (nat_lt n) (map (λ g. g.number) gs)) h in below_later n gs i d b.1 (omega (arith, lt))
 
 head_changed : (n : ℕ) (f : List ℕ → List ℕ) (r : Group) (gs : List Group) → r.number ≡ n → map (with_members n f) gs ≡ gs
     → record { number = r.number; members = f r.members } ∷ gs ≡ with_members n f r ∷ map (with_members n f) gs

@@ -9,6 +9,7 @@ use Rattle.std.proofs.Math.ListN.{take-append-drop}
 use Rattle.std.proofs.lemmas.Bool.Decides.{nat_tests}
 use Rattle.std.proofs.lemmas.List.{length-map}
 use Rattle.std.proofs.lemmas.List.Edits.{length-insert, length-remove}
+use Rattle.std.proofs.lemmas.Bool.{and_from, and_parts}
 use Rattle.element_name.specs.Cases.{when}
 use Rattle.element_name.specs.Numbered.{is_rising, put_by, without, find_by}
 use Rattle.element_name.proofs.CaseLemmas.{when-None, first_of-None}
@@ -23,7 +24,7 @@ use Rattle.policy_book.specs.declared.op.AdminOp.TheVariants.{DelAuth, Validate}
 use Rattle.policy_book.specs.declared.fault.EntryFault.TheVariants.{UserThere, ObjectThere, BadPlace, TooMany, GroupThere, NoGroup, MemberThere}
 use Rattle.policy_book.specs.Policy.{Policy, IsWithinLimits, IsLegal, is_number_set, is_full, is_full_group, is_user, is_object, is_group, is_member}
 use Rattle.policy_book.specs.Policy.{with_members, policy_after}
-use Rattle.policy_book.proofs.Ascending.{both_true, both_are, all_append, all_front, all_back, all_filter, length_filter, rising_filter}
+use Rattle.policy_book.proofs.Ascending.{all_append, all_front, all_back, all_filter, length_filter, rising_filter}
 use Rattle.policy_book.proofs.Ascending.{rising_above, rising_rest, rising_put_by, length-put_by, all_put_by, map-put_by, map-without}
 use Rattle.policy_book.proofs.GroupChange.{others_stay}
 
@@ -32,15 +33,15 @@ use Rattle.policy_book.proofs.GroupChange.{others_stay}
 pub set_put_by : (n : ℕ) (xs : List ℕ) → has_number xs n ≡ false → is_full xs ≡ false → is_number_set xs ≡ true
     → is_number_set (put_by (λ m. m) n xs) ≡ true
 set_put_by n xs new room h =
-    let b = both_true (nat_le (length xs) 256) (is_rising nat_lt xs) h in
+    let b = and_parts (nat_le (length xs) 256) (is_rising nat_lt xs) h in
     let few : nat_le (length (put_by (λ m. m) n xs)) 256 ≡ true = rw (length-put_by (λ m. m) n xs) (grind (arith, nat_tests, room)) in
-    both_are (nat_le (length (put_by (λ m. m) n xs)) 256) (is_rising nat_lt (put_by (λ m. m) n xs)) few (rising_put_by n xs new b.1)
+    and_from (nat_le (length (put_by (λ m. m) n xs)) 256) (is_rising nat_lt (put_by (λ m. m) n xs)) few (rising_put_by n xs new b.1)
 
 pub set_without : (n : ℕ) (xs : List ℕ) → is_number_set xs ≡ true → is_number_set (without (λ m. m) n xs) ≡ true
 set_without n xs h =
-    let b = both_true (nat_le (length xs) 256) (is_rising nat_lt xs) h in
+    let b = and_parts (nat_le (length xs) 256) (is_rising nat_lt xs) h in
     let few : nat_le (length (without (λ m. m) n xs)) 256 ≡ true = grind (arith, nat_tests, b.0, length_filter (λ m. not (eqb m n)) xs) in
-    both_are (nat_le (length (without (λ m. m) n xs)) 256) (is_rising nat_lt (without (λ m. m) n xs)) few (rising_filter (λ m. not (eqb m n)) xs b.1)
+    and_from (nat_le (length (without (λ m. m) n xs)) 256) (is_rising nat_lt (without (λ m. m) n xs)) few (rising_filter (λ m. not (eqb m n)) xs b.1)
 
 module _ {X : Type 0} (number : X → ℕ) where
   pub table_put_by : (x : X) (xs : List X) → has_number (map number xs) (number x) ≡ false → is_full xs ≡ false
@@ -86,8 +87,8 @@ without_step n u g false e h = rw e h
 members_without : (n u : ℕ) (gs : List Group) → list_all has_set gs ≡ true → list_all has_set (map (with_members n (without (λ m. m) u)) gs) ≡ true
 members_without n u [] h = refl
 members_without n u (g ∷ gs) h =
-    let b = both_true (has_set g) (list_all has_set gs) h in
-    both_are (has_set (with_members n (without (λ m. m) u) g)) (list_all has_set (map (with_members n (without (λ m. m) u)) gs))
+    let b = and_parts (has_set g) (list_all has_set gs) h in
+    and_from (has_set (with_members n (without (λ m. m) u) g)) (list_all has_set (map (with_members n (without (λ m. m) u)) gs))
     (without_step n u g (eqb g.number n) refl b.0) (members_without n u gs b.1)
 
 abbrev found : ℕ → List Group → Option (List ℕ)
@@ -102,17 +103,17 @@ put_step : (n u : ℕ) (g : Group) (gs : List Group) (b : Bool) → eqb g.number
     → list_all has_set (map (with_members n (put_by (λ m. m) u)) gs) ≡ true)
     → list_all has_set (map (with_members n (put_by (λ m. m) u)) (g ∷ gs)) ≡ true
 put_step n u g gs true e rising room new h ih =
-    let b = both_true (has_set g) (list_all has_set gs) h in
+    let b = and_parts (has_set g) (list_all has_set gs) h in
     let room_here : is_full g.members ≡ false = rw e at room in
     let new_here : has_number g.members u ≡ false = rw e at new in
     let number : g.number ≡ n = grind (arith, nat_tests, e) in
     let above : list_all (nat_lt n) (map (λ g. g.number) gs) ≡ true =
     subst (λ (k : ℕ). list_all (nat_lt k) (map (λ g. g.number) gs) ≡ true) number (rising_above g.number (map (λ g. g.number) gs) rising) in
     rw (e, others_stay n (put_by (λ m. m) u) gs above)
-    (both_are (is_number_set (put_by (λ m. m) u g.members)) (list_all has_set gs) (set_put_by u g.members new_here room_here b.0) b.1)
+    (and_from (is_number_set (put_by (λ m. m) u g.members)) (list_all has_set gs) (set_put_by u g.members new_here room_here b.0) b.1)
 put_step n u g gs false e rising room new h ih =
-    let b = both_true (has_set g) (list_all has_set gs) h in
-    rw e (both_are (has_set g) (list_all has_set (map (with_members n (put_by (λ m. m) u)) gs)) b.0 (ih (rw e at room) (rw e at new)))
+    let b = and_parts (has_set g) (list_all has_set gs) h in
+    rw e (and_from (has_set g) (list_all has_set (map (with_members n (put_by (λ m. m) u)) gs)) b.0 (ih (rw e at room) (rw e at new)))
 
 members_put : (n u : ℕ) (gs : List Group) → is_rising nat_lt (map (λ g. g.number) gs) ≡ true
     → option_map_or (λ members. is_full members) (found n gs) false ≡ false
@@ -121,7 +122,7 @@ members_put : (n u : ℕ) (gs : List Group) → is_rising nat_lt (map (λ g. g.n
 members_put n u [] rising room new h = refl
 members_put n u (g ∷ gs) rising room new h =
     put_step n u g gs (eqb g.number n) refl rising room new h
-    (λ r k. members_put n u gs (rising_rest g.number (map (λ g. g.number) gs) rising) r k (both_true (has_set g) (list_all has_set gs) h).1)
+    (λ r k. members_put n u gs (rising_rest g.number (map (λ g. g.number) gs) rising) r k (and_parts (has_set g) (list_all has_set gs) h).1)
 
 -- ---- authorizations
 
@@ -129,7 +130,7 @@ module _ {X : Type 0} (p : X → Bool) where
   all_insert : (xs : List X) (i : ℕ) (x : X) → p x ≡ true → list_all p xs ≡ true → list_all p (insert xs i x) ≡ true
   all_insert xs i x px h =
       let parts : list_all p (take i xs ++ drop i xs) ≡ true = rw (take-append-drop i xs) h in
-      all_append p (take i xs) (x ∷ drop i xs) (all_front p (take i xs) (drop i xs) parts) (both_are (p x) (list_all p (drop i xs)) px (all_back p (take i xs) (drop i xs) parts))
+      all_append p (take i xs) (x ∷ drop i xs) (all_front p (take i xs) (drop i xs) parts) (and_from (p x) (list_all p (drop i xs)) px (all_back p (take i xs) (drop i xs) parts))
 
   all_remove : (xs : List X) (i : ℕ) → list_all p xs ≡ true → list_all p (remove xs i) ≡ true
   all_remove xs i h =
@@ -155,7 +156,7 @@ kept p version (AddObj n extent) w legal ranges =
     let new = not_there (λ (o : Object). o.number) (λ (o : Object). o.extent) n p.objects (when-None (is_object p n) ObjectThere rows.0) in
     let objects = table_put_by (λ (o : Object). o.number) object p.objects new (when-None (is_full p.objects) (TooMany 256) room.0) w.objects in
     let extents =
-    all_put_by (λ (o : Object). o.number) (λ (o : Object). is_extent o.extent) object p.objects (both_true (is_short n) (is_extent extent) ranges).1 w.extents in
+    all_put_by (λ (o : Object). o.number) (λ (o : Object). is_extent o.extent) object p.objects (and_parts (is_short n) (is_extent extent) ranges).1 w.extents in
     record { users = w.users; objects = objects; extents = extents; groups = w.groups; members = w.members; few_auths = w.few_auths; auths = w.auths }
 kept p version (DelObj n) w legal ranges =
     let objects = table_without (λ (o : Object). o.number) n p.objects w.objects in
@@ -179,7 +180,7 @@ kept p version (AddMember g u) w legal ranges =
     let there = first_of-None (when (not (is_group p g)) NoGroup) (when (is_member p g u) MemberThere ∷ []) rows.1 in
     let new = first_of-None (when (is_member p g u) MemberThere) [] there.1 in
     let rising =
-    (both_true (nat_le (length (map (λ (o : Group). o.number) p.groups)) 256) (is_rising nat_lt (map (λ (o : Group). o.number) p.groups)) w.groups).1 in
+    (and_parts (nat_le (length (map (λ (o : Group). o.number) p.groups)) 256) (is_rising nat_lt (map (λ (o : Group). o.number) p.groups)) w.groups).1 in
     let groups : is_number_set (map (λ (o : Group). o.number) (map (with_members g (put_by (λ m. m) u)) p.groups)) ≡ true =
     rw (numbers_stay g (put_by (λ m. m) u) p.groups) w.groups in
     let members =
@@ -198,7 +199,7 @@ kept p version (AddAuth place auth) w legal ranges =
     let within : place ≤ length p.auths = grind (arith, nat_tests, in_list) in
     let below : length p.auths < 256 = grind (arith, nat_tests, not_full) in
     let few : length (insert p.auths place made) ≤ 256 = omega (arith, length-insert p.auths place made within, below) in
-    let auths = all_insert (λ (a : NumberedAuth). is_auth a.auth) p.auths place made (both_true (is_short place) (is_auth auth) ranges).1 w.auths in
+    let auths = all_insert (λ (a : NumberedAuth). is_auth a.auth) p.auths place made (and_parts (is_short place) (is_auth auth) ranges).1 w.auths in
     record { users = w.users; objects = w.objects; extents = w.extents; groups = w.groups; members = w.members; few_auths = few; auths = auths }
 kept p version (DelAuth place) w legal ranges =
     let rows = first_of-None (when (nat_le (length p.auths) place) (BadPlace (length p.auths))) [] legal in

@@ -1,10 +1,11 @@
 -- What is found in a table whose names ascend.
-use Rattle.std.proofs.Common.{◌≡◌, ◌⊎◌, inl, inr, ⊎_elim, Bool, true, false, cond, ◌&&◌, List, [], ◌∷◌, None, Some, refl, sym, ap, subst, ◌∙◌, arith}
+use Rattle.std.proofs.Common.{◌≡◌, ◌⊎◌, inl, inr, ⊎_elim, Bool, true, false, cond, List, [], ◌∷◌, None, Some, refl, sym, ap, subst, ◌∙◌, arith}
 use Rattle.std.specs.Prelude.{ℕ, find, nat_le, nat_lt}
 use Rattle.std.proofs.lemmas.Bool.Decides.{nat_tests}
 use Rattle.std.specs.declared.option.Option.{Option}
 use Rattle.std.specs.Option.{option_map}
 use Rattle.std.specs.List.{AllByRecursion}
+use Rattle.std.proofs.lemmas.Bool.{and_parts}
 use Rattle.element_name.specs.Name.{Name, start, name_eq, name_lt}
 use Rattle.element_name.proofs.NameOrder.{same_name, name_eq-refl, name_eq-comm, name_lt-apart, name_lt-trans, name_gt}
 use Rattle.element_name.proofs.CaseLemmas.{when-None, first_of-None}
@@ -20,20 +21,16 @@ use Rattle.retro_undo.proofs.Parts.{all_by}
 abbrev pub IsAbove : Name → Kept → Type 0
 IsAbove n k = name_lt n k.request.id ≡ true
 
-pub both : (a b : Bool) → (a && b) ≡ true → (a ≡ true) × (b ≡ true)
-both true b e = (refl, e)
-both false b e = absurd cc
-
 -- the others are above the first
 pub first_below : (k : Kept) (table : List Kept) → is_in_order (k ∷ table) ≡ true → AllByRecursion (IsAbove k.request.id) table
 first_below k [] order = tt
 first_below k (x ∷ table) order =
-    let parts = both (name_lt k.request.id x.request.id) (is_in_order (x ∷ table)) order in
+    let parts = and_parts (name_lt k.request.id x.request.id) (is_in_order (x ∷ table)) order in
     (parts.0, all_by (IsAbove x.request.id) (IsAbove k.request.id) (λ y above. name_lt-trans k.request.id x.request.id y.request.id parts.0 above) table (first_below x table parts.1))
 
 pub rest_in_order : (k : Kept) (table : List Kept) → is_in_order (k ∷ table) ≡ true → is_in_order table ≡ true
 rest_in_order k [] order = refl
-rest_in_order k (x ∷ table) order = (both (name_lt k.request.id x.request.id) (is_in_order (x ∷ table)) order).1
+rest_in_order k (x ∷ table) order = (and_parts (name_lt k.request.id x.request.id) (is_in_order (x ∷ table)) order).1
 
 -- k stands in the table: those in front are below and fail the test, which k passes, and those behind are above
 abbrev pub IsAt : (Kept → Bool) → Kept → List Kept → Type 0

@@ -8,6 +8,7 @@ use Rattle.std.proofs.lemmas.Bool.Decides.{nat_tests}
 use Rattle.std.proofs.lemmas.List.{take_more}
 use Rattle.std.proofs.lemmas.Option.{slice_get_within, get_or_from_slice_get}
 use Rattle.std.proofs.Math.Seq.{take-length}
+use Rattle.std.proofs.lemmas.Bool.{and_parts}
 use Rattle.element_name.specs.Name.{Name, start, name_eq, name_lt, has_name}
 use Rattle.element_name.proofs.NameOrder.{name_eq-refl, name_eq-comm, name_lt-irrefl, name_lt-apart, name_lt-asym, name_lt-trans}
 use Rattle.coop_request.specs.Request.{Request, user_of, element_of}
@@ -26,7 +27,7 @@ use Rattle.retro_undo.specs.Part.{states_after_in, undone_in, is_named, is_in, i
 use Rattle.retro_undo.specs.declared.walk.Line.{Line}
 use Rattle.retro_undo.specs.declared.walk.Line.TheVariants.{Of}
 use Rattle.retro_undo.proofs.Parts.{all_by, each_by, within_reach, count_cons, states_same, undone_same, states_twice, undone_twice, states_of_none, undone_of_none, IsSameFor}
-use Rattle.retro_undo.proofs.Found.{IsAbove, IsAt, both, found_at, kept_at, at_passes, none_found, all_above_start}
+use Rattle.retro_undo.proofs.Found.{IsAbove, IsAt, found_at, kept_at, at_passes, none_found, all_above_start}
 
 -- how many Tentative requests have a name above this one
 abbrev pub waiting_count : Name → List Kept → ℕ
@@ -57,7 +58,7 @@ next_at table line above q order found = by (find (is_next line above) table) re
     by None e found = absurd cc
     by (Some k) e found =
         let at = found_at (is_next line above) k table order e in
-        let waits = (both (is_tentative k.state) (is_above line above k.request) (at_passes (is_next line above) k table at)).0 in
+        let waits = (and_parts (is_tentative k.state) (is_above line above k.request) (at_passes (is_next line above) k table at)).0 in
         let same : k.request ≡ q = cc in
         subst (λ x. IsAt (is_next line above) x table) (tentative_is k waits ∙ ap (λ r. record { request = r; state = Tentative }) same) at
 
@@ -139,7 +140,7 @@ module _ (names : List Name) (p : Policy) (version : ℕ) where
         ∙ sym (ap (λ b. (b || is_above line q.id q) && is_undone names p waits) (name_eq-refl q.id))
 
     low_enough : is_next line above waits ≡ true → name_lt above q.id ≡ true
-    low_enough passes = (both (is_in line q) (name_lt above q.id) passes).1
+    low_enough passes = (and_parts (is_in line q) (name_lt above q.id) passes).1
 
     step_same : (table : List Kept) → IsAt (is_next line above) waits table → AllByRecursion (IsSameFor names p version (is_above line above) onward) table
     step_same [] at = absurd at
@@ -254,13 +255,13 @@ module _ (names : List Name) (p : Policy) (version : ℕ) where
 -- the element of what is kept is one of the names
 pub kept_element : (names : List Name) (q : Request) (table : List Kept) → have_elements names table ≡ true → kept_of table q.id ≡ Some (record { request = q; state = Tentative }) → has_name names (element_of q) ≡ true
 kept_element names q [] h there = absurd cc
-kept_element names q (k ∷ table) h there = by (name_eq k.request.id q.id) there (kept_element names q table (both (has_name names (element_of k.request)) (have_elements names table) h).1)
+kept_element names q (k ∷ table) h there = by (name_eq k.request.id q.id) there (kept_element names q table (and_parts (has_name names (element_of k.request)) (have_elements names table) h).1)
   where
     by : (b : Bool) → cond b (Some k) (kept_of table q.id) ≡ Some (record { request = q; state = Tentative })
         → (kept_of table q.id ≡ Some (record { request = q; state = Tentative }) → has_name names (element_of q) ≡ true) → has_name names (element_of q) ≡ true
     by true found rest =
         let same : k ≡ record { request = q; state = Tentative } = cc in
-        subst (λ x. has_name names (element_of x.request) ≡ true) same (both (has_name names (element_of k.request)) (have_elements names table) h).0
+        subst (λ x. has_name names (element_of x.request) ≡ true) same (and_parts (has_name names (element_of k.request)) (have_elements names table) h).0
     by false found rest = rest found
 
 -- ---- the listed users, one after another

@@ -1,6 +1,6 @@
 -- What becomes of slots, and of their names, when one is put in or taken out.
 use Rattle.std.proofs.Common.{set, get_or, ◌≡◌, ℕ, zero, suc, ⊎_elim, Bool, true, false, not, ◌||◌, List, [], ◌∷◌, insert, remove, refl, ap, ◌∙◌, sym, subst, arith}
-use Rattle.std.proofs.lemmas.Bool.{or_parts, and_parts, cases_Bool}
+use Rattle.std.proofs.lemmas.Bool.{or_parts, and_parts, cases_Bool, not-true}
 use Rattle.element_name.specs.Name.{Name, start, name_eq, has_name, are_distinct}
 use Rattle.std.specs.Prelude.{nat_le, None, if◌then◌else◌}
 use Rattle.std.specs.declared.option.Option.{Option}
@@ -19,15 +19,11 @@ both_false : (a b : Bool) → a ≡ false → b ≡ false → (a || b) ≡ false
 both_false true b e f = absurd (cc)
 both_false false b e f = f
 
-not_true : (a : Bool) → not a ≡ true → a ≡ false
-not_true true e = absurd (cc)
-not_true false e = refl
-
 distinct_cons : (n : Name) (names : List Name) → has_name names n ≡ false → are_distinct names ≡ true → are_distinct (n ∷ names) ≡ true
 distinct_cons n names h d = rw h d
 
 distinct_head : (n : Name) (names : List Name) → are_distinct (n ∷ names) ≡ true → has_name names n ≡ false
-distinct_head n names d = not_true (has_name names n) (and_parts _ _ d).0
+distinct_head n names d = not-true (has_name names n) (and_parts _ _ d).0
 
 distinct_tail : (n : Name) (names : List Name) → are_distinct (n ∷ names) ≡ true → are_distinct names ≡ true
 distinct_tail n names d = (and_parts (not (has_name names n)) (are_distinct names) d).1

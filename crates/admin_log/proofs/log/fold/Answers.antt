@@ -1,4 +1,4 @@
-use Rattle.std.proofs.Common.{◌≡◌, None, Some, take, get_or, sym, ap, ◌∙◌}
+use Rattle.std.proofs.Common.{◌≡◌, take, get_or, ap, ◌∙◌}
 use Rattle.policy_book.specs.declared.op.AdminOp.{AdminOp}
 use Rattle.policy_book.specs.Entry.{Entry}
 use Rattle.policy_book.specs.Policy.{Policy, policy_fault}

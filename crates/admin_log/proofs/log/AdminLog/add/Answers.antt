@@ -1,12 +1,8 @@
-use Rattle.std.proofs.Common.{◌≡◌, ℕ, ◌+◌, ◌≤◌, cond, List, [], ◌∷◌, ◌++◌, Some, length, refl, sym, ap, ◌∙◌, subst, arith, length-append}
-use Rattle.std.specs.BTreeMap.{get}
+use Rattle.std.proofs.Common.{◌≡◌, cond, List, [], ◌∷◌, ◌++◌, Some, sym, ap, ◌∙◌, arith, length-append}
 use Rattle.element_name.proofs.EachAfterLemmas.{EachAfter-push}
-use Rattle.element_name.specs.Name.{Name}
-use Rattle.element_name.specs.Named.{name_cmp}
 use Rattle.policy_book.specs.Entry.{Entry}
 use Rattle.policy_book.specs.Policy.{policy_after}
-use Rattle.admin_log.specs.Kept.{IsKept}
-use Rattle.admin_log.specs.Log.{FollowsLog, policy_of, validates, validated_at, push_fault}
+use Rattle.admin_log.specs.Log.{FollowsLog, validates, push_fault}
 use Rattle.admin_log.proofs.Logs.{follows_pushed, policy_push, validated_push}
 use Rattle.admin_log.proofs.log.AdminLog.add.Goals as goal
 

@@ -1,4 +1,4 @@
-use Rattle.std.proofs.Common.{take, sym, ap, ◌∙◌, subst}
+use Rattle.std.proofs.Common.{take, sym, subst}
 use Rattle.admin_log.specs.Log.{IsLog}
 use Rattle.admin_log.proofs.Logs.{log_to}
 use Rattle.admin_log.proofs.log.AdminLog.policy_at.Goals as goal

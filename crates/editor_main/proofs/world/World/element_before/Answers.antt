@@ -1,10 +1,11 @@
 use Rattle.std.proofs.Common.{◌≡◌, ◌-◌, true, List, length, sym, ap, ◌∙◌, subst, arith}
+use Rattle.std.proofs.lemmas.Bool.{or_right}
 use Rattle.coop_request.specs.Request.{Request}
 use Rattle.element_name.specs.Name.{start, name_eq, has_name}
 use Rattle.coop_request.specs.History.{text_order}
 use Rattle.tomb_seq.specs.Slots.{names_in}
 use Rattle.editor_main.specs.World.{element_before}
-use Rattle.editor_main.proofs.Growth.{old_at, before_none, or_right}
+use Rattle.editor_main.proofs.Growth.{old_at, before_none}
 use Rattle.editor_main.proofs.world.World.element_before.Goals as goal
 
 pub returns-in-Some-clause-low : goal.returns-in-Some-clause-low
