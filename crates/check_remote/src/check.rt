@@ -1,5 +1,5 @@
 //! The remote check.
-ghost use Rattle.std.specs.Prelude.{◌≡◌, ◌≤◌, true, length, IfOk};
+ghost use Rattle.std.specs.Prelude.{◌≡◌, ◌≤◌, true, length, IfOk, IsOk};
 ghost use Rattle.element_name.specs.Name.{has_name};
 ghost use Rattle.coop_request.specs.Request.{element_of};
 ghost use Rattle.check_remote.specs.State.{until, first_denial, state_of};
@@ -29,7 +29,8 @@ fn first_denial<P: Places>(
 ) -> Result<Option<Denial>, NoMemory>
     requires carried { request.version ≤ length log.now }
     requires element { has_name (P.names places.now) (element_of request) ≡ true }
-    ensures { IfOk result (λ denial. denial ≡ first_denial (P.names places.now) log.now request) }
+    ensures value { IfOk result (λ denial. denial ≡ first_denial (P.names places.now) log.now request) }
+    ensures front { request.version ≡ length log.now → IsOk result }
 {
     let first = request.version();
     let front = log.len();
@@ -44,8 +45,8 @@ fn first_denial<P: Places>(
 ///
 /// The request is judged at each version from the one that it carries up to the greater of that and the
 /// version that validates it, or up to the front where none does. It costs one verdict a version, until one
-/// denies. The policy of the first version is made once, and each later one from the one before; where the
-/// range is the front alone no policy is copied, and no memory taken.
+/// denies. The policy of the first version is made once, and each later one from the one before. A request
+/// that carries the front's version is judged there alone, and no policy is copied and no memory taken.
 ///
 /// Fails where memory is wanting for the policy of a version.
 pub fn check_remote<P: Places>(
@@ -55,7 +56,8 @@ pub fn check_remote<P: Places>(
 ) -> Result<State, NoMemory>
     requires carried { request.version ≤ length log.now }
     requires element { has_name (P.names places.now) (element_of request) ≡ true }
-    ensures { IfOk result (λ state. state ≡ state_of (P.names places.now) log.now request) }
+    ensures value { IfOk result (λ state. state ≡ state_of (P.names places.now) log.now request) }
+    ensures front { request.version ≡ length log.now → IsOk result }
 {
     let denial = first_denial(log, request, places)?;
     Ok(state_by(denial, log.validated(request.id())))

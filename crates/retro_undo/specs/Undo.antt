@@ -61,6 +61,6 @@ are_reached reach names p table = list_all (λ k. not (is_undone names p k) || i
 abbrev pub ShowsCounted : List (Name × Cell) → List Kept → Type 0
 ShowsCounted cells table = (requests : List Request) × IsTableOf cells requests (counted_of table)
 
--- whatever inserts the old cells were of, with the requests that counted then, the new cells are of those with the requests that count now
+-- of whatever inserts the old cells showed the requests that counted, the new cells show those that count now
 abbrev pub IsShownAfter : List (Name × Cell) → List Kept → List (Name × Cell) → List Kept → Type 0
 IsShownAfter old_cells old new_cells new = (requests : List Request) → IsTableOf old_cells requests (counted_of old) → IsTableOf new_cells requests (counted_of new)
