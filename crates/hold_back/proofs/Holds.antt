@@ -1,0 +1,114 @@
+-- Holds as they change: their keys stay new.
+use Rattle.std.proofs.Common.{◌≡◌, ℕ, ◌+◌, ◌<◌, zero, suc, Bool, true, false, not, cond, ◌||◌, ◌&&◌, List, [], ◌∷◌, ◌++◌, None, Some, length, remove, refl, sym, ap, subst, ◌∙◌, arith, length-append}
+use Rattle.std.specs.Prelude.{slice_set, find, option_map, unwrap_or, position, slice_get}
+use Rattle.std.specs.List.{list_any, list_all, position_from}
+use Rattle.std.proofs.lemmas.List.Folds.{list_any-append}
+use Rattle.std.proofs.lemmas.List.{length-map, length-set}
+use Rattle.std.proofs.lemmas.List.Edits.{length-remove}
+use Rattle.std.proofs.lemmas.Iterator.Adapters.{position_from-zero}
+use Rattle.element_name.specs.Growing.{EachFrom, EachAfter}
+use Rattle.element_name.proofs.EachAfterLemmas.{EachAfter-push}
+use Rattle.edit_message.specs.Message.{key_of, key_eq}
+use Rattle.edit_message.specs.declared.message.Key.{Key}
+use Rattle.edit_message.specs.declared.message.Message.{Message}
+use Rattle.hold_back.specs.declared.held.Held.{Held}
+use Rattle.hold_back.specs.declared.need.Need.{Need}
+use Rattle.hold_back.specs.declared.hold.TheConstants.{MAX_HELD}
+use Rattle.hold_back.specs.Hold.{is_woken, waits_for, find_held, woken_if, woken_by, waiting_at, keys_of, due_at, IsNewKey, IsHold}
+
+-- ---- keys
+
+new_key : (held : List Held) (key : Key) → find_held key held ≡ None → IsNewKey (keys_of held) key
+new_key [] key none = refl
+new_key (h ∷ held) key none = elim (key_eq (key_of h.message) key) as (λ b. key_eq (key_of h.message) key ≡ b → list_any (λ k. key_eq k key) (key_of h.message ∷ keys_of held) ≡ false) [
+  | true ↦ λ same. absurd (cc)
+  | false ↦ λ other.
+      ap (λ b. b || list_any (λ k. key_eq k key) (keys_of held)) other
+      ∙ new_key held key (ap (λ b. option_map (λ x. x.message) (cond b (Some h) (find (λ x. key_eq (key_of x.message) key) held))) (sym other) ∙ none)
+] refl
+
+keys_push : (held : List Held) (h : Held) → keys_of (held ++ h ∷ []) ≡ keys_of held ++ key_of h.message ∷ []
+keys_push [] h = refl
+keys_push (x ∷ held) h = ap (λ keys. key_of x.message ∷ keys) (keys_push held h)
+
+keys_woken : (need : Need) (held : List Held) → keys_of (woken_by need held) ≡ keys_of held
+keys_woken need [] = refl
+keys_woken need (h ∷ held) = elim (waits_for need h) as (λ b. key_of (cond b (record { message = h.message; need = None }) h).message ∷ keys_of (woken_by need held) ≡ key_of h.message ∷ keys_of held) [
+  | true ↦ ap (λ keys. key_of h.message ∷ keys) (keys_woken need held)
+  | false ↦ ap (λ keys. key_of h.message ∷ keys) (keys_woken need held)
+]
+
+keys_set : (held : List Held) (i : ℕ) (h : Held) → option_map (λ x. key_of x.message) (slice_get held i) ≡ Some (key_of h.message) → keys_of (slice_set held i h) ≡ keys_of held
+keys_set [] i h same = refl
+keys_set (x ∷ held) zero h same = ap (λ o. unwrap_or o (key_of h.message) ∷ keys_of held) (sym same)
+keys_set (x ∷ held) (suc i) h same = ap (λ keys. key_of x.message ∷ keys) (keys_set held i h same)
+
+neither : (a b : Bool) → (a || b) ≡ false → (a ≡ false) × (b ≡ false)
+neither true b h = absurd (cc)
+neither false b h = (refl, h)
+
+new_to_more : (keys : List Key) (l k : Key) → IsNewKey (keys ++ l ∷ []) k → (list_any (λ m. key_eq m k) keys ≡ false) × (list_any (λ m. key_eq m k) (l ∷ []) ≡ false)
+new_to_more keys l k new =
+    neither (list_any (λ m. key_eq m k) keys) (list_any (λ m. key_eq m k) (l ∷ [])) (sym (list_any-append (λ m. key_eq m k) keys (l ∷ [])) ∙ new)
+
+-- what is new to a list is new to one with fewer keys
+thinner : (fewer more keys : List Key) → ((k : Key) → IsNewKey more k → IsNewKey fewer k) → EachFrom IsNewKey more keys → EachFrom IsNewKey fewer keys
+thinner fewer more [] less each = tt
+thinner fewer more (key ∷ keys) less each =
+    let still = λ (k : Key) (new : IsNewKey (more ++ key ∷ []) k).
+    let both = new_to_more more key k new in
+    list_any-append (λ m. key_eq m k) fewer (key ∷ []) ∙ ap (λ b. b || list_any (λ m. key_eq m k) (key ∷ [])) (less k both.0) ∙ both.1
+    in
+    (less key each.0, thinner (fewer ++ key ∷ []) (more ++ key ∷ []) keys still each.1)
+
+without_one : (front : List Key) (held : List Held) (i : ℕ) → EachFrom IsNewKey front (keys_of held) → EachFrom IsNewKey front (keys_of (remove held i))
+without_one front [] zero each = tt
+without_one front [] (suc i) each = tt
+without_one front (h ∷ held) zero each = thinner front (front ++ key_of h.message ∷ []) (keys_of held) (λ k new. (new_to_more front (key_of h.message) k new).0) each.1
+without_one front (h ∷ held) (suc i) each = (each.0, without_one (front ++ key_of h.message ∷ []) held i each.1)
+
+-- ---- holds
+
+pub IsHold-keep : (held : List Held) (h : Held) → IsHold held → find_held (key_of h.message) held ≡ None → length held < MAX_HELD → IsHold (held ++ h ∷ [])
+IsHold-keep held h hold none room = record {
+  few = let n = length-append held (h ∷ []) in omega (arith, n, room);
+  distinct = subst (λ (keys : List Key). EachAfter IsNewKey keys) (sym (keys_push held h)) (EachAfter-push IsNewKey (keys_of held) (key_of h.message) hold.distinct (new_key held (key_of h.message) none));
+}
+
+pub IsHold-remove : (held : List Held) (i : ℕ) → IsHold held → i < length held → IsHold (remove held i)
+IsHold-remove held i hold within = record {
+  few = let n = length-remove held i within in let few = hold.few in omega (arith, n, few);
+  distinct = without_one [] held i hold.distinct;
+}
+
+pub IsHold-woken : (need : Need) (held : List Held) → IsHold held → IsHold (woken_by need held)
+IsHold-woken need held hold = record {
+  few = let n = length-map held (woken_if need) in let few = hold.few in omega (arith, n, few);
+  distinct = subst (λ (keys : List Key). EachAfter IsNewKey keys) (sym (keys_woken need held)) hold.distinct;
+}
+
+pub IsHold-waiting : (held : List Held) (i : ℕ) (need : Need) → IsHold held → IsHold (waiting_at i need held)
+IsHold-waiting held i need hold = elim (slice_get held i) as (λ x. slice_get held i ≡ x → IsHold (elim x [ Some h ↦ slice_set held i (record { message = h.message; need = Some need }) | None ↦ held ])) [
+  | Some h ↦ λ there. record {
+    few = let n = length-set held i (record { message = h.message; need = Some need }) in let few = hold.few in omega (arith, n, few);
+    distinct = subst (λ (keys : List Key). EachAfter IsNewKey keys) (sym (keys_set held i (record { message = h.message; need = Some need }) (ap (option_map (λ x. key_of x.message)) there))) hold.distinct;
+  }
+  | None ↦ λ none. hold
+] refl
+
+-- ---- the first that is due
+
+due_from : (due : Message → Bool) (i : ℕ) (held : List Held) → list_all (λ h. is_woken h || not (due h.message)) held ≡ true → position_from (λ h. is_woken h && due h.message) i held ≡ position_from (λ h. due h.message) i held
+due_from due i [] only = refl
+due_from due i (h ∷ held) only = elim (is_woken h) as (λ w. ((w || not (due h.message)) && list_all (λ x. is_woken x || not (due x.message)) held) ≡ true → cond (w && due h.message) (Some i) (position_from (λ x. is_woken x && due x.message) (i + 1) held) ≡ cond (due h.message) (Some i) (position_from (λ x. due x.message) (i + 1) held)) [
+  | true ↦ λ rest. ap (cond (due h.message) (Some i)) (due_from due (i + 1) held rest)
+  | false ↦ λ rest. elim (due h.message) as (λ d. (not d && list_all (λ x. is_woken x || not (due x.message)) held) ≡ true → position_from (λ x. is_woken x && due x.message) (i + 1) held ≡ cond d (Some i) (position_from (λ x. due x.message) (i + 1) held)) [
+    | true ↦ λ no. absurd (cc)
+    | false ↦ λ more. due_from due (i + 1) held more
+  ] rest
+] only
+
+-- where none that waits is due, the first woken one that is due is the first that is
+pub first_woken_due_is : (due : Message → Bool) (held : List Held) → list_all (λ h. is_woken h || not (due h.message)) held ≡ true → position (λ h. is_woken h && due h.message) held ≡ due_at due held
+first_woken_due_is due held only =
+    position_from-zero (λ h. is_woken h && due h.message) held ∙ due_from due 0 held only ∙ sym (position_from-zero (λ h. due h.message) held)

@@ -1,0 +1,203 @@
+//! The hold.
+ghost use Rattle.std.specs.Prelude.{◌≡◌, ◌&&◌, ◌≤◌, ◌<◌, ◌++◌, [], ◌∷◌, None, Some, length, remove, slice_get, position, find, unwrap_or, option_map, IfOk, IfErr, OnOk, OnErr, IsTrue};
+ghost use Rattle.std.specs.Option.{option_copied};
+ghost use Rattle.hold_back.specs.declared.fault.HoldFault.TheVariants.{NoMemory as no_memory};
+ghost use Rattle.element_name.specs.Growing.{EachAfter};
+ghost use Rattle.edit_message.specs.Message.{key_of, key_eq};
+ghost use Rattle.hold_back.specs.Hold.{find_held, keep_fault, woken_by, waiting_at, woken_from, due_at, only_woken_due, is_woken, waits_for, IsNewKey, keys_of};
+
+use crate::fault::HoldFault;
+use crate::held::Held;
+use crate::need::Need;
+use edit_message::{Key, Message};
+use std::alloc::Global;
+use std::marker::Model;
+
+/// How many messages may be held.
+pub const MAX_HELD: usize = 4_096;
+
+/// Which messages are due: of those that are asked about, the ones that miss nothing.
+pub trait Due {
+    ghost use Rattle.std.specs.Prelude.{Bool};
+    ghost use Rattle.edit_message.specs.declared.message.Message as spec;
+
+    /// Whether a message is due.
+    ghost is_due: { Self → spec.Message → Bool };
+
+    /// Whether the message is due.
+    fn due(&self, message: &Message) -> bool
+        ensures { result ≡ is_due self.now message.now };
+}
+
+/// Held messages in order of arrival, each waiting under its need, or woken.
+#[derive(Drop)]
+pub struct HoldBack {
+    held: Vec<Held>,
+}
+
+impl Model for HoldBack {
+    ghost use Rattle.std.specs.Prelude.{List};
+    ghost use Rattle.hold_back.specs.declared.held.Held.{Held};
+    ghost use Rattle.hold_back.specs.Hold.{IsHold};
+
+    ghost Value = { List Held };
+
+    ghost view = { λ h. h.held.items };
+
+    ghost invariant = { λ h. IsHold h.held.items };
+}
+
+impl HoldBack {
+    /// The empty hold. Takes no memory.
+    pub fn new(alloc: Global) -> HoldBack
+        ensures { result ≡ [] }
+    {
+        HoldBack {
+            held: Vec::new(alloc),
+        }
+    }
+
+    /// How many messages are held.
+    pub fn len(&self) -> u32
+        ensures count { result ≡ length self.now }
+        ensures few { result ≤ MAX_HELD }
+        ensures distinct { EachAfter IsNewKey (keys_of self.now) }
+    {
+        self.held.len() as u32
+    }
+
+    /// The message at a place in order of arrival.
+    pub fn at(&self, i: u32) -> Option<&Message>
+        ensures { option_copied result ≡ option_map (λ h. h.message) (slice_get self.now i) }
+    {
+        let held = self.held.get(i as usize)?;
+        Some(&held.message)
+    }
+
+    /// The message of a key. Takes time in the number of held messages.
+    pub fn find(&self, key: Key) -> Option<&Message>
+        ensures { option_copied result ≡ find_held key self.now }
+    {
+        let held = find_in(&self.held, key)?;
+        Some(&held.message)
+    }
+
+    /// Puts a message last, waiting under its need.
+    pub fn keep(&mut self, message: Message, need: Need) -> Result<(), HoldFault>
+        requires new { find_held (key_of message) self.old ≡ None }
+        ensures room { OnOk result (keep_fault self.old ≡ None) }
+        ensures ok { OnOk result (self.new ≡ self.old ++ (record { message = message; need = Some need }) ∷ []) }
+        ensures fault { IfErr result (λ fault. fault ≡ unwrap_or (keep_fault self.old) no_memory) }
+        ensures unchanged { OnErr result (self.new ≡ self.old) }
+    {
+        if self.held.len() >= MAX_HELD {
+            return Err(HoldFault::Full);
+        }
+        let need = Some(need);
+        put(&mut self.held, Held { message, need })?;
+        Ok(())
+    }
+
+    /// Wakes the messages that wait under the need. Takes no memory, and time in the number of held messages.
+    pub fn arrived(&mut self, need: Need)
+        ensures { self.new ≡ woken_by need self.old }
+    {
+        wake(&mut self.held, &need);
+    }
+
+    /// Has the message at a place wait under a need. Takes no memory.
+    pub fn wait_again(&mut self, i: u32, need: Need)
+        requires { i < length self.old }
+        ensures { self.new ≡ waiting_at i need self.old }
+    {
+        set_need(&mut self.held, i as usize, need);
+    }
+
+    /// The least place at or above `from` whose message is woken.
+    pub fn woken(&self, from: u32) -> Option<u32>
+        ensures { result ≡ woken_from from self.now }
+    {
+        let rest = self.held.get(from as usize..)?;
+        let k = first_woken(rest)?;
+        Some(from + k as u32)
+    }
+
+    /// The place of the earliest message that is due. Only woken messages are asked about.
+    pub fn first_due<T: Due>(&self, test: &T) -> Option<u32>
+        requires { IsTrue (only_woken_due (T.is_due test.now) self.now) }
+        ensures { result ≡ due_at (T.is_due test.now) self.now }
+    {
+        let place = first_woken_due(&self.held, test)?;
+        Some(place as u32)
+    }
+
+    /// Takes a message out; the others keep their order. Takes no memory, and time in the number of held messages.
+    pub fn take(&mut self, i: u32) -> Message
+        requires { i < length self.old }
+        ensures taken { option_map (λ h. h.message) (slice_get self.old i) ≡ Some result }
+        ensures rest { self.new ≡ remove self.old i }
+    {
+        take_out(&mut self.held, i as usize)
+    }
+}
+
+fn find_in(held: &[Held], key: Key) -> Option<&Held>
+    ensures { option_copied result ≡ find (λ h. key_eq (key_of h.message) key) held.now }
+{
+    held.iter().find(|h| h.has_key(key))
+}
+
+fn put(held: &mut Vec<Held>, h: Held) -> Result<(), HoldFault>
+    ensures ok { OnOk result (held.new.items ≡ held.old.items ++ h ∷ []) }
+    ensures err { IfErr result (λ fault. (fault ≡ no_memory) × (held.new.items ≡ held.old.items)) }
+{
+    match held.push(h) {
+        Ok(()) => Ok(()),
+        Err(_) => Err(HoldFault::NoMemory),
+    }
+}
+
+fn set_need(held: &mut Vec<Held>, i: usize, need: Need)
+    requires { i < length held.old.items }
+    ensures { held.new.items ≡ waiting_at i need held.old.items }
+{
+    held[i].need = Some(need);
+}
+
+fn take_out(held: &mut Vec<Held>, i: usize) -> Message
+    requires { i < length held.old.items }
+    ensures taken { option_map (λ h. h.message) (slice_get held.old.items i) ≡ Some result }
+    ensures rest { held.new.items ≡ remove held.old.items i }
+{
+    held.remove(i).message
+}
+
+// Wakes those that wait under the need.
+fn wake(held: &mut Vec<Held>, need: &Need)
+    ensures { held.new.items ≡ woken_by need.now held.old.items }
+{
+    for h in held.iter_mut() {
+        h.hear(*need);
+    }
+}
+
+fn first_woken(held: &[Held]) -> Option<usize>
+    ensures { result ≡ position is_woken held.now }
+{
+    held.iter().position(|h| h.need.is_none())
+}
+
+// The first that is both woken and due.
+fn first_of_both<T: Due>(held: &[Held], test: &T) -> Option<usize>
+    ensures { result ≡ position (λ h. is_woken h && T.is_due test.now h.message) held.now }
+{
+    held.iter()
+        .position(|h| h.need.is_none() && test.due(&h.message))
+}
+
+fn first_woken_due<T: Due>(held: &[Held], test: &T) -> Option<usize>
+    requires { IsTrue (only_woken_due (T.is_due test.now) held.now) }
+    ensures { result ≡ due_at (T.is_due test.now) held.now }
+{
+    first_of_both(held, test)
+}

@@ -1,0 +1,15 @@
+//! Messages that came before what they need.
+#![tactic(auto)]
+
+mod fault;
+mod held;
+mod hold;
+mod need;
+
+pub use fault::HoldFault;
+pub use held::Held;
+pub use hold::{Due, HoldBack};
+pub use need::Need;
+
+#[cfg(test)]
+mod tests;
