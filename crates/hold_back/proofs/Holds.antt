@@ -1,6 +1,6 @@
 -- Holds as they change: their keys stay new.
 use Rattle.std.proofs.Common.{◌≡◌, ℕ, ◌+◌, ◌<◌, zero, suc, Bool, true, false, not, cond, ◌||◌, ◌&&◌, List, [], ◌∷◌, ◌++◌, None, Some, length, remove, refl, sym, ap, subst, ◌∙◌, arith, length-append}
-use Rattle.std.specs.Prelude.{slice_set, find, option_map, unwrap_or, position, slice_get}
+use Rattle.std.specs.Prelude.{map, slice_set, find, option_map, unwrap_or, position, slice_get}
 use Rattle.std.specs.List.{list_any, list_all, position_from}
 use Rattle.std.proofs.lemmas.List.Folds.{list_any-append}
 use Rattle.std.proofs.lemmas.List.{length-map, length-set}
@@ -14,7 +14,34 @@ use Rattle.edit_message.specs.declared.message.Message.{Message}
 use Rattle.hold_back.specs.declared.held.Held.{Held}
 use Rattle.hold_back.specs.declared.need.Need.{Need}
 use Rattle.hold_back.specs.declared.hold.TheConstants.{MAX_HELD}
-use Rattle.hold_back.specs.Hold.{is_woken, waits_for, find_held, woken_if, woken_by, waiting_at, keys_of, due_at, IsNewKey, IsHold}
+use Rattle.hold_back.specs.Hold.{is_woken, waits_for, find_held, woken_if, woken_by, waiting_at, messages_of, keys_of, due_at, IsNewKey, IsHold}
+
+-- ---- messages
+
+pub messages_woken : (need : Need) (held : List Held) → messages_of (woken_by need held) ≡ messages_of held
+messages_woken need [] = refl
+messages_woken need (h ∷ held) = elim (waits_for need h) as (λ b. (cond b (record { message = h.message; need = None }) h).message ∷ messages_of (woken_by need held) ≡ h.message ∷ messages_of held) [
+  | true ↦ ap (λ messages. h.message ∷ messages) (messages_woken need held)
+  | false ↦ ap (λ messages. h.message ∷ messages) (messages_woken need held)
+]
+
+messages_set : (held : List Held) (i : ℕ) (h : Held) → option_map (λ x. x.message) (slice_get held i) ≡ Some h.message → messages_of (slice_set held i h) ≡ messages_of held
+messages_set [] i h same = refl
+messages_set (x ∷ held) zero h same = ap (λ o. unwrap_or o h.message ∷ messages_of held) (sym same)
+messages_set (x ∷ held) (suc i) h same = ap (λ messages. x.message ∷ messages) (messages_set held i h same)
+
+pub messages_waiting : (i : ℕ) (need : Need) (held : List Held) → messages_of (waiting_at i need held) ≡ messages_of held
+messages_waiting i need held = elim (slice_get held i) as (λ x. slice_get held i ≡ x → messages_of (elim x [ Some h ↦ slice_set held i (record { message = h.message; need = Some need }) | None ↦ held ]) ≡ messages_of held) [
+  | Some h ↦ λ there. messages_set held i (record { message = h.message; need = Some need }) (ap (option_map (λ x. x.message)) there)
+  | None ↦ λ none. refl
+] refl
+
+-- as many messages as before
+length-waiting : (i : ℕ) (need : Need) (held : List Held) → length (waiting_at i need held) ≡ length held
+length-waiting i need held = elim (slice_get held i) as (λ x. length {A = Held} (elim x [ Some h ↦ slice_set held i (record { message = h.message; need = Some need }) | None ↦ held ]) ≡ length held) [
+  | Some h ↦ length-set held i (record { message = h.message; need = Some need })
+  | None ↦ refl
+]
 
 -- ---- keys
 
@@ -30,18 +57,6 @@ new_key (h ∷ held) key none = elim (key_eq (key_of h.message) key) as (λ b. k
 keys_push : (held : List Held) (h : Held) → keys_of (held ++ h ∷ []) ≡ keys_of held ++ key_of h.message ∷ []
 keys_push [] h = refl
 keys_push (x ∷ held) h = ap (λ keys. key_of x.message ∷ keys) (keys_push held h)
-
-keys_woken : (need : Need) (held : List Held) → keys_of (woken_by need held) ≡ keys_of held
-keys_woken need [] = refl
-keys_woken need (h ∷ held) = elim (waits_for need h) as (λ b. key_of (cond b (record { message = h.message; need = None }) h).message ∷ keys_of (woken_by need held) ≡ key_of h.message ∷ keys_of held) [
-  | true ↦ ap (λ keys. key_of h.message ∷ keys) (keys_woken need held)
-  | false ↦ ap (λ keys. key_of h.message ∷ keys) (keys_woken need held)
-]
-
-keys_set : (held : List Held) (i : ℕ) (h : Held) → option_map (λ x. key_of x.message) (slice_get held i) ≡ Some (key_of h.message) → keys_of (slice_set held i h) ≡ keys_of held
-keys_set [] i h same = refl
-keys_set (x ∷ held) zero h same = ap (λ o. unwrap_or o (key_of h.message) ∷ keys_of held) (sym same)
-keys_set (x ∷ held) (suc i) h same = ap (λ keys. key_of x.message ∷ keys) (keys_set held i h same)
 
 neither : (a b : Bool) → (a || b) ≡ false → (a ≡ false) × (b ≡ false)
 neither true b h = absurd (cc)
@@ -84,17 +99,14 @@ IsHold-remove held i hold within = record {
 pub IsHold-woken : (need : Need) (held : List Held) → IsHold held → IsHold (woken_by need held)
 IsHold-woken need held hold = record {
   few = let n = length-map held (woken_if need) in let few = hold.few in omega (arith, n, few);
-  distinct = subst (λ (keys : List Key). EachAfter IsNewKey keys) (sym (keys_woken need held)) hold.distinct;
+  distinct = subst (λ (keys : List Key). EachAfter IsNewKey keys) (sym (ap (map key_of) (messages_woken need held))) hold.distinct;
 }
 
 pub IsHold-waiting : (held : List Held) (i : ℕ) (need : Need) → IsHold held → IsHold (waiting_at i need held)
-IsHold-waiting held i need hold = elim (slice_get held i) as (λ x. slice_get held i ≡ x → IsHold (elim x [ Some h ↦ slice_set held i (record { message = h.message; need = Some need }) | None ↦ held ])) [
-  | Some h ↦ λ there. record {
-    few = let n = length-set held i (record { message = h.message; need = Some need }) in let few = hold.few in omega (arith, n, few);
-    distinct = subst (λ (keys : List Key). EachAfter IsNewKey keys) (sym (keys_set held i (record { message = h.message; need = Some need }) (ap (option_map (λ x. key_of x.message)) there))) hold.distinct;
-  }
-  | None ↦ λ none. hold
-] refl
+IsHold-waiting held i need hold = record {
+  few = let n = length-waiting i need held in let few = hold.few in omega (arith, n, few);
+  distinct = subst (λ (keys : List Key). EachAfter IsNewKey keys) (sym (ap (map key_of) (messages_waiting i need held))) hold.distinct;
+}
 
 -- ---- the first that is due
 

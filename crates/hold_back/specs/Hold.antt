@@ -20,6 +20,7 @@ waits_for need h = elim h.need [
   | None ↦ false
 ]
 
+-- it waits no more
 abbrev pub is_woken : Held → Bool
 is_woken h = is_none h.need
 
@@ -54,8 +55,13 @@ due_at is_due held = position (λ h. is_due h.message) held
 abbrev pub only_woken_due : (Message → Bool) → List Held → Bool
 only_woken_due is_due held = list_all (λ h. is_woken h || not (is_due h.message)) held
 
+-- the messages, in order of arrival
+abbrev pub messages_of : List Held → List Message
+messages_of held = map (λ h. h.message) held
+
+-- the keys of the messages, in order of arrival
 abbrev pub keys_of : List Held → List Key
-keys_of held = map (λ h. key_of h.message) held
+keys_of held = map key_of (messages_of held)
 
 -- why no more may be held, want of memory aside
 abbrev pub keep_fault : List Held → Option HoldFault

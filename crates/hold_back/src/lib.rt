@@ -4,11 +4,12 @@
 mod fault;
 mod held;
 mod hold;
+pub mod laws;
 mod need;
 
 pub use fault::HoldFault;
 pub use held::Held;
-pub use hold::{Due, HoldBack};
+pub use hold::{Due, HoldBack, MAX_HELD};
 pub use need::Need;
 
 #[cfg(test)]

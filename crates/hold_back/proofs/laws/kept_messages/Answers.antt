@@ -1,0 +1,5 @@
+use Rattle.hold_back.proofs.Holds.{messages_woken, messages_waiting}
+use Rattle.hold_back.proofs.laws.kept_messages.Goals as goal
+
+pub returns : goal.returns
+returns c = record { woken = messages_woken; waiting = messages_waiting }
