@@ -6,6 +6,7 @@ use Rattle.std.proofs.lemmas.List.Folds.{list_any-append}
 use Rattle.std.proofs.lemmas.List.{length-map, length-set}
 use Rattle.std.proofs.lemmas.List.Edits.{length-remove}
 use Rattle.std.proofs.lemmas.Iterator.Adapters.{position_from-zero}
+use Rattle.std.proofs.lemmas.Bool.{or_parts}
 use Rattle.element_name.specs.Growing.{EachFrom, EachAfter}
 use Rattle.element_name.proofs.EachAfterLemmas.{EachAfter-push}
 use Rattle.edit_message.specs.Message.{key_of, key_eq}
@@ -58,13 +59,9 @@ keys_push : (held : List Held) (h : Held) → keys_of (held ++ h ∷ []) ≡ key
 keys_push [] h = refl
 keys_push (x ∷ held) h = ap (λ keys. key_of x.message ∷ keys) (keys_push held h)
 
-neither : (a b : Bool) → (a || b) ≡ false → (a ≡ false) × (b ≡ false)
-neither true b h = absurd (cc)
-neither false b h = (refl, h)
-
 new_to_more : (keys : List Key) (l k : Key) → IsNewKey (keys ++ l ∷ []) k → (list_any (λ m. key_eq m k) keys ≡ false) × (list_any (λ m. key_eq m k) (l ∷ []) ≡ false)
 new_to_more keys l k new =
-    neither (list_any (λ m. key_eq m k) keys) (list_any (λ m. key_eq m k) (l ∷ [])) (sym (list_any-append (λ m. key_eq m k) keys (l ∷ [])) ∙ new)
+    or_parts (list_any (λ m. key_eq m k) keys) (list_any (λ m. key_eq m k) (l ∷ [])) (sym (list_any-append (λ m. key_eq m k) keys (l ∷ [])) ∙ new)
 
 -- what is new to a list is new to one with fewer keys
 thinner : (fewer more keys : List Key) → ((k : Key) → IsNewKey more k → IsNewKey fewer k) → EachFrom IsNewKey more keys → EachFrom IsNewKey fewer keys

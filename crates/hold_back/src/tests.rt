@@ -46,7 +46,12 @@ fn request(stamp: u64) -> Result<Message, Fail>
 }
 
 // Keeps a message that isn't held.
-fn keep<A: Abort>(rt: &A, hold: &mut HoldBack, message: Message, need: Need) -> Result<(), HoldFault>
+fn keep<A: Abort>(
+    rt: &A,
+    hold: &mut HoldBack,
+    message: Message,
+    need: Need,
+) -> Result<(), HoldFault>
     ensures { OnOk result (hold.new ≡ hold.old ++ (record { message = message; need = Some need }) ∷ []) }
 {
     assert!(rt; hold.find(message.key()).is_none());

@@ -10,10 +10,10 @@ use Rattle.hold_back.proofs.tests.woken_in_order_of_arrival.Goals as goal
 
 -- the request that waits is no entry, and both entries are woken
 only_entries_woken : (n : Name) (a b c : Message) (none one two three woken : List Held) → none ≡ []
-  → one ≡ none ++ (record { message = a; need = Some (Element n) }) ∷ []
-  → two ≡ one ++ (record { message = b; need = Some (Front 3) }) ∷ []
-  → three ≡ two ++ (record { message = c; need = Some (Front 3) }) ∷ []
-  → woken ≡ woken_by (Front 3) three → entry_in a ≡ None → only_woken_due (λ m. is_some (entry_in m)) woken ≡ true
+    → one ≡ none ++ (record { message = a; need = Some (Element n) }) ∷ []
+    → two ≡ one ++ (record { message = b; need = Some (Front 3) }) ∷ []
+    → three ≡ two ++ (record { message = c; need = Some (Front 3) }) ∷ []
+    → woken ≡ woken_by (Front 3) three → entry_in a ≡ None → only_woken_due (λ m. is_some (entry_in m)) woken ≡ true
 only_entries_woken n a b c none one two three woken e0 e1 e2 e3 e4 request =
     let x : List Held = (record { message = a; need = Some (Element n) }) ∷ [] in
     let y : List Held = (record { message = b; need = Some (Front 3) }) ∷ [] in
