@@ -1,0 +1,35 @@
+-- Joined bytes that are cut give the pieces again.
+use Rattle.std.proofs.Common.{◌≡◌, ℕ, ◌+◌, ◌≤◌, true, ◌&&◌, List, [], ◌∷◌, ◌++◌, length, take, drop, refl, sym, ap, ◌∙◌, arith}
+use Rattle.std.specs.List.{concat, list_all, sum}
+use Rattle.std.proofs.Math.Seq.{take-length}
+use Rattle.std.proofs.lemmas.List.{take-append-le, drop-append-le, take-append-drop, length-drop, length-append}
+use Rattle.std.proofs.lemmas.List.Folds.{list_all-append}
+use Rattle.std.proofs.lemmas.List.Sums.{sum_by-cons, sum_by-append}
+use Rattle.coop_request.specs.Piece.{is_piece}
+use Rattle.peer_step.specs.Text.{cut, AreSizes}
+
+pub concat_cut : (sizes bytes : List ℕ) → sum sizes ≡ length bytes → concat (cut sizes bytes) ≡ bytes
+concat_cut [] [] whole = refl
+concat_cut [] (b ∷ bytes) whole = absurd (cc)
+concat_cut (size ∷ sizes) bytes whole =
+    let n = length-drop size bytes in
+    let s = sum_by-cons (λ x. x) size sizes in
+    ap (λ rest. take size bytes ++ rest) (concat_cut sizes (drop size bytes) (omega (arith, n, s, whole))) ∙ take-append-drop size bytes
+
+pub cut_push : (sizes bytes piece : List ℕ) → sum sizes ≡ length bytes → cut (sizes ++ length piece ∷ []) (bytes ++ piece) ≡ cut sizes bytes ++ piece ∷ []
+cut_push [] [] piece whole = ap (λ p. p ∷ []) (take-length piece)
+cut_push [] (b ∷ bytes) piece whole = absurd (cc)
+cut_push (size ∷ sizes) bytes piece whole =
+    let n = length-drop size bytes in
+    let s = sum_by-cons (λ x. x) size sizes in
+    let few : size ≤ length bytes = omega (arith, s, whole) in
+    rw (take-append-le size bytes piece few, drop-append-le size bytes piece few)
+    (ap (λ rest. take size bytes ∷ rest) (cut_push sizes (drop size bytes) piece (omega (arith, n, s, whole))))
+
+pub AreSizes-push : (sizes bytes piece : List ℕ) → AreSizes sizes bytes → is_piece piece ≡ true → AreSizes (sizes ++ length piece ∷ []) (bytes ++ piece)
+AreSizes-push sizes bytes piece sizes_are piece_is = record {
+  whole = let n = sum_by-append (λ x. x) sizes (length piece ∷ []) in let m = length-append bytes piece in let whole = sizes_are.whole in omega (arith, n, m, whole);
+  pieces =
+    rw (cut_push sizes bytes piece sizes_are.whole)
+    (list_all-append is_piece (cut sizes bytes) (piece ∷ []) ∙ ap (λ b. b && (is_piece piece && true)) sizes_are.pieces ∙ ap (λ b. b && true) piece_is);
+}

@@ -1,0 +1,17 @@
+use Rattle.std.proofs.Common.{◌≡◌, ◌∙◌, ◌++◌, ◌∷◌, [], sym, ap, IsTrue}
+use Rattle.std.specs.Prelude.{string_bytes}
+use Rattle.coop_request.specs.Piece.{is_piece}
+use Rattle.peer_step.proofs.Cuts.{AreSizes-push, cut_push}
+use Rattle.peer_step.proofs.text.Text.push.Goals as goal
+
+pub invariant_of-self-2 : goal.invariant_of-self-2
+invariant_of-self-2 c =
+    let letter = c.text_of-letter.ensures ∙ c.bytes.ensures.value in
+    rw (c.in_ok-put_last.ensures.sizes, c.in_ok-put_last.ensures.joined, letter)
+    (AreSizes-push c.self.inside.sizes.items (string_bytes c.self.inside.joined) c.args.piece c.self.invariant c.bytes.ensures.piece)
+
+pub returns-clause-ok : goal.returns-clause-ok
+returns-clause-ok c =
+    let letter = c.text_of-letter.ensures ∙ c.bytes.ensures.value in
+    rw (c.in_ok-put_last.ensures.sizes, c.in_ok-put_last.ensures.joined, letter)
+    (cut_push c.self.inside.sizes.items (string_bytes c.self.inside.joined) c.args.piece c.self.invariant.whole ∙ ap (λ pieces. pieces ++ c.args.piece ∷ []) c.self.view_is)
