@@ -1,5 +1,6 @@
 -- The messages that came before what they need, in order of arrival.
-use Rattle.std.specs.Prelude.{◌≡◌, ℕ, ◌+◌, ◌≤◌, Bool, false, not, ◌||◌, List, Option, None, Some, nat_le, map, length, drop, find, position, slice_get, slice_set, option_map, is_none, if◌then◌else◌}
+use Rattle.std.specs.Prelude.{◌≡◌, ℕ, ◌+◌, ◌≤◌, Bool, false, not, ◌||◌, List, Option, None, Some, nat_le, map, length, drop, find, position}
+use Rattle.std.specs.Prelude.{slice_get, slice_set, option_map, is_none, if◌then◌else◌}
 use Rattle.std.specs.List.{list_any, list_all}
 use Rattle.edit_message.specs.Message.{key_of, key_eq}
 use Rattle.edit_message.specs.declared.message.Key.{Key}

@@ -1,5 +1,6 @@
 //! The hold.
-ghost use Rattle.std.specs.Prelude.{◌≡◌, ◌&&◌, ◌≤◌, ◌<◌, ◌++◌, [], ◌∷◌, None, Some, length, remove, slice_get, position, find, unwrap_or, option_map, IfOk, IfErr, OnOk, OnErr, IsTrue};
+ghost use Rattle.std.specs.Prelude.{◌≡◌, ◌&&◌, ◌≤◌, ◌<◌, ◌++◌, [], ◌∷◌, None, Some, length, remove, slice_get, position, find};
+ghost use Rattle.std.specs.Prelude.{unwrap_or, option_map, IfOk, IfErr, OnOk, OnErr, IsTrue};
 ghost use Rattle.std.specs.Option.{option_copied};
 ghost use Rattle.hold_back.specs.declared.fault.HoldFault.TheVariants.{NoMemory as no_memory};
 ghost use Rattle.element_name.specs.Growing.{EachAfter};
