@@ -27,9 +27,15 @@ cut_push (size ∷ sizes) bytes piece whole =
     (ap (λ rest. take size bytes ∷ rest) (cut_push sizes (drop size bytes) piece (omega (arith, n, s, whole))))
 
 pub AreSizes-push : (sizes bytes piece : List ℕ) → AreSizes sizes bytes → is_piece piece ≡ true → AreSizes (sizes ++ length piece ∷ []) (bytes ++ piece)
-AreSizes-push sizes bytes piece sizes_are piece_is = record {
-  whole = let n = sum_by-append (λ x. x) sizes (length piece ∷ []) in let m = length-append bytes piece in let whole = sizes_are.whole in omega (arith, n, m, whole);
-  pieces =
-    rw (cut_push sizes bytes piece sizes_are.whole)
-    (list_all-append is_piece (cut sizes bytes) (piece ∷ []) ∙ ap (λ b. b && (is_piece piece && true)) sizes_are.pieces ∙ ap (λ b. b && true) piece_is);
-}
+AreSizes-push sizes bytes piece sizes_are piece_is =
+    let all = list_all-append is_piece (cut sizes bytes) (piece ∷ []) in
+    record {
+      whole =
+        let n = sum_by-append (λ x. x) sizes (length piece ∷ []) in
+        let m = length-append bytes piece in
+        let whole = sizes_are.whole in
+        omega (arith, n, m, whole);
+      pieces =
+        rw (cut_push sizes bytes piece sizes_are.whole)
+        (all ∙ ap (λ b. b && (is_piece piece && true)) sizes_are.pieces ∙ ap (λ b. b && true) piece_is);
+    }

@@ -39,24 +39,24 @@ impl Text {
         }
     }
 
-    /// Puts a piece last.
+    /// Puts a piece last, in time of its bytes, but for the times when room is doubled.
     pub fn push(&mut self, piece: Piece) -> Result<(), NoMemory>
         ensures ok { OnOk result (self.new ≡ self.old ++ piece ∷ []) }
-        ensures err { OnErr result (self.new ≡ self.old) }
+        ensures unchanged { OnErr result (self.new ≡ self.old) }
     {
         let letter = text_of(piece.bytes());
         put_last(&mut self.joined, &mut self.sizes, letter)?;
         Ok(())
     }
 
-    /// The bytes of its pieces, in order.
+    /// The bytes of its pieces, in order. Takes no memory, and the same time whatever the length.
     pub fn as_str(&self) -> &str
         ensures { result.now ≡ concat self.now }
     {
         self.joined.as_str()
     }
 
-    /// A text that equals this one.
+    /// A text that equals this one. Takes time in the number of bytes.
     pub fn copied(&self) -> Result<Text, NoMemory>
         ensures { IfOk result (λ c. c ≡ self.now) }
     {

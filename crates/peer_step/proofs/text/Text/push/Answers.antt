@@ -13,5 +13,6 @@ invariant_of-self-2 c =
 pub returns-clause-ok : goal.returns-clause-ok
 returns-clause-ok c =
     let letter = c.text_of-letter.ensures ∙ c.bytes.ensures.value in
+    let cut_again = cut_push c.self.inside.sizes.items (string_bytes c.self.inside.joined) c.args.piece c.self.invariant.whole in
     rw (c.in_ok-put_last.ensures.sizes, c.in_ok-put_last.ensures.joined, letter)
-    (cut_push c.self.inside.sizes.items (string_bytes c.self.inside.joined) c.args.piece c.self.invariant.whole ∙ ap (λ pieces. pieces ++ c.args.piece ∷ []) c.self.view_is)
+    (cut_again ∙ ap (λ pieces. pieces ++ c.args.piece ∷ []) c.self.view_is)
