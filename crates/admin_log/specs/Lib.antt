@@ -1,3 +1,4 @@
 pub mod Log
 pub mod Kept
 pub mod Laws
+pub mod Samples
