@@ -33,7 +33,7 @@ messages_woken need (h ∷ held) =
     ap (λ m. m ∷ messages_of (woken_by need held)) (message_woken need h) ∙ ap (λ messages. h.message ∷ messages) (messages_woken need held)
 
 messages_set : (held : List Held) (i : ℕ) (h : Held) → option_map (λ x. x.message) (slice_get held i) ≡ Some h.message
-  → messages_of (slice_set held i h) ≡ messages_of held
+    → messages_of (slice_set held i h) ≡ messages_of held
 messages_set [] i h same = refl
 messages_set (x ∷ held) zero h same = ap (λ o. unwrap_or o h.message ∷ messages_of held) (sym same)
 messages_set (x ∷ held) (suc i) h same = ap (λ messages. x.message ∷ messages) (messages_set held i h same)
@@ -41,9 +41,9 @@ messages_set (x ∷ held) (suc i) h same = ap (λ messages. x.message ∷ messag
 pub messages_waiting : (i : ℕ) (need : Need) (held : List Held) → messages_of (waiting_at i need held) ≡ messages_of held
 messages_waiting i need held = elim (slice_get held i) as (λ x. slice_get held i ≡ x
     → messages_of (elim x [ Some h ↦ slice_set held i (record { message = h.message; need = Some need }) | None ↦ held ]) ≡ messages_of held) [
-  | Some h ↦ λ there. messages_set held i (record { message = h.message; need = Some need }) (ap (option_map (λ x. x.message)) there)
-  | None ↦ λ none. refl
-] refl
+      | Some h ↦ λ there. messages_set held i (record { message = h.message; need = Some need }) (ap (option_map (λ x. x.message)) there)
+      | None ↦ λ none. refl
+    ] refl
 
 -- ---- keys
 
@@ -51,18 +51,18 @@ new_key : (held : List Held) (key : Key) → find_held key held ≡ None → IsN
 new_key [] key none = refl
 new_key (h ∷ held) key none = elim (key_eq (key_of h.message) key) as (λ b. key_eq (key_of h.message) key ≡ b
     → list_any (λ k. key_eq k key) (key_of h.message ∷ keys_of held) ≡ false) [
-  | true ↦ λ same. absurd (cc)
-  | false ↦ λ other.
-      let found = λ (b : Bool). option_map (λ (x : Held). x.message) (cond b (Some h) (find (λ x. key_eq (key_of x.message) key) held)) in
-      ap (λ b. b || list_any (λ k. key_eq k key) (keys_of held)) other ∙ new_key held key (ap found (sym other) ∙ none)
-] refl
+      | true ↦ λ same. absurd (cc)
+      | false ↦ λ other.
+          let found = λ (b : Bool). option_map (λ (x : Held). x.message) (cond b (Some h) (find (λ x. key_eq (key_of x.message) key) held)) in
+          ap (λ b. b || list_any (λ k. key_eq k key) (keys_of held)) other ∙ new_key held key (ap found (sym other) ∙ none)
+    ] refl
 
 keys_push : (held : List Held) (h : Held) → keys_of (held ++ h ∷ []) ≡ keys_of held ++ key_of h.message ∷ []
 keys_push [] h = refl
 keys_push (x ∷ held) h = ap (λ keys. key_of x.message ∷ keys) (keys_push held h)
 
 new_to_more : (keys : List Key) (l k : Key) → IsNewKey (keys ++ l ∷ []) k
-  → (list_any (λ m. key_eq m k) keys ≡ false) × (list_any (λ m. key_eq m k) (l ∷ []) ≡ false)
+    → (list_any (λ m. key_eq m k) keys ≡ false) × (list_any (λ m. key_eq m k) (l ∷ []) ≡ false)
 new_to_more keys l k new =
     let joined = list_any-append (λ m. key_eq m k) keys (l ∷ []) in
     or_parts (list_any (λ m. key_eq m k) keys) (list_any (λ m. key_eq m k) (l ∷ [])) (sym joined ∙ new)
@@ -88,7 +88,7 @@ without_one front (h ∷ held) (suc i) each = (each.0, without_one (front ++ key
 -- ---- holds
 
 pub IsHold-keep : (held : List Held) (h : Held) → IsHold held → find_held (key_of h.message) held ≡ None → length held < MAX_HELD
-  → IsHold (held ++ h ∷ [])
+    → IsHold (held ++ h ∷ [])
 IsHold-keep held h hold none room =
     let each = EachAfter-push IsNewKey (keys_of held) (key_of h.message) hold.distinct (new_key held (key_of h.message) none) in
     record {
@@ -106,11 +106,11 @@ IsHold-remove held i hold within = record {
 same_messages : (held others : List Held) → messages_of others ≡ messages_of held → IsHold held → IsHold others
 same_messages held others same hold = record {
   few =
-    let n = ap (length {A = Message}) same in
-    let a = length-map others (λ h. h.message) in
-    let b = length-map held (λ h. h.message) in
-    let few = hold.few in
-    omega (arith, n, a, b, few);
+      let n = ap (length {A = Message}) same in
+      let a = length-map others (λ h. h.message) in
+      let b = length-map held (λ h. h.message) in
+      let few = hold.few in
+      omega (arith, n, a, b, few);
   distinct = subst (λ (keys : List Key). EachAfter IsNewKey keys) (sym (ap (map key_of) same)) hold.distinct;
 }
 
@@ -133,7 +133,7 @@ also_woken false true h = absurd (cc)
 also_woken false false h = refl
 
 due_from : (due : Message → Bool) (i : ℕ) (held : List Held) → only_woken_due due held ≡ true
-  → position_from (λ h. is_woken h && due h.message) i held ≡ position_from (λ h. due h.message) i held
+    → position_from (λ h. is_woken h && due h.message) i held ≡ position_from (λ h. due h.message) i held
 due_from due i [] only = refl
 due_from due i (h ∷ held) only =
     let both = both_true (is_woken h || not (due h.message)) (only_woken_due due held) only in
@@ -142,6 +142,6 @@ due_from due i (h ∷ held) only =
 
 -- where none that waits is due, the first woken one that is due is the first that is
 pub first_woken_due_is : (due : Message → Bool) (held : List Held) → only_woken_due due held ≡ true
-  → position (λ h. is_woken h && due h.message) held ≡ due_at due held
+    → position (λ h. is_woken h && due h.message) held ≡ due_at due held
 first_woken_due_is due held only =
     position_from-zero (λ h. is_woken h && due h.message) held ∙ due_from due 0 held only ∙ sym (position_from-zero (λ h. due h.message) held)

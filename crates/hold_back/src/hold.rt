@@ -83,7 +83,7 @@ impl HoldBack {
         Some(&held.message)
     }
 
-    /// Puts a message last, waiting under its need.
+    /// Puts a message last, waiting under its need, in constant time but for the times when room is doubled.
     pub fn keep(&mut self, message: Message, need: Need) -> Result<(), HoldFault>
         requires new { find_held (key_of message) self.old ≡ None }
         ensures room { OnOk result (keep_fault self.old ≡ None) }
@@ -114,7 +114,7 @@ impl HoldBack {
         set_need(&mut self.held, i as usize, need);
     }
 
-    /// The least place at or above `from` whose message is woken.
+    /// The least place at or above `from` whose message is woken. Takes time in the number of messages from there on.
     pub fn woken(&self, from: u32) -> Option<u32>
         ensures { result ≡ woken_from from self.now }
     {
@@ -123,7 +123,7 @@ impl HoldBack {
         Some(from + k as u32)
     }
 
-    /// The place of the earliest message that is due. Only woken messages are asked about.
+    /// The place of the earliest message that is due. Only woken messages are asked about, each at most once.
     pub fn first_due<T: Due>(&self, test: &T) -> Option<u32>
         requires { IsTrue (only_woken_due (T.is_due test.now) self.now) }
         ensures { result ≡ due_at (T.is_due test.now) self.now }

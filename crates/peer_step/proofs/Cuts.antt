@@ -31,11 +31,11 @@ AreSizes-push sizes bytes piece sizes_are piece_is =
     let all = list_all-append is_piece (cut sizes bytes) (piece ∷ []) in
     record {
       whole =
-        let n = sum_by-append (λ x. x) sizes (length piece ∷ []) in
-        let m = length-append bytes piece in
-        let whole = sizes_are.whole in
-        omega (arith, n, m, whole);
+          let n = sum_by-append (λ x. x) sizes (length piece ∷ []) in
+          let m = length-append bytes piece in
+          let whole = sizes_are.whole in
+          omega (arith, n, m, whole);
       pieces =
-        rw (cut_push sizes bytes piece sizes_are.whole)
-        (all ∙ ap (λ b. b && (is_piece piece && true)) sizes_are.pieces ∙ ap (λ b. b && true) piece_is);
+          rw (cut_push sizes bytes piece sizes_are.whole)
+          (all ∙ ap (λ b. b && (is_piece piece && true)) sizes_are.pieces ∙ ap (λ b. b && true) piece_is);
     }
