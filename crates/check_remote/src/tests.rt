@@ -30,7 +30,7 @@ impl Places for Alone {
     }
 }
 
-// What is done about user 1, and to the request 1.1.
+// What is done about user 1, and to his one request.
 #[derive(Clone, Copy, Debug)]
 enum Step {
     Join,
