@@ -1,0 +1,4 @@
+pub mod Journals
+pub mod Histories
+pub mod Stable
+pub mod Sets

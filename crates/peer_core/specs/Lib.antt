@@ -1,0 +1,3 @@
+pub mod Peer
+pub mod Sound
+pub mod Laws
