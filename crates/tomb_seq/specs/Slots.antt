@@ -12,9 +12,17 @@ names_in slots = map (λ s. s.name) slots
 abbrev pub shown_in : List Slot → List Name
 shown_in slots = names_in (filter (λ s. s.shows) slots)
 
+-- an element, marked as the test says
+abbrev pub slot_by : (Name → Bool) → Name → Slot
+slot_by test n = record { name = n; shows = test n }
+
 -- these names, each marked as the test says
 abbrev pub slots_by : (Name → Bool) → List Name → List Slot
-slots_by test names = map {A = Name} {B = Slot} (λ n. record { name = n; shows = test n }) names
+slots_by test names = map (slot_by test) names
+
+-- marked anew, as the test says
+abbrev pub marked_by : (Name → Bool) → Slot → Slot
+marked_by test s = slot_by test s.name
 
 -- with a new element at its place, which doesn't show
 abbrev pub with_new : List Slot → Name → Name → List Slot

@@ -5,10 +5,12 @@ mod fault;
 pub mod laws;
 mod places;
 mod seq;
+mod shows;
 mod slot;
 
 pub use fault::SeqFault;
 pub use seq::TombSeq;
+pub use shows::Shows;
 
 #[cfg(test)]
 mod tests;

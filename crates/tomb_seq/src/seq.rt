@@ -1,5 +1,5 @@
 //! The sequence.
-ghost use Rattle.std.specs.Prelude.{◌≡◌, ◌<◌, ◌≤◌, [], length, true, false, None, IsTrue, IfOk, IfErr, OnOk, OnErr, slice_get, unwrap_or};
+ghost use Rattle.std.specs.Prelude.{◌≡◌, ◌<◌, ◌≤◌, [], length, true, false, None, IsTrue, IfOk, IfErr, OnOk, OnErr, slice_get, unwrap_or, filter};
 ghost use Rattle.element_name.specs.Cases.{when};
 ghost use Rattle.element_name.specs.Name.{has_name};
 ghost use Rattle.element_name.specs.Places.{is_anchor, place_in};
@@ -7,9 +7,10 @@ ghost use Rattle.element_name.specs.Tree.{skip, with_fresh};
 ghost use Rattle.tomb_seq.specs.declared.fault.SeqFault.TheVariants.{NoMemory};
 ghost use Rattle.tomb_seq.specs.Insert.{insert_fault};
 ghost use Rattle.tomb_seq.specs.Order.{KeepsOrder};
-ghost use Rattle.tomb_seq.specs.Slots.{IsSeq, names_in, shown_in, with_new, with_mark, without_slot, without_name};
+ghost use Rattle.tomb_seq.specs.Slots.{IsSeq, names_in, shown_in, with_new, with_mark, without_slot, without_name, slots_by};
 
 use crate::fault::SeqFault;
+use crate::shows::Shows;
 use crate::slot::{self, Slot};
 use element_name::Name;
 use std::alloc::Global;
@@ -123,6 +124,15 @@ impl TombSeq {
     {
         let place = slot::place_in(&self.slots, name);
         self.slots[place].shows = shows;
+    }
+
+    /// Marks every element anew, as the test says, which is asked once of each. Takes no memory.
+    pub fn mark_each<T: Shows>(&mut self, test: &T)
+        ensures slots { self.new ≡ slots_by (T.is_shown test.now) (names_in self.old) }
+        ensures names { names_in self.new ≡ names_in self.old }
+        ensures shown { shown_in self.new ≡ filter (T.is_shown test.now) (names_in self.old) }
+    {
+        slot::mark_each(&mut self.slots, test);
     }
 
     /// How many elements show.

@@ -1,14 +1,15 @@
 //! Elements with their marks, one after another.
-ghost use Rattle.std.specs.Prelude.{◌≡◌, ◌≤◌, ◌<◌, IsTrue, count_by, drop, length, slice_get};
+ghost use Rattle.std.specs.Prelude.{◌≡◌, ◌≤◌, ◌<◌, IsTrue, count_by, drop, length, map, slice_get};
 ghost use Rattle.element_name.specs.Cases.{when};
 ghost use Rattle.std.specs.List.{list_any, position_or_len, prefix_len};
 ghost use Rattle.element_name.specs.Name.{name_eq, name_lt, has_name};
 ghost use Rattle.element_name.specs.Places.{is_anchor, place_in};
 ghost use Rattle.element_name.specs.Tree.{after_anchor, skip};
 ghost use Rattle.tomb_seq.specs.Insert.{insert_fault};
-ghost use Rattle.tomb_seq.specs.Slots.{names_in, shown_in};
+ghost use Rattle.tomb_seq.specs.Slots.{names_in, shown_in, marked_by};
 
 use crate::fault::SeqFault;
+use crate::shows::Shows;
 use element_name::Name;
 
 /// An element, and whether it shows.
@@ -16,6 +17,24 @@ use element_name::Name;
 pub struct Slot {
     pub name: Name,
     pub shows: bool,
+}
+
+impl Slot {
+    // Marked as the test says.
+    fn mark_by<T: Shows>(&mut self, test: &T)
+        ensures { self.new ≡ marked_by (T.is_shown test.now) self.old }
+    {
+        self.shows = test.shows(self.name);
+    }
+}
+
+/// Marks each element as the test says.
+pub fn mark_each<T: Shows>(slots: &mut Vec<Slot>, test: &T)
+    ensures { slots.new.items ≡ map (marked_by (T.is_shown test.now)) slots.old.items }
+{
+    for s in slots.iter_mut() {
+        s.mark_by(test);
+    }
 }
 
 /// Whether the name is an element's.

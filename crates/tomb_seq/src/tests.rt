@@ -1,7 +1,7 @@
 //! What no clause says: orders of arrival by example, which fault comes first, and texts sorted by paths.
 ghost use Rattle.std.specs.Prelude.{◌<◌};
 
-use crate::{SeqFault, TombSeq};
+use crate::{SeqFault, Shows, TombSeq};
 use element_name::{Name, Places};
 use std::alloc::{AllocError, Global};
 use std::cmp::Ordering;
@@ -81,6 +81,19 @@ fn faults_in_their_order(rt: HostRuntime) -> Result<(), Fail> {
     Ok(())
 }
 
+// The names above one.
+struct Above(Name);
+
+impl Shows for Above {
+    ghost use Rattle.element_name.specs.Name.{name_lt};
+
+    ghost is_shown = { λ above n. name_lt above.0 n };
+
+    fn shows(&self, name: Name) -> bool {
+        self.0 < name
+    }
+}
+
 #[test]
 fn marks(rt: HostRuntime) -> Result<(), Fail> {
     let (a, b, c) = (name(1, 0), name(2, 0), name(3, 0));
@@ -103,6 +116,10 @@ fn marks(rt: HostRuntime) -> Result<(), Fail> {
     assert!(rt; seq.has(c));
     seq.mark(c, false);
     assert_eq!(rt; (seq.shown(), seq.shown_at(0)), (0, None));
+    seq.mark_each(&Above(name(1, 0)));
+    assert_eq!(rt; seq.shown(), 2);
+    seq.mark_each(&Above(c));
+    assert_eq!(rt; seq.shown(), 0);
     Ok(())
 }
 
