@@ -1,3 +1,4 @@
 pub mod Message
 pub mod Formed
 pub mod Missing
+pub mod Same

@@ -2,6 +2,7 @@
 ghost use Rattle.std.specs.Prelude.{◌≡◌, ◌↔◌, IfOk, IsTrue};
 ghost use Rattle.edit_message.specs.Message.{key_of};
 ghost use Rattle.edit_message.specs.Formed.{is_message, is_request, is_edit};
+ghost use Rattle.edit_message.specs.Same.{message_eq};
 ghost use Rattle.policy_book.specs.Lists.{is_name};
 
 use coop_request::{Edit, Request};
@@ -50,7 +51,8 @@ impl Message {
 
     /// Whether the other equals this one.
     pub fn same(&self, other: &Message) -> bool
-        ensures { IsTrue result ↔ (self.now ≡ other.now) }
+        ensures equality { IsTrue result ↔ (self.now ≡ other.now) }
+        ensures test { result ≡ message_eq self.now other.now }
     {
         match (self, other) {
             (Message::Coop(a), Message::Coop(b)) => is_same_request(*a, *b),
