@@ -28,6 +28,8 @@ paired : {A B C : Type 0} {a a' : A} {b b' : B} (make : A → B → C) (x y : Bo
     → (make a b ≡ make a' b' → (a ≡ a') × (b ≡ b')) → Decides (x && y) (make a b ≡ make a' b')
 paired make x y first second parts = Decides-like (x && y) (λ e i. make (e.0 i) (e.1 i)) parts (Decides-and x y first second)
 
+-- ---- each comparison says whether its two values are equal
+
 name_Decides : (a b : Name) → Decides (name_eq a b) (a ≡ b)
 name_Decides a b = (same_name a b, λ e. subst (λ n. name_eq a n ≡ true) e (name_eq-refl a))
 
@@ -40,7 +42,7 @@ edit_Decides (Delete target) (Delete target') = Decides-like _ (ap Delete) (λ e
 edit_Decides (Update target letter) (Update target' letter') = paired Update _ _ (name_Decides target target') (bytes_eq-Decides letter letter') (λ e. (cc, cc))
 edit_Decides a b = (λ h. absurd (cc), λ e. absurd (cc))
 
-pub request_Decides : (a b : Request) → Decides (request_eq a b) (a ≡ b)
+request_Decides : (a b : Request) → Decides (request_eq a b) (a ≡ b)
 request_Decides a b = Decides-like _
     (λ (e : (a.id ≡ b.id) × ((a.version ≡ b.version) × (a.edit ≡ b.edit))) i. record { id = e.0 i; version = e.1.0 i; edit = e.1.1 i })
     (λ e. (ap (λ q. q.id) e, (ap (λ q. q.version) e, ap (λ q. q.edit) e)))
@@ -67,11 +69,9 @@ rights_Decides a b = Decides-like _
 
 auth_Decides : (a b : Auth) → Decides (auth_eq a b) (a ≡ b)
 auth_Decides a b = Decides-like _
-    (λ (e : (a.users ≡ b.users) × ((a.rights ≡ b.rights) × ((a.objects ≡ b.objects) × (a.grant ≡ b.grant)))) i.
-    record { users = e.0 i; rights = e.1.0 i; objects = e.1.1.0 i; grant = e.1.1.1 i })
+    (λ (e : (a.users ≡ b.users) × ((a.rights ≡ b.rights) × ((a.objects ≡ b.objects) × (a.grant ≡ b.grant)))) i. record { users = e.0 i; rights = e.1.0 i; objects = e.1.1.0 i; grant = e.1.1.1 i })
     (λ e. (ap (λ x. x.users) e, (ap (λ x. x.rights) e, (ap (λ x. x.objects) e, ap (λ x. x.grant) e))))
-    (Decides-and _ _ (users_Decides a.users b.users)
-    (Decides-and _ _ (rights_Decides a.rights b.rights) (Decides-and _ _ (bytes_eq-Decides a.objects b.objects) (booleans_Decides a.grant b.grant))))
+    (Decides-and _ _ (users_Decides a.users b.users) (Decides-and _ _ (rights_Decides a.rights b.rights) (Decides-and _ _ (bytes_eq-Decides a.objects b.objects) (booleans_Decides a.grant b.grant))))
 
 op_Decides : (a b : AdminOp) → Decides (op_eq a b) (a ≡ b)
 op_Decides (AddUser user) (AddUser user') = Decides-like _ (ap AddUser) (λ e. cc) (Decides-eqb user user')
