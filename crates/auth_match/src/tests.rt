@@ -1,6 +1,5 @@
 //! What no clause says: policies made by operations, and the verdicts on them, by tables worked out by hand.
-use crate::row::{Row, decided};
-use crate::{Judged, Verdict};
+use crate::{Judged, Row, Verdict, decide};
 use coop_request::Right;
 use element_name::Name;
 use policy_book::{AdminOp, Auth, Extent, NameList, NumList, Policy, Rights, UserSet};
@@ -43,6 +42,21 @@ fn policy_after(alloc: Global, ops: &[AdminOp]) -> Result<Policy, Fail> {
         policy.apply(version, op)?;
     }
     Ok(policy)
+}
+
+// The verdict, if it may be asked for.
+fn decided(
+    policy: &Policy,
+    user: u16,
+    right: Right,
+    judged: Judged,
+    text: &Row,
+) -> Option<Verdict> {
+    if judged.may_be_judged(text) {
+        Some(decide(policy, user, right, judged, text))
+    } else {
+        None
+    }
 }
 
 const DENIED: Option<Verdict> = Some(Verdict::Denied { by: None });

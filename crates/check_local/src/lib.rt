@@ -6,6 +6,4 @@ mod check;
 pub use check::{LocalVerdict, check_local};
 
 #[cfg(test)]
-mod row;
-#[cfg(test)]
 mod tests;

@@ -1,7 +1,7 @@
 //! What no clause says: the verdicts on a span's ends, and before there is any authorization.
-use crate::LocalVerdict;
-use crate::row::{Row, checked};
-use auth_match::Judged;
+use crate::{LocalVerdict, check_local};
+use auth_match::{Judged, Row};
+use coop_request::Right;
 use element_name::Name;
 use policy_book::{AdminOp, Auth, Extent, NumList, Policy, Rights, UserSet};
 use std::alloc::Global;
@@ -21,6 +21,21 @@ fn added(alloc: Global) -> Result<AdminOp, Fail> {
         grant: true,
     };
     Ok(AdminOp::AddAuth(0, auth))
+}
+
+// The verdict on an insert, if it may be asked for.
+fn checked(
+    policy: &Policy,
+    version: u32,
+    user: u16,
+    judged: Judged,
+    text: &Row,
+) -> Option<LocalVerdict> {
+    if judged.may_be_judged(text) {
+        Some(check_local(policy, version, user, Right::Insert, judged, text))
+    } else {
+        None
+    }
 }
 
 #[test]

@@ -1,34 +1,13 @@
 //! What no clause says: that the check goes well where there is memory, on logs worked out by hand.
 use crate::check_remote;
 use admin_log::AdminLog;
+use auth_match::Row;
 use coop_request::{Edit, Piece, Request};
 use element_name::{Name, Places};
 use policy_book::{AdminOp, Auth, Entry, NumList, Rights, UserSet};
 use request_state::State;
 use std::alloc::Global;
 use std::test::Fail;
-
-// One element alone.
-#[derive(Drop)]
-struct Alone(Name);
-
-impl Places for Alone {
-    ghost use Rattle.std.specs.Prelude.{[], ◌∷◌};
-
-    ghost names = { λ p. p.0 ∷ [] };
-
-    fn has(&self, n: Name) -> bool {
-        n == self.0
-    }
-
-    fn before(&self, _a: Name, _b: Name) -> bool {
-        false
-    }
-
-    fn fresh_before(&self, fresh: Name, after: Name, _b: Name) -> bool {
-        after == Name::start() && fresh >= self.0
-    }
-}
 
 // What is done about user 1, and to his one request.
 #[derive(Clone, Copy, Debug)]
@@ -122,7 +101,8 @@ fn states_over_whole_logs(rt: HostRuntime) -> Result<(), Fail> {
     for (steps, version, state) in rows {
         let log = log_of(alloc, steps, id)?;
         let request = first_letter(id, version)?;
-        let places = Alone(request.element());
+        let names = [request.element()];
+        let places = Row::of(&names).ok_or("one name")?;
         assert!(rt; request.version() <= log.len() && places.has(request.element()));
         assert_eq!(rt;
             check_remote(&log, request, &places)?,

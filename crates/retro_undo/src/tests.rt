@@ -4,37 +4,15 @@ ghost use Rattle.coop_request.specs.Edit.{is_insert};
 ghost use Rattle.policy_book.specs.Reach.{is_reached};
 
 use crate::sweep_reach;
-use auth_match::{Judged, Verdict, decide};
+use auth_match::{Judged, Row, Verdict, decide};
 use coop_request::{Edit, Piece, Request};
 use elem_show::{Cell, ElemTable};
-use element_name::{Name, Places};
+use element_name::Name;
 use policy_book::{AdminOp, Policy, Reach};
 use request_state::{State, StateTable};
 use std::alloc::Global;
 use std::process::Abort;
 use std::test::Fail;
-
-// One element alone.
-#[derive(Drop)]
-struct Alone(Name);
-
-impl Places for Alone {
-    ghost use Rattle.std.specs.Prelude.{[], ◌∷◌};
-
-    ghost names = { λ p. p.0 ∷ [] };
-
-    fn has(&self, n: Name) -> bool {
-        n == self.0
-    }
-
-    fn before(&self, _a: Name, _b: Name) -> bool {
-        false
-    }
-
-    fn fresh_before(&self, fresh: Name, after: Name, _b: Name) -> bool {
-        after == Name::start() && fresh >= self.0
-    }
-}
 
 fn is_within(reach: Reach, user: u16) -> bool
     ensures { result ≡ is_reached reach user }
@@ -62,7 +40,8 @@ fn swept(
     let mut table = ElemTable::new(alloc);
     table.add(insert)?;
     table.grant(insert)?;
-    let places = Alone(insert.element());
+    let names = [insert.element()];
+    let places = Row::of(&names).ok_or("one name")?;
     let judged = Judged::There(insert.element());
     let verdict = decide(policy, insert.user(), insert.right(), judged, &places);
     assert!(rt; is_within(reach, insert.user()) || verdict == Verdict::Granted);
