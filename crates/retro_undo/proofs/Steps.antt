@@ -1,6 +1,7 @@
 -- A walk along the Tentative requests of a line.
 use Rattle.std.proofs.Common.{◌≡◌, ℕ, ◌+◌, ◌<◌, ◌≤◌, ⊎_elim, Bool, true, false, cond, ◌&&◌, ◌||◌, List, [], ◌∷◌, length, None, Some, refl, sym, ap, subst, ◌∙◌, arith}
 use Rattle.std.specs.Prelude.{find, count_by, slice_get, take, ◌++◌, ◌==◌}
+use Rattle.std.specs.Int.{from_bool}
 use Rattle.std.specs.declared.option.Option.{Option}
 use Rattle.std.specs.Option.{option_map}
 use Rattle.std.specs.List.{list_any, AllByRecursion}
@@ -36,6 +37,14 @@ waiting_count above table = count_by (λ k. is_tentative k.state && name_lt abov
 -- 1 where it holds
 abbrev pub one_if : Bool → ℕ
 one_if b = cond b 1 0
+
+-- as code counts it
+pub one_counted : (judged holds : Bool) (n : ℕ) → n ≡ from_bool judged → judged ≡ holds → n ≡ one_if holds
+one_counted judged holds n counted same = counted ∙ by judged ∙ ap one_if same
+  where
+    by : (b : Bool) → from_bool b ≡ one_if b
+    by true = refl
+    by false = refl
 
 -- what a walk looks for
 abbrev pub is_next : Line → Name → Kept → Bool
@@ -321,13 +330,17 @@ module _ (names : List Name) (p : Policy) (version : ℕ) where
 
   -- ---- those within the reach
 
-  pub states_reached : (reach : Reach) (table : List Kept) → are_reached reach names p table ≡ true
-      → states_after_in (λ q. is_reached reach (user_of q)) names p version table ≡ states_after names p version table
-  states_reached reach table h = states_same names p version (λ q. is_reached reach (user_of q)) (λ q. true) table (within_reach names p version reach table h)
+  pub states_reached : (reach this : Reach) (table : List Kept) → reach ≡ this → are_reached reach names p table ≡ true
+      → states_after_in (λ q. is_reached this (user_of q)) names p version table ≡ states_after names p version table
+  states_reached reach this table is h =
+      states_same names p version (λ q. is_reached this (user_of q)) (λ q. true) table
+      (within_reach names p version this table (subst (λ r. are_reached r names p table ≡ true) is h))
 
-  pub undone_reached : (reach : Reach) (table : List Kept) → are_reached reach names p table ≡ true
-      → undone_in (λ q. is_reached reach (user_of q)) names p table ≡ undone_count names p table
-  undone_reached reach table h = undone_same names p version (λ q. is_reached reach (user_of q)) (λ q. true) table (within_reach names p version reach table h)
+  pub undone_reached : (reach this : Reach) (table : List Kept) → reach ≡ this → are_reached reach names p table ≡ true
+      → undone_in (λ q. is_reached this (user_of q)) names p table ≡ undone_count names p table
+  undone_reached reach this table is h =
+      undone_same names p version (λ q. is_reached this (user_of q)) (λ q. true) table
+      (within_reach names p version this table (subst (λ r. are_reached r names p table ≡ true) is h))
 
   -- ---- as a walk has it
 

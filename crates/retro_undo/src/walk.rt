@@ -66,9 +66,7 @@ pub(crate) fn sweep_line<P: Places>(
     let mut above = below_all(states);
     while let Some(request) = next(states, line, above) {
         above = request.id();
-        if judge(request, policy, version, states, table, places) {
-            count += 1;
-        }
+        count += u32::from(judge(request, policy, version, states, table, places));
     }
     count
 }

@@ -4,7 +4,7 @@ use Rattle.request_state.specs.declared.kept.Kept.{Kept}
 use Rattle.retro_undo.specs.Undo.{have_elements}
 use Rattle.retro_undo.specs.Part.{is_in, is_above, is_named, states_after_in, undone_in}
 use Rattle.retro_undo.proofs.Parts.{few_undone, elements_after}
-use Rattle.retro_undo.proofs.Steps.{one_if, next_kept, kept_element, states_at_start, undone_at_start, states_at_end, undone_at_end, walk_smaller, walk_states, walk_count}
+use Rattle.retro_undo.proofs.Steps.{one_counted, next_kept, kept_element, states_at_start, undone_at_start, states_at_end, undone_at_end, walk_smaller, walk_states, walk_count}
 use Rattle.retro_undo.proofs.walk.sweep_line.Goals as goal
 
 pub loop-request-init : goal.loop-request-init
@@ -39,39 +39,15 @@ overflow_add-count g c =
     let names = g.P.Places.names c.args.places.now in
     let p = c.args.policy.now in
     let few = few_undone names p c.args.version (is_in c.args.line) c.args.states.now in
-    let denied = sym c.judge.ensures.undone ∙ c.if-judge.true in
     let step = walk_count names p c.args.version c.args.line c.loop-request.above c.id-above.result c.in-Some.request c.loop-request.states c.judge.new.states
     c.next.ensures.in_order (sym c.next.ensures.found ∙ c.in-Some.is) c.id-above.ensures.value c.judge.ensures.states in
-    let one = ap one_if denied in
+    let one = one_counted _ _ _ c.from-count.ensures c.judge.ensures.undone in
     omega (arith, few, step, one, c.loop-request.invariant.count, c.requires.few)
-
-pub loop-request-smaller-then-judge : goal.loop-request-smaller-then-judge
-loop-request-smaller-then-judge g c =
-    walk_smaller (g.P.Places.names c.args.places.now) c.args.policy.now c.args.version c.args.line c.loop-request.above c.id-above.result c.in-Some.request c.loop-request.states c.judge.new.states
-    c.next.ensures.in_order (sym c.next.ensures.found ∙ c.in-Some.is) c.id-above.ensures.value c.judge.ensures.states
 
 pub loop-request-smaller : goal.loop-request-smaller
 loop-request-smaller g c =
     walk_smaller (g.P.Places.names c.args.places.now) c.args.policy.now c.args.version c.args.line c.loop-request.above c.id-above.result c.in-Some.request c.loop-request.states c.judge.new.states
     c.next.ensures.in_order (sym c.next.ensures.found ∙ c.in-Some.is) c.id-above.ensures.value c.judge.ensures.states
-
-pub loop-request-preserved-then-judge : goal.loop-request-preserved-then-judge
-loop-request-preserved-then-judge g c =
-    let names = g.P.Places.names c.args.places.now in
-    let p = c.args.policy.now in
-    let found = sym c.next.ensures.found ∙ c.in-Some.is in
-    let step = walk_count names p c.args.version c.args.line c.loop-request.above c.id-above.result c.in-Some.request c.loop-request.states c.judge.new.states
-    c.next.ensures.in_order found c.id-above.ensures.value c.judge.ensures.states in
-    let one = ap one_if (sym c.judge.ensures.undone ∙ c.if-judge.true) in
-    record {
-      states = c.loop-request.invariant.states
-          ∙ walk_states names p c.args.version c.args.line c.loop-request.above c.id-above.result c.in-Some.request c.loop-request.states c.judge.new.states
-          c.next.ensures.in_order found c.id-above.ensures.value c.judge.ensures.states;
-      count = omega (arith, step, one, c.loop-request.invariant.count);
-      cells = λ requests shown. c.judge.ensures.cells requests (c.loop-request.invariant.cells requests shown);
-      elements = ap (λ (t : List Kept). have_elements names t) c.judge.ensures.states
-          ∙ elements_after names p c.args.version (is_named c.in-Some.request.id) c.loop-request.states ∙ c.loop-request.invariant.elements;
-    }
 
 pub loop-request-preserved : goal.loop-request-preserved
 loop-request-preserved g c =
@@ -80,12 +56,12 @@ loop-request-preserved g c =
     let found = sym c.next.ensures.found ∙ c.in-Some.is in
     let step = walk_count names p c.args.version c.args.line c.loop-request.above c.id-above.result c.in-Some.request c.loop-request.states c.judge.new.states
     c.next.ensures.in_order found c.id-above.ensures.value c.judge.ensures.states in
-    let none = ap one_if (sym c.judge.ensures.undone ∙ c.if-judge.false) in
+    let one = one_counted _ _ _ c.from-count.ensures c.judge.ensures.undone in
     record {
       states = c.loop-request.invariant.states
           ∙ walk_states names p c.args.version c.args.line c.loop-request.above c.id-above.result c.in-Some.request c.loop-request.states c.judge.new.states
           c.next.ensures.in_order found c.id-above.ensures.value c.judge.ensures.states;
-      count = omega (arith, step, none, c.loop-request.invariant.count);
+      count = omega (arith, step, one, c.loop-request.invariant.count);
       cells = λ requests shown. c.judge.ensures.cells requests (c.loop-request.invariant.cells requests shown);
       elements = ap (λ (t : List Kept). have_elements names t) c.judge.ensures.states
           ∙ elements_after names p c.args.version (is_named c.in-Some.request.id) c.loop-request.states ∙ c.loop-request.invariant.elements;
