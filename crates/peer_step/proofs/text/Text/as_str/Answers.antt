@@ -1,5 +1,4 @@
-use Rattle.std.proofs.Common.{◌≡◌, ◌∙◌, sym, ap}
-use Rattle.std.specs.List.{concat}
+use Rattle.std.proofs.Common.{◌∙◌, sym}
 use Rattle.peer_step.proofs.Cuts.{concat_cut}
 use Rattle.peer_step.proofs.text.Text.as_str.Goals as goal
 

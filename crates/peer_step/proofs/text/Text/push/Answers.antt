@@ -1,6 +1,5 @@
-use Rattle.std.proofs.Common.{◌≡◌, ◌∙◌, ◌++◌, ◌∷◌, [], sym, ap, IsTrue}
+use Rattle.std.proofs.Common.{◌∙◌, ◌++◌, ◌∷◌, [], ap}
 use Rattle.std.specs.Prelude.{string_bytes}
-use Rattle.coop_request.specs.Piece.{is_piece}
 use Rattle.peer_step.proofs.Cuts.{AreSizes-push, cut_push}
 use Rattle.peer_step.proofs.text.Text.push.Goals as goal
 
