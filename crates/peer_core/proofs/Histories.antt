@@ -1,5 +1,5 @@
 -- Histories, and what one more request makes of their elements.
-use Rattle.std.proofs.Common.{◌≡◌, ℕ, inl, inr, Bool, true, false, not, ◌||◌, List, [], ◌∷◌, ◌++◌, refl, ap, sym, subst, ◌∙◌, append_assoc, IsPermutation}
+use Rattle.std.proofs.Common.{◌≡◌, ◌≤◌, ℕ, inl, inr, ⊎_elim, length, drop, arith, length-drop, Bool, true, false, not, ◌||◌, List, [], ◌∷◌, ◌++◌, refl, ap, sym, subst, ◌∙◌, append_assoc, IsPermutation}
 use Rattle.std.specs.Prelude.{nat_lt, nat_le, map}
 use Rattle.std.specs.declared.option.Option.{Option}
 use Rattle.std.specs.List.{list_any}
@@ -7,16 +7,18 @@ use Rattle.std.proofs.lemmas.List.{append-nil}
 use Rattle.std.proofs.lemmas.List.Elements.{filter_map-append}
 use Rattle.std.proofs.lemmas.List.Folds.{list_any-append}
 use Rattle.std.specs.Cmp.{both_ways}
-use Rattle.std.proofs.lemmas.Bool.{or_parts, and_parts, and_from, or_right}
+use Rattle.std.proofs.lemmas.Bool.{or_parts, and_parts, and_from, or_right, cases_Bool}
+use Rattle.std.proofs.lemmas.List.Sums.{prefix_len-le-length}
 use Rattle.std.proofs.lemmas.List.Sorted.{IsPermutation-sym}
 use Rattle.std.proofs.lemmas.List.{map-append}
 use Rattle.element_name.proofs.CaseLemmas.{when-None, first_of-None}
 use Rattle.element_name.proofs.EachAfterLemmas.{EachAfter-push}
 use Rattle.element_name.proofs.NameOrder.{name_eq-refl, name_eq-comm}
 use Rattle.element_name.specs.Cases.{when}
-use Rattle.element_name.specs.Name.{Name, start, name_eq, has_name, are_distinct}
+use Rattle.element_name.specs.Name.{Name, start, name_eq, name_lt, has_name, are_distinct}
+use Rattle.element_name.specs.Places.{is_anchor}
 use Rattle.element_name.specs.Growing.{EachFrom}
-use Rattle.element_name.specs.Tree.{Placed, IsTree, order, with_fresh}
+use Rattle.element_name.specs.Tree.{Placed, IsTree, order, with_fresh, after_anchor, skip}
 use Rattle.element_name.specs.declared.limits.TheConstants.{MAX_VERSION}
 use Rattle.coop_request.specs.declared.edit.Edit.{Edit}
 use Rattle.coop_request.specs.declared.edit.Edit.TheVariants.{Insert, Delete, Update}
@@ -26,8 +28,10 @@ use Rattle.coop_request.specs.Edit.{anchor_or_target, targets_start, placed_by, 
 use Rattle.coop_request.specs.Request.{Request, IsAccepted, element_of}
 use Rattle.coop_request.specs.History.{placed_of, elements_of, text_order, FollowsHistory, IsHistory}
 use Rattle.coop_request.proofs.Histories.{IsTree-placed_of}
+use Rattle.auth_match.proofs.OneMore.{place_below}
 use Rattle.tomb_seq.proofs.Has.{Has, Has-permutation, has_name-from_Has, Has-from_has_name}
 use Rattle.tomb_seq.proofs.Theorems.{skip_law, each_law}
+use Rattle.peer_core.specs.Kept.{names_after}
 use Rattle.peer_core.proofs.Journals.{elements_append, has_more}
 
 -- ---- the element that a request is judged on is there
@@ -104,12 +108,6 @@ once_law R each = once_from [] R refl each
 
 -- ---- one more request
 
--- the elements in text order, with one more where the edit is an insert
-abbrev pub names_after : List Name → Name → Edit → List Name
-names_after names id (Insert after letter) = with_fresh names id after
-names_after names id (Delete target) = names
-names_after names id (Update target letter) = names
-
 pub placed_append : (R : List Request) (q : Request) → placed_of (R ++ q ∷ []) ≡ placed_of R ++ placed_of (q ∷ [])
 placed_append R q = filter_map-append (λ r. placed_by r.id r.edit) R (q ∷ [])
 
@@ -137,3 +135,18 @@ pub has_order : (R : List Request) (n : Name) → IsHistory R → has_name (text
 has_order R n each =
     let p = each_law (placed_of R) (IsTree-placed_of R each) in
     has_permuted (elements_of R) (text_order R) n p (IsPermutation-sym (elements_of R) (text_order R) p)
+
+-- ---- a new element's place is within the names
+
+after_within : (names : List Name) (anchor : Name) → is_anchor names anchor ≡ true → after_anchor names anchor ≤ length names
+after_within names anchor h =
+    ⊎_elim
+    (λ (t : name_eq anchor start ≡ true). rw t (omega arith))
+    (λ (f : name_eq anchor start ≡ false). rw f (let k = place_below names anchor (rw f at h) in omega (arith, k)))
+    (cases_Bool (name_eq anchor start))
+
+pub skip_within : (names : List Name) (n anchor : Name) → is_anchor names anchor ≡ true → skip names n anchor ≤ length names
+skip_within names n anchor h =
+    let after = after_within names anchor h in
+    let more = prefix_len-le-length (name_lt n) (drop (after_anchor names anchor) names) in
+    omega (arith, more, after, length-drop (after_anchor names anchor) names)

@@ -1,3 +1,9 @@
 pub mod Peer
 pub mod Sound
+pub mod Local
+pub mod Answers
+pub mod After
 pub mod Laws
+pub mod Items
+pub mod Kept
+pub mod Waiting
