@@ -82,6 +82,7 @@ fn faults_in_their_order(rt: HostRuntime) -> Result<(), Fail> {
 }
 
 // The names above one.
+#[derive(Drop)]
 struct Above(Name);
 
 impl Shows for Above {
