@@ -43,9 +43,12 @@ no_start id target version edit accepted =
     let later = (first_of-None (when (nat_lt MAX_VERSION version) BadVersion) (when (targets_start edit) StartTarget ∷ order) accepted).1 in
     when-None (targets_start edit) StartTarget (first_of-None (when (targets_start edit) StartTarget) order later).0
 
-other_true : (a b : Bool) → (a || b) ≡ true → a ≡ false → b ≡ true
+pub other_true : (a b : Bool) → (a || b) ≡ true → a ≡ false → b ≡ true
 other_true true b h f = absurd (cc)
 other_true false b h f = h
+
+pub no_start_target : (q : Request) → IsAccepted q → targets_start q.edit ≡ false
+no_start_target q accepted = no_start q.id (anchor_or_target q.edit) q.version q.edit accepted
 
 own_element : (R : List Request) (id : Name) (version : ℕ) (edit : Edit) → FollowsHistory R (record { id = id; version = version; edit = edit })
     → has_name (elements_of (R ++ record { id = id; version = version; edit = edit } ∷ [])) (element_by id edit) ≡ true

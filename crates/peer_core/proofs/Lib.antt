@@ -2,3 +2,16 @@ pub mod Journals
 pub mod Histories
 pub mod Stable
 pub mod Sets
+pub mod ItemLemmas
+pub mod Joining
+pub mod Keeping
+pub mod Reading
+pub mod Asking
+pub mod Joined
+pub mod Tables
+pub mod Advancing
+pub mod Awaiting
+pub mod Texts
+pub mod Waits
+pub mod Sounds
+pub mod Answering

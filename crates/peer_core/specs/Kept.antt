@@ -9,6 +9,8 @@ use Rattle.coop_request.specs.declared.request.TheConstants.{MAX_REQUESTS}
 use Rattle.coop_request.specs.Request.{Request, element_of}
 use Rattle.coop_request.specs.History.{text_order, elements_of, request_of, IsHistory}
 use Rattle.policy_book.specs.Entry.{Entry}
+use Rattle.auth_match.specs.declared.verdict.Judged.{Judged}
+use Rattle.auth_match.specs.declared.verdict.Judged.TheVariants.{There, Fresh}
 use Rattle.edit_message.specs.declared.message.Message.{Message}
 use Rattle.edit_message.specs.Message.{requests_of, entries_of}
 use Rattle.edit_message.specs.Formed.{is_message}
@@ -37,6 +39,12 @@ abbrev pub names_after : List Name → Name → Edit → List Name
 names_after names id (Insert after letter) = with_fresh names id after
 names_after names id (Delete target) = names
 names_after names id (Update target letter) = names
+
+-- what a request is judged on: a new element, or its target
+abbrev pub judged_by : Name → Edit → Judged
+judged_by id (Insert after letter) = Fresh id after
+judged_by id (Delete target) = There target
+judged_by id (Update target letter) = There target
 
 -- the same of slots: the new one doesn't show yet
 abbrev pub slots_after : List Slot → Name → Edit → List Slot

@@ -1,0 +1,300 @@
+//! The journal, with what is kept of it.
+ghost use Rattle.std.specs.Prelude.{◌≡◌, ◌<◌, ◌≤◌, [], ◌∷◌, ◌++◌, length, slice_get, option_map, option_and_then, filter_map, IfOk, OnOk, OnErr, IsOk};
+ghost use Rattle.std.specs.Option.{option_copied};
+ghost use Rattle.element_name.specs.declared.limits.TheConstants.{MAX_STAMP, MAX_VERSION};
+ghost use Rattle.coop_request.specs.declared.request.TheConstants.{MAX_REQUESTS};
+ghost use Rattle.coop_request.specs.History.{elements_of, request_of, text_order, FollowsHistory};
+ghost use Rattle.edit_message.specs.declared.message.Message.TheVariants.{Coop, Admin};
+ghost use Rattle.edit_message.specs.Message.{find_key, requests_of, entries_of};
+ghost use Rattle.edit_message.specs.Missing.{missing_end};
+ghost use Rattle.admin_log.specs.Log.{entry_fault};
+ghost use Rattle.check_local.specs.Local.{verdict_at as local_verdict};
+ghost use Rattle.check_remote.specs.State.{verdict_at};
+ghost use Rattle.peer_core.specs.Peer.{state_in, cell_in, shown_in, text_in, missing_in, undone_between};
+ghost use Rattle.tomb_seq.specs.Slots.{names_in};
+ghost use Rattle.peer_core.specs.Kept.{piece_by, judged_by};
+ghost use Rattle.peer_core.specs.Sound.{FollowsJournal, IsWithin};
+ghost use Rattle.peer_core.specs.Local.{greatest_stamp};
+ghost use Rattle.peer_core.specs.Answers.{least_awaiting};
+
+use crate::advance::advance;
+use crate::items::Items;
+use crate::join::join;
+use crate::missing::{missing, missing_end};
+use crate::sweep::Sweep;
+use admin_log::AdminLog;
+use auth_match::Judged;
+use check_local::{LocalVerdict, check_local};
+use coop_request::{Edit, Piece, Request};
+use edit_message::{Key, Message, Missing};
+use elem_show::{Cell, ElemTable, shown};
+use element_name::{Name, NoMemory};
+use peer_step::Text;
+use policy_book::{AdminOp, Entry, EntryFault};
+use request_state::{State, StateTable, Undone};
+use std::alloc::Global;
+use std::marker::Model;
+use tomb_seq::TombSeq;
+
+/// Messages in order of integration, and what is kept of them: the log, the elements in text order with the
+/// marks of those that show, the cells, the states, and the greatest stamp.
+#[derive(Drop)]
+pub(crate) struct Journal {
+    alloc: Global,
+    items: Items,
+    log: AdminLog,
+    seq: TombSeq,
+    cells: ElemTable,
+    states: StateTable,
+    stamp: u64,
+    requests: u32,
+}
+
+impl Model for Journal {
+    ghost use Rattle.std.specs.Prelude.{◌≡◌, List, length};
+    ghost use Rattle.edit_message.specs.declared.message.Message.{Message};
+    ghost use Rattle.edit_message.specs.Message.{requests_of};
+    ghost use Rattle.peer_core.specs.Kept.{IsKeptOf};
+
+    ghost Value = { List Message };
+
+    ghost view = { λ j. j.items };
+
+    ghost invariant = { λ j. IsKeptOf j.items j.log j.seq j.cells j.states j.stamp j.requests };
+}
+
+impl Journal {
+    /// The journal of nothing.
+    pub(crate) fn new(alloc: Global) -> Result<Journal, NoMemory>
+        ensures { IfOk result (λ journal. journal ≡ []) }
+    {
+        Ok(Journal {
+            alloc,
+            items: Items::new(alloc),
+            log: AdminLog::new(alloc)?,
+            seq: TombSeq::new(alloc),
+            cells: ElemTable::new(alloc),
+            states: StateTable::new(alloc),
+            stamp: 0,
+            requests: 0,
+        })
+    }
+
+    // ---- readers, which take no memory
+
+    pub(crate) fn len(&self) -> u32
+        ensures count { result ≡ length self.now }
+        ensures within { IsWithin self.now }
+    {
+        self.items.len() as u32
+    }
+
+    pub(crate) fn at(&self, i: u32) -> Option<&Message>
+        ensures { option_copied result ≡ slice_get self.now i }
+    {
+        self.items.at(i as usize)
+    }
+
+    pub(crate) fn find(&self, key: Key) -> Option<&Message>
+        ensures { option_copied result ≡ find_key key self.now }
+    {
+        self.items.find(key)
+    }
+
+    /// The version of its policy.
+    pub(crate) fn front(&self) -> u32
+        ensures count { result ≡ length (entries_of self.now) }
+        ensures few { result ≤ MAX_VERSION }
+    {
+        self.log.len()
+    }
+
+    /// How many requests it has.
+    pub(crate) fn requests(&self) -> u32
+        ensures count { result ≡ length (requests_of self.now) }
+        ensures few { result ≤ MAX_REQUESTS }
+    {
+        self.requests
+    }
+
+    /// The greatest stamp of its requests.
+    pub(crate) fn stamp(&self) -> u64
+        ensures greatest { result ≡ greatest_stamp (requests_of self.now) }
+        ensures in_range { result ≤ MAX_STAMP }
+    {
+        self.stamp
+    }
+
+    /// The fault of an operation as the next entry's.
+    pub(crate) fn legal(&self, op: &AdminOp) -> Option<EntryFault>
+        ensures { result ≡ entry_fault (entries_of self.now) op.now }
+    {
+        self.log.legal(op)
+    }
+
+    /// What a message misses.
+    pub(crate) fn missing(&self, message: &Message) -> Option<Missing>
+        ensures { result ≡ missing_in self.now message.now }
+    {
+        missing(self.log.len(), &self.seq, message)
+    }
+
+    /// The first end of an operation's span that is no element.
+    pub(crate) fn missing_end(&self, op: &AdminOp) -> Option<Missing>
+        ensures { result ≡ missing_end (elements_of (requests_of self.now)) op.now }
+    {
+        missing_end(&self.seq, op)
+    }
+
+    /// The state of the request of a name.
+    pub(crate) fn state(&self, id: Name) -> Option<&State>
+        ensures { option_copied result ≡ option_map (state_in (requests_of self.now) (entries_of self.now)) (request_of (requests_of self.now) id) }
+    {
+        self.states.state(id)
+    }
+
+    /// The cell of an element.
+    pub(crate) fn cell(&self, element: Name) -> Option<&Cell>
+        ensures { option_copied result ≡ cell_in (requests_of self.now) (entries_of self.now) element }
+    {
+        self.cells.cell(element)
+    }
+
+    /// How many elements show.
+    pub(crate) fn shown(&self) -> u32
+        ensures { result ≡ length (shown_in (requests_of self.now) (entries_of self.now)) }
+    {
+        self.seq.shown() as u32
+    }
+
+    /// The element at a place among those that show.
+    pub(crate) fn shown_at(&self, i: u32) -> Option<Name>
+        ensures { result ≡ slice_get (shown_in (requests_of self.now) (entries_of self.now)) i }
+    {
+        self.seq.shown_at(i as usize)
+    }
+
+    /// The least name of a request that awaits its validation.
+    pub(crate) fn first_tentative(&self) -> Option<Name>
+        ensures { result ≡ least_awaiting (requests_of self.now) (entries_of self.now) }
+    {
+        self.states.first_tentative()
+    }
+
+    /// The verdict of the front on a request that may be made, at the place that its element will have.
+    pub(crate) fn verdict(&self, request: Request) -> LocalVerdict
+        requires { FollowsHistory (requests_of self.now) request }
+        ensures { result ≡ local_verdict (length (entries_of self.now))
+            (verdict_at (text_order (requests_of self.now ++ request ∷ [])) (entries_of self.now) request (length (entries_of self.now))) }
+    {
+        check_local(
+            self.log.policy(),
+            self.log.len(),
+            request.user(),
+            request.right(),
+            judged(request),
+            &self.seq,
+        )
+    }
+
+    // ---- what takes memory
+
+    /// The pieces that show.
+    pub(crate) fn text(&self) -> Result<Text, NoMemory>
+        ensures { IfOk result (λ text. text ≡ text_in (requests_of self.now) (entries_of self.now)) }
+    {
+        text_of(self.alloc, &self.seq, &self.cells)
+    }
+
+    /// Puts a request last, and answers its state.
+    pub(crate) fn push_request(&mut self, request: Request) -> Result<State, NoMemory>
+        requires follows { FollowsJournal self.old (Coop request) }
+        requires room { length (requests_of self.old) < MAX_REQUESTS }
+        ensures ok { OnOk result (self.new ≡ self.old ++ Coop request ∷ []) }
+        ensures state { IfOk result (λ state. state ≡ state_in (requests_of self.old ++ request ∷ []) (entries_of self.old) request) }
+        ensures unchanged { OnErr result (self.new ≡ self.old) }
+    {
+        self.items.push(Message::Coop(request))?;
+        match join(
+            &self.log,
+            &mut self.seq,
+            &mut self.cells,
+            &mut self.states,
+            request,
+        ) {
+            Ok(state) => {
+                self.stamp = self.stamp.max(request.id().stamp());
+                self.requests += 1;
+                Ok(state)
+            }
+            Err(NoMemory) => {
+                self.items.cut_last();
+                Err(NoMemory)
+            }
+        }
+    }
+
+    /// Puts an entry last, and answers how many requests it undid.
+    pub(crate) fn push_entry<W: Sweep>(
+        &mut self,
+        entry: Entry,
+        sweep: &W,
+    ) -> Result<Undone, NoMemory>
+        requires { FollowsJournal self.old (Admin entry) }
+        ensures ok { OnOk result (self.new ≡ self.old ++ Admin entry ∷ []) }
+        ensures undone { IfOk result (λ undone. undone.count ≡ undone_between (requests_of self.old) (entries_of self.old) (entries_of self.old ++ entry ∷ [])) }
+        ensures unchanged { OnErr result (self.new ≡ self.old) }
+    {
+        let copy = entry.copied()?;
+        self.items.push(Message::Admin(entry))?;
+        match advance(
+            &mut self.log,
+            &mut self.seq,
+            &mut self.cells,
+            &mut self.states,
+            copy,
+            sweep,
+        ) {
+            Ok(undone) => Ok(undone),
+            Err(NoMemory) => {
+                self.items.cut_last();
+                Err(NoMemory)
+            }
+        }
+    }
+}
+
+// What a request is judged on: the new element, or its target.
+fn judged(request: Request) -> Judged
+    ensures { result ≡ judged_by request.id request.edit }
+{
+    match request.edit() {
+        Edit::Insert { after, .. } => Judged::Fresh {
+            name: request.id(),
+            after,
+        },
+        Edit::Delete { target } => Judged::There(target),
+        Edit::Update { target, .. } => Judged::There(target),
+    }
+}
+
+// The piece that shows at a place.
+fn piece_at(seq: &TombSeq, cells: &ElemTable, place: usize) -> Option<Piece>
+    ensures { result ≡ option_and_then (piece_by cells.now) (slice_get (names_in seq.now) place) }
+{
+    let element = seq.name_at(place)?;
+    let cell = cells.cell(element)?;
+    shown(cell)
+}
+
+fn text_of(alloc: Global, seq: &TombSeq, cells: &ElemTable) -> Result<Text, NoMemory>
+    ensures { IfOk result (λ text. text ≡ filter_map (piece_by cells.now) (names_in seq.now)) }
+{
+    let mut text = Text::new(alloc);
+    for place in 0..seq.len() {
+        if let Some(piece) = piece_at(seq, cells, place) {
+            text.push(piece)?;
+        }
+    }
+    Ok(text)
+}
