@@ -1,0 +1,62 @@
+-- What stands in front of a frame: its length field, and enough bytes.
+use Rattle.std.proofs.Common.{◌≡◌, ℕ, ◌+◌, ◌≤◌, ◌<◌, Bool, ◌&&◌, ◌||◌, List, [], ◌∷◌, length, drop, Option, None, Result, refl, sym, ap, subst, ◌∙◌, arith}
+use Rattle.std.specs.Prelude.{◌==◌, nat_lt, is_none, slice_index}
+use Rattle.std.proofs.lemmas.Bool.{ltb-false, le-ltb, or_parts}
+use Rattle.std.proofs.lemmas.List.{get_or-drop, get_or-take}
+use Rattle.element_name.specs.Cases.{when}
+use Rattle.element_name.proofs.CaseLemmas.{when-None, first_of-None}
+use Rattle.edit_frame.specs.declared.frame.FrameKind.TheVariants.{BadLength, Truncated}
+use Rattle.edit_frame.specs.declared.frame.Frame.{Frame}
+use Rattle.edit_frame.specs.declared.frame.FrameKind.{FrameKind}
+use Rattle.edit_frame.specs.declared.fail.FrameFail.{FrameFail}
+use Rattle.edit_frame.specs.Gives.{GivesFrame}
+use Rattle.edit_frame.specs.Reading.{fault_or, frame_of, length_field, cut_fault, inner, front_frame, takes_memory}
+
+-- a whole frame stands at the front
+pub record IsWhole (bytes : List ℕ) : Type 0 where
+  pub field : 4 ≤ length bytes
+  pub low : 2 ≤ length_field bytes
+  pub high : length_field bytes ≤ 276
+  pub room : 4 + length_field bytes ≤ length bytes
+
+pub whole_by : (bytes : List ℕ) → cut_fault bytes ≡ None → IsWhole bytes
+unfolding cut_fault
+whole_by bytes e =
+    let cut : Option FrameKind = when (nat_lt (length bytes) (4 + length_field bytes)) Truncated in
+    let bad : Bool = nat_lt (length_field bytes) 2 || nat_lt 276 (length_field bytes) in
+    let a = first_of-None (when (nat_lt (length bytes) 4) Truncated) (when bad BadLength ∷ cut ∷ []) e in
+    let b = first_of-None (when bad BadLength) (cut ∷ []) a.1 in
+    let c = first_of-None cut [] b.1 in
+    let d = or_parts (nat_lt (length_field bytes) 2) (nat_lt 276 (length_field bytes)) (when-None bad BadLength b.0) in
+    record {
+      field = ltb-false _ _ (when-None (nat_lt (length bytes) 4) Truncated a.0);
+      low = ltb-false _ _ d.0;
+      high = ltb-false _ _ d.1;
+      room = ltb-false _ _ (when-None (nat_lt (length bytes) (4 + length_field bytes)) Truncated c.0);
+    }
+
+pub by_whole : (bytes : List ℕ) → IsWhole bytes → cut_fault bytes ≡ None
+unfolding cut_fault
+by_whole bytes h = rw (le-ltb _ _ h.field, le-ltb _ _ h.low, le-ltb _ _ h.high, le-ltb _ _ h.room) refl
+
+-- ---- whether reading takes memory
+
+-- the kind stands behind the length field and the version
+kind_inside : (bytes : List ℕ) → IsWhole bytes → slice_index bytes 5 ≡ slice_index (inner bytes) 1
+kind_inside bytes w =
+    let more : 1 < length_field bytes = omega (arith, w.low) in
+    sym (get_or-take (length_field bytes) (drop 4 bytes) 1 0 more ∙ rw get_or-drop refl)
+
+takes_inside : (bytes : List ℕ) → cut_fault bytes ≡ None → takes_memory bytes ≡ (slice_index (inner bytes) 1 == 4)
+unfolding takes_memory
+takes_inside bytes e =
+    ap (λ (k : Option FrameKind). is_none k && (slice_index bytes 5 == 4)) e ∙ ap (λ (n : ℕ). n == 4) (kind_inside bytes (whole_by bytes e))
+
+-- what is answered about the bytes after the length field is the answer about the whole frame
+pub whole_gives : (more : Bool) (bytes inside : List ℕ) (r : Result Frame FrameFail) → cut_fault bytes ≡ None → inside ≡ inner bytes
+    → GivesFrame (slice_index inside 1 == 4) r (frame_of more inside) → GivesFrame (takes_memory bytes) r (front_frame more bytes)
+whole_gives more bytes inside r e same h =
+    let at_inner = subst (λ (x : List ℕ). GivesFrame (slice_index x 1 == 4) r (frame_of more x)) same h in
+    let front : frame_of more (inner bytes) ≡ front_frame more bytes = ap (λ (k : Option FrameKind). fault_or k (frame_of more (inner bytes))) (sym e) in
+    let at_front = subst (λ (x : Result Frame FrameKind). GivesFrame (slice_index (inner bytes) 1 == 4) r x) front at_inner in
+    subst (λ (b : Bool). GivesFrame b r (front_frame more bytes)) (sym (takes_inside bytes e)) at_front

@@ -1,0 +1,11 @@
+pub mod Loop
+pub mod Chars
+pub mod Readers
+pub mod Parts
+pub mod Edits
+pub mod Cut
+pub mod Outcomes
+pub mod Lengths
+pub mod Frames
+pub mod Streams
+pub mod Stays

@@ -1,0 +1,76 @@
+-- A stream that comes in pieces: how far its frames were given, and the bytes that were fed since.
+use Rattle.std.specs.Prelude.{◌≡◌, ℕ, ◌+◌, ◌≤◌, Bool, true, false, IsTrue, List, [], ◌∷◌, ◌++◌, Option, Some, None, Result, Ok, Err, length, drop}
+use Rattle.std.specs.List.{flat_map, list_all}
+use Rattle.edit_frame.specs.declared.frame.Frame.{Frame}
+use Rattle.edit_frame.specs.declared.frame.FrameKind.{FrameKind}
+use Rattle.edit_frame.specs.declared.frame.FrameKind.TheVariants.{BadLength, BadKind, BadField, LeftOver, Truncated, BadRequest}
+use Rattle.edit_frame.specs.declared.fail.FrameFail.{FrameFail}
+use Rattle.edit_frame.specs.declared.fail.FrameFail.TheVariants as frames
+use Rattle.edit_frame.specs.declared.frame.DecodeFail.{DecodeFail}
+use Rattle.edit_frame.specs.declared.frame.DecodeFail.TheVariants as decodes
+use Rattle.edit_frame.specs.Spelling.{spelling}
+use Rattle.edit_frame.specs.Spells.{is_frame}
+use Rattle.edit_frame.specs.Reading.{length_field, frame_at, takes_memory, stream, rest_fault}
+
+-- how many bytes the frames that were given have, and the bytes that were fed after them
+pub record Splitting : Type 0 where
+  pub offset : ℕ
+  pub rest : List ℕ
+
+-- past the frame at the front
+abbrev pub past_frame : Splitting → Splitting
+past_frame s = record { offset = s.offset + (4 + length_field s.rest); rest = drop (4 + length_field s.rest) s.rest }
+
+-- the rest is empty or cut, and nothing else is wrong with it
+abbrev pub IsWaiting : Splitting → Type 0
+IsWaiting s = frame_at s.rest ≡ Err Truncated
+
+-- it is the fault of bytes that end too early
+abbrev pub is_truncated : FrameKind → Bool
+is_truncated Truncated = true
+is_truncated BadLength = false
+is_truncated BadKind = false
+is_truncated BadField = false
+is_truncated LeftOver = false
+is_truncated (BadRequest fault) = false
+
+-- what is answered about the front of the bytes: a frame and its length, nothing yet, its fault, or that memory is wanting
+abbrev pub FrontGives : List ℕ → Result (Option (Frame × ℕ)) FrameFail → Type 0
+FrontGives bytes (Ok (Some x)) =
+    (frame_at bytes ≡ Ok x.0) × (x.1 ≡ 4 + length_field bytes) × (x.1 ≤ length bytes)
+    × (bytes ≡ spelling x.0 ++ drop x.1 bytes) × (is_frame x.0 ≡ true)
+FrontGives bytes (Ok None) = frame_at bytes ≡ Err Truncated
+FrontGives bytes (Err (frames.Fault kind)) = (frame_at bytes ≡ Err kind) × (is_truncated kind ≡ false)
+FrontGives bytes (Err frames.NoMemory) = IsTrue (takes_memory bytes)
+
+-- what is answered about the next frame, and what is left
+abbrev pub NextGives : Splitting → Result (Option Frame) DecodeFail → Splitting → Type 0
+NextGives old (Ok (Some f)) new = (frame_at old.rest ≡ Ok f) × (new ≡ past_frame old)
+NextGives old (Ok None) new = IsWaiting old × (new ≡ old)
+NextGives old (Err (decodes.Fault fault)) new =
+    (frame_at old.rest ≡ Err fault.kind) × (is_truncated fault.kind ≡ false) × (fault.offset ≡ old.offset) × (new ≡ old)
+NextGives old (Err decodes.NoMemory) new = IsTrue (takes_memory old.rest) × (new ≡ old)
+
+-- a frame that is given is taken from the rest, so that asking again and again ends
+abbrev pub Shortens : Splitting → Result (Option Frame) DecodeFail → Splitting → Type 0
+Shortens old (Ok (Some f)) new = length new.rest + 4 ≤ length old.rest
+Shortens old (Ok None) new = Unit {0}
+Shortens old (Err fail) new = Unit {0}
+
+-- what was fed is the spellings of the frames that were given, and the rest
+pub record IsSplit (fed : List ℕ) (frames : List Frame) (s : Splitting) : Type 0 where
+  pub whole : fed ≡ flat_map spelling frames ++ s.rest
+  pub each : list_all is_frame frames ≡ true
+  pub place : s.offset ≡ length (flat_map spelling frames)
+
+-- the stream is these frames and then the rest, which doesn't begin with one
+abbrev pub IsAllOf : List ℕ → List Frame → List ℕ → Type 0
+IsAllOf fed frames rest = stream fed ≡ record { frames = frames; rest = rest }
+
+-- where these frames of what was fed were given before: the next one, or that these are all, with the fault of the rest
+abbrev pub Follows : List ℕ → List Frame → Result (Option Frame) DecodeFail → Splitting → Type 0
+Follows fed frames (Ok (Some f)) new = IsSplit fed (frames ++ f ∷ []) new
+Follows fed frames (Ok None) new = IsSplit fed frames new × IsAllOf fed frames new.rest
+Follows fed frames (Err (decodes.Fault fault)) new =
+    IsSplit fed frames new × IsAllOf fed frames new.rest × (rest_fault new.rest ≡ Some fault.kind) × (is_truncated fault.kind ≡ false)
+Follows fed frames (Err decodes.NoMemory) new = IsSplit fed frames new

@@ -1,0 +1,195 @@
+//! Frames from bytes.
+ghost use Rattle.std.specs.Prelude.{◌≡◌, ◌≤◌, ◌+◌, ◌||◌, ◌==◌, true, false, nat_lt, length, slice_index, None, Ok, Err, IfOk};
+ghost use Rattle.edit_frame.specs.declared.frame.Frame.{Frame};
+ghost use Rattle.edit_frame.specs.declared.fail.FieldFail.TheVariants.{NoMemory as no_memory};
+ghost use Rattle.edit_frame.specs.Gives.{MayGive, GivesDraft, GivesFrame, GivesAt, drafted};
+ghost use Rattle.edit_frame.specs.Reading.{is_kind, request_at, entry_at, other_at, accepted, frame_by, frame_of, cut_fault};
+ghost use Rattle.edit_frame.specs.Reading.{length_field, inner, front_frame, decoded, takes_memory};
+ghost use Rattle.edit_frame.specs.Spells.{Spells};
+
+use crate::fail::{Bad, FieldFail, FrameFail};
+use crate::frame::{DecodeFail, Frame, FrameFault, FrameKind};
+use crate::limits::{MAX_LENGTH, MIN_LENGTH};
+use crate::reading::{edit_of, name_of, operation_of, short_of};
+use coop_request::{Edit, Request};
+use edit_message::Message;
+use element_name::Name;
+use policy_book::Entry;
+use std::alloc::Global;
+
+/// A request that isn't accepted yet.
+#[derive(Clone, Copy)]
+struct Draft {
+    id: Name,
+    version: u16,
+    edit: Edit,
+}
+
+#[tactic(auto, unfolding(crate::specs::Reading::request_at))]
+fn draft_of(version: u8, kind: u8, rest: &mut &[u8]) -> Result<Draft, Bad>
+    ensures { GivesDraft result rest.new.now (request_at version kind rest.old.now) }
+{
+    Ok(Draft {
+        id: name_of(rest)?,
+        version: short_of(rest)?,
+        edit: edit_of(version, kind, rest)?,
+    })
+}
+
+#[tactic(auto, unfolding(crate::specs::Reading::entry_at))]
+fn entry_of(alloc: Global, rest: &mut &[u8]) -> Result<Entry, FieldFail>
+    ensures { MayGive result rest.new.now (entry_at rest.old.now) }
+{
+    let version = short_of(rest)?;
+    let op = operation_of(alloc, rest)?;
+    Entry::checked(u32::from(version), op).ok_or(FieldFail::Bad)
+}
+
+#[tactic(auto, unfolding(crate::specs::Reading::other_at))]
+fn other_of(alloc: Global, kind: u8, rest: &mut &[u8]) -> Result<Frame, FieldFail>
+    ensures read { MayGive result rest.new.now (other_at kind rest.old.now) }
+    ensures memory { result ≡ Err no_memory → (kind == 4) ≡ true }
+{
+    match kind {
+        4 => Ok(Frame::Item(Message::Admin(entry_of(alloc, rest)?))),
+        5 => Ok(Frame::Turn),
+        6 => Ok(Frame::End),
+        _ => Err(FieldFail::Bad),
+    }
+}
+
+fn accepted(draft: Draft) -> Result<Frame, FrameFail>
+    ensures { GivesFrame false result (accepted (drafted draft)) }
+{
+    match Request::checked(draft.id, u32::from(draft.version), draft.edit) {
+        Ok(request) => Ok(Frame::Item(Message::Coop(request))),
+        Err(fault) => Err(FrameFail::Fault(FrameKind::BadRequest(fault))),
+    }
+}
+
+fn is_kind(version: u8, kind: u8) -> bool
+    ensures { result ≡ is_kind version kind }
+{
+    (version == 1 && kind > 0 && kind <= 6) || (version == 2 && (kind == 1 || kind == 3))
+}
+
+// Whether bytes stand after the last field, or after the frame.
+fn is_left(rest: &[u8], more: bool) -> bool
+    ensures { result ≡ (nat_lt 0 (length rest.now) || more) }
+{
+    !rest.is_empty() || more
+}
+
+// The frame of a version and kind, whose fields are these bytes; `more` says whether bytes stand after it.
+#[tactic(auto, unfolding(crate::specs::Reading::frame_by))]
+fn frame_by(
+    alloc: Global,
+    more: bool,
+    version: u8,
+    kind: u8,
+    fields: &[u8],
+) -> Result<Frame, FrameFail>
+    ensures { GivesFrame (kind == 4) result (frame_by more version kind fields.now) }
+{
+    if !is_kind(version, kind) {
+        return Err(FrameFail::Fault(FrameKind::BadKind));
+    }
+    let mut rest = fields;
+    if kind <= 3 {
+        let draft = draft_of(version, kind, &mut rest)?;
+        if is_left(rest, more) {
+            return Err(FrameFail::Fault(FrameKind::LeftOver));
+        }
+        return accepted(draft);
+    }
+    let frame = other_of(alloc, kind, &mut rest)?;
+    if is_left(rest, more) {
+        return Err(FrameFail::Fault(FrameKind::LeftOver));
+    }
+    Ok(frame)
+}
+
+fn frame_of(alloc: Global, more: bool, inner: &[u8]) -> Result<Frame, FrameFail>
+    ensures { GivesFrame (slice_index inner.now 1 == 4) result (frame_of more inner.now) }
+{
+    match inner {
+        [version, kind, fields @ ..] => frame_by(alloc, more, *version, *kind, fields),
+        _ => Err(FrameFail::Fault(FrameKind::BadKind)),
+    }
+}
+
+// What the first four bytes say.
+pub fn length_of(bytes: &[u8]) -> u32
+    requires { 4 ≤ length bytes.now }
+    ensures { result ≡ length_field bytes.now }
+{
+    u32::from_be_bytes([bytes[0], bytes[1], bytes[2], bytes[3]])
+}
+
+// Why no whole frame stands at the front.
+#[tactic(auto, unfolding(crate::specs::Reading::cut_fault))]
+pub fn cut_fault(bytes: &[u8]) -> Option<FrameKind>
+    ensures { result ≡ cut_fault bytes.now }
+{
+    if bytes.len() < 4 {
+        return Some(FrameKind::Truncated);
+    }
+    let len = length_of(bytes);
+    if len < MIN_LENGTH || len > MAX_LENGTH {
+        return Some(FrameKind::BadLength);
+    }
+    if bytes.len() < 4 + len as usize {
+        return Some(FrameKind::Truncated);
+    }
+    None
+}
+
+// The bytes after the length field, as many as it says.
+fn inner_of(bytes: &[u8]) -> &[u8]
+    requires { cut_fault bytes.now ≡ None }
+    ensures { result.now ≡ inner bytes.now }
+{
+    let len = length_of(bytes) as usize;
+    &bytes[4..4 + len]
+}
+
+// The whole frame at the front; `more` says whether bytes after it are a fault.
+pub fn whole_frame(alloc: Global, more: bool, bytes: &[u8]) -> Result<Frame, FrameFail>
+    requires { cut_fault bytes.now ≡ None }
+    ensures { GivesFrame (takes_memory bytes.now) result (front_frame more bytes.now) }
+{
+    frame_of(alloc, more, inner_of(bytes))
+}
+
+fn has_more(bytes: &[u8]) -> bool
+    requires { cut_fault bytes.now ≡ None }
+    ensures { result ≡ nat_lt (4 + length_field bytes.now) (length bytes.now) }
+{
+    4 + (length_of(bytes) as usize) < bytes.len()
+}
+
+#[tactic(auto, unfolding(crate::specs::Reading::decoded))]
+fn decode_all(alloc: Global, message: &[u8]) -> Result<Frame, FrameFail>
+    ensures { GivesFrame (takes_memory message.now) result (decoded message.now) }
+{
+    if let Some(kind) = cut_fault(message) {
+        return Err(FrameFail::Fault(kind));
+    }
+    whole_frame(alloc, has_more(message), message)
+}
+
+/// The frame that is all of the bytes, in time in their number up to 280. Only an entry's lists take memory.
+pub fn decode(alloc: Global, message: &[u8]) -> Result<Frame, DecodeFail>
+    // What is given is spelled so.
+    ensures found { IfOk result (λ f. Spells message.now f) }
+    // What is spelled so is given, if memory isn't wanting.
+    ensures only { (f : Frame) → Spells message.now f → GivesAt 0 (takes_memory message.now) result (Ok f) }
+    // The frame or the first fault, or memory is wanting, but only where an entry is read.
+    ensures exact { GivesAt 0 (takes_memory message.now) result (decoded message.now) }
+{
+    match decode_all(alloc, message) {
+        Ok(frame) => Ok(frame),
+        Err(FrameFail::NoMemory) => Err(DecodeFail::NoMemory),
+        Err(FrameFail::Fault(kind)) => Err(DecodeFail::Fault(FrameFault { offset: 0, kind })),
+    }
+}

@@ -1,0 +1,27 @@
+//! Laws of spellings and of streams.
+ghost use Rattle.std.specs.Prelude.{◌≡◌, ℕ, List, ◌++◌, true, false, Ok, Err};
+ghost use Rattle.edit_frame.specs.declared.frame.Frame.{Frame};
+ghost use Rattle.edit_frame.specs.declared.frame.FrameKind.{FrameKind};
+ghost use Rattle.edit_frame.specs.Spelling.{spelling};
+ghost use Rattle.edit_frame.specs.Spells.{is_frame, Spells};
+ghost use Rattle.edit_frame.specs.Reading.{decoded, frame_at};
+ghost use Rattle.edit_frame.specs.Splitting.{is_truncated};
+
+/// The spelling of a frame is decoded to it.
+pub fn encoded_is_decoded()
+    ensures { (f : Frame) → is_frame f ≡ true → decoded (spelling f) ≡ Ok f }
+{}
+
+/// A frame has one spelling, no bytes spell two frames, and no spelling begins another.
+pub fn one_spelling()
+    ensures frame { (bytes : List ℕ) (f g : Frame) → Spells bytes f → Spells bytes g → f ≡ g }
+    ensures spelling { (a b : List ℕ) (f : Frame) → Spells a f → Spells b f → a ≡ b }
+    ensures front { (a b x y : List ℕ) (f g : Frame)
+        → Spells a f → Spells b g → a ++ x ≡ b ++ y → (f ≡ g) × (a ≡ b) × (x ≡ y) }
+{}
+
+/// A fault other than that the bytes end stays, whatever bytes follow. So it is told as soon as it stands.
+pub fn fault_stays()
+    ensures { (bytes more : List ℕ) (kind : FrameKind)
+        → frame_at bytes ≡ Err kind → is_truncated kind ≡ false → frame_at (bytes ++ more) ≡ Err kind }
+{}

@@ -1,0 +1,20 @@
+//! Frames, the bytes in which messages travel.
+#![tactic(auto)]
+
+mod decoding;
+mod fail;
+mod frame;
+pub mod laws;
+mod limits;
+mod reading;
+mod splitter;
+mod writing;
+
+pub use decoding::decode;
+pub use frame::{DecodeFail, Frame, FrameFault, FrameKind};
+pub use limits::{GROUPS_ABOVE, MAX_LENGTH, MIN_LENGTH};
+pub use splitter::Splitter;
+pub use writing::encode;
+
+#[cfg(test)]
+mod tests;

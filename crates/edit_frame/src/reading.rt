@@ -1,0 +1,279 @@
+//! The fields of a frame, each read from the front of the bytes.
+ghost use Rattle.std.specs.Prelude.{◌≡◌, ◌<◌, slice_index};
+ghost use Rattle.std.specs.Str.{chars};
+ghost use Rattle.std.specs.Int.{w32, w64};
+ghost use Rattle.element_name.specs.Cases.{when};
+ghost use Rattle.coop_request.specs.Piece.{is_piece};
+ghost use Rattle.edit_frame.specs.Spelling.{is_one_char};
+ghost use Rattle.edit_frame.specs.Fields.{number_at, byte_at, short_at, name_at, items_at, numbers_at, names_at, extent_at};
+ghost use Rattle.edit_frame.specs.Fields.{user_set_at, sign_at, has_bit, rights_at, objects_at, auth_at, operation_at, char_at, bytes_at};
+ghost use Rattle.edit_frame.specs.Fields.{long_piece_at, letter_at, edit_at, passing};
+ghost use Rattle.edit_frame.specs.Gives.{Gives, MayGive, MayGiveItems};
+
+use crate::fail::{Bad, FieldFail};
+use crate::limits::GROUPS_ABOVE;
+use bytes::Buf;
+use coop_request::{Edit, Piece};
+use element_name::Name;
+use policy_book::{AdminOp, Auth, Extent, NameList, NumList, Rights, UserSet};
+use std::alloc::Global;
+
+#[tactic(auto, unfolding(crate::specs::Fields::byte_at))]
+fn byte_of(rest: &mut &[u8]) -> Result<u8, Bad>
+    ensures { Gives result rest.new.now (byte_at rest.old.now) }
+{
+    Ok(rest.try_get_u8()?)
+}
+
+#[tactic(auto, unfolding(crate::specs::Fields::short_at))]
+pub fn short_of(rest: &mut &[u8]) -> Result<u16, Bad>
+    ensures { Gives result rest.new.now (short_at rest.old.now) }
+{
+    Ok(rest.try_get_u16()?)
+}
+
+fn u32_of(rest: &mut &[u8]) -> Result<u32, Bad>
+    ensures { Gives result rest.new.now (number_at w32 rest.old.now) }
+{
+    Ok(rest.try_get_u32()?)
+}
+
+fn u64_of(rest: &mut &[u8]) -> Result<u64, Bad>
+    ensures { Gives result rest.new.now (number_at w64 rest.old.now) }
+{
+    Ok(rest.try_get_u64()?)
+}
+
+#[tactic(auto, unfolding(crate::specs::Fields::name_at))]
+pub fn name_of(rest: &mut &[u8]) -> Result<Name, Bad>
+    ensures { Gives result rest.new.now (name_at rest.old.now) }
+{
+    let number = u64_of(rest)?;
+    Name::read(number / 65536, (number % 65536) as u16).ok_or(Bad)
+}
+
+fn shorts_of(alloc: Global, count: u8, rest: &mut &[u8]) -> Result<Vec<u16>, FieldFail>
+    ensures { MayGiveItems result rest.new.now (items_at short_at count rest.old.now) }
+{
+    let mut items = Vec::new(alloc);
+    for _ in 0..count {
+        let item = short_of(rest)?;
+        items.push(item)?;
+    }
+    Ok(items)
+}
+
+fn name_items_of(alloc: Global, count: u8, rest: &mut &[u8]) -> Result<Vec<Name>, FieldFail>
+    ensures { MayGiveItems result rest.new.now (items_at name_at count rest.old.now) }
+{
+    let mut items = Vec::new(alloc);
+    for _ in 0..count {
+        let item = name_of(rest)?;
+        items.push(item)?;
+    }
+    Ok(items)
+}
+
+#[tactic(auto, unfolding(crate::specs::Fields::numbers_at))]
+fn numbers_of(alloc: Global, count: u8, rest: &mut &[u8]) -> Result<NumList, FieldFail>
+    ensures { MayGive result rest.new.now (numbers_at count rest.old.now) }
+{
+    let items = shorts_of(alloc, count, rest)?;
+    NumList::checked(items).ok_or(FieldFail::Bad)
+}
+
+#[tactic(auto, unfolding(crate::specs::Fields::names_at))]
+fn names_of(alloc: Global, count: u8, rest: &mut &[u8]) -> Result<NameList, FieldFail>
+    ensures { MayGive result rest.new.now (names_at count rest.old.now) }
+{
+    let items = name_items_of(alloc, count, rest)?;
+    NameList::checked(items).ok_or(FieldFail::Bad)
+}
+
+#[tactic(auto, unfolding(crate::specs::Fields::extent_by, crate::specs::Fields::extent_at))]
+fn extent_of(alloc: Global, rest: &mut &[u8]) -> Result<Extent, FieldFail>
+    ensures { MayGive result rest.new.now (extent_at rest.old.now) }
+{
+    match byte_of(rest)? {
+        0 => Ok(Extent::All),
+        1 => Ok(Extent::Span(name_of(rest)?, name_of(rest)?)),
+        2 => {
+            let count = byte_of(rest)?;
+            Ok(Extent::Elems(names_of(alloc, count, rest)?))
+        }
+        3 => Ok(Extent::By(short_of(rest)?)),
+        _ => Err(FieldFail::Bad),
+    }
+}
+
+#[tactic(auto, unfolding(crate::specs::Fields::user_set_by, crate::specs::Fields::user_set_at))]
+fn user_set_of(alloc: Global, rest: &mut &[u8]) -> Result<UserSet, FieldFail>
+    ensures { MayGive result rest.new.now (user_set_at rest.old.now) }
+{
+    let count = byte_of(rest)?;
+    if count == 0 {
+        return Ok(UserSet::All);
+    }
+    if count <= GROUPS_ABOVE {
+        return Ok(UserSet::Listed(numbers_of(alloc, count, rest)?));
+    }
+    Ok(UserSet::Groups(numbers_of(alloc, count - GROUPS_ABOVE, rest)?))
+}
+
+#[tactic(auto, unfolding(crate::specs::Fields::sign_at))]
+fn sign_of(rest: &mut &[u8]) -> Result<bool, Bad>
+    ensures { Gives result rest.new.now (sign_at rest.old.now) }
+{
+    let number = byte_of(rest)?;
+    if number > 1 {
+        return Err(Bad);
+    }
+    Ok(number == 1)
+}
+
+// Whether the bit of this worth is set.
+fn has_bit(worth: u8, number: u8) -> bool
+    requires { 0 < worth }
+    ensures { result ≡ has_bit worth number }
+{
+    number / worth % 2 == 1
+}
+
+#[tactic(auto, unfolding(crate::specs::Fields::rights_at))]
+fn rights_of(rest: &mut &[u8]) -> Result<Rights, Bad>
+    ensures { Gives result rest.new.now (rights_at rest.old.now) }
+{
+    let number = byte_of(rest)?;
+    if number > 7 {
+        return Err(Bad);
+    }
+    Rights::checked(has_bit(1, number), has_bit(2, number), has_bit(4, number)).ok_or(Bad)
+}
+
+#[tactic(auto, unfolding(crate::specs::Fields::objects_at))]
+fn objects_of(alloc: Global, rest: &mut &[u8]) -> Result<NumList, FieldFail>
+    ensures { MayGive result rest.new.now (objects_at rest.old.now) }
+{
+    let count = byte_of(rest)?;
+    numbers_of(alloc, count, rest)
+}
+
+#[tactic(auto, unfolding(crate::specs::Fields::auth_at))]
+fn auth_of(alloc: Global, rest: &mut &[u8]) -> Result<Auth, FieldFail>
+    ensures { MayGive result rest.new.now (auth_at rest.old.now) }
+{
+    let grant = sign_of(rest)?;
+    let rights = rights_of(rest)?;
+    let users = user_set_of(alloc, rest)?;
+    let objects = objects_of(alloc, rest)?;
+    Ok(Auth {
+        users,
+        rights,
+        objects,
+        grant,
+    })
+}
+
+#[tactic(auto, unfolding(crate::specs::Fields::operation_by, crate::specs::Fields::operation_at))]
+pub fn operation_of(alloc: Global, rest: &mut &[u8]) -> Result<AdminOp, FieldFail>
+    ensures { MayGive result rest.new.now (operation_at rest.old.now) }
+{
+    match byte_of(rest)? {
+        1 => Ok(AdminOp::AddUser(short_of(rest)?)),
+        2 => Ok(AdminOp::DelUser(short_of(rest)?)),
+        3 => Ok(AdminOp::AddObj(short_of(rest)?, extent_of(alloc, rest)?)),
+        4 => Ok(AdminOp::DelObj(short_of(rest)?)),
+        5 => Ok(AdminOp::AddAuth(short_of(rest)?, auth_of(alloc, rest)?)),
+        6 => Ok(AdminOp::DelAuth(short_of(rest)?)),
+        7 => Ok(AdminOp::Validate(name_of(rest)?)),
+        8 => Ok(AdminOp::AddGroup(short_of(rest)?)),
+        9 => Ok(AdminOp::DelGroup(short_of(rest)?)),
+        10 => Ok(AdminOp::AddMember {
+            group: short_of(rest)?,
+            user: short_of(rest)?,
+        }),
+        11 => Ok(AdminOp::DelMember {
+            group: short_of(rest)?,
+            user: short_of(rest)?,
+        }),
+        _ => Err(FieldFail::Bad),
+    }
+}
+
+#[tactic(auto, unfolding(crate::specs::Fields::char_at))]
+fn char_of(rest: &mut &[u8]) -> Result<Piece, Bad>
+    ensures { Gives result rest.new.now (char_at rest.old.now) }
+{
+    let letter = char::from_u32(u32_of(rest)?).ok_or(Bad)?;
+    Ok(Piece::of(letter))
+}
+
+// The scalar value of a piece that has only one.
+pub fn only_char(piece: &Piece) -> Option<char>
+    ensures { result ≡ when (is_one_char piece.now) (slice_index (chars piece.now) 0) }
+{
+    let Ok(text) = std::str::from_utf8(piece.bytes()) else {
+        return None;
+    };
+    let mut letters = text.chars();
+    match (letters.next(), letters.next()) {
+        (Some(letter), None) => Some(letter),
+        _ => None,
+    }
+}
+
+#[tactic(auto, unfolding(crate::specs::Fields::bytes_at))]
+fn piece_bytes_of(count: u8, rest: &mut &[u8]) -> Result<Piece, Bad>
+    ensures { Gives result rest.new.now (passing is_piece (bytes_at count) rest.old.now) }
+{
+    let count = count as usize;
+    if rest.len() < count {
+        return Err(Bad);
+    }
+    let (front, after) = rest.split_at(count);
+    *rest = after;
+    Piece::checked(front).ok_or(Bad)
+}
+
+#[tactic(auto, unfolding(crate::specs::Fields::long_piece_at, crate::specs::Fields::is_long_piece))]
+fn long_piece_of(rest: &mut &[u8]) -> Result<Piece, Bad>
+    ensures { Gives result rest.new.now (long_piece_at rest.old.now) }
+{
+    let count = byte_of(rest)?;
+    let piece = piece_bytes_of(count, rest)?;
+    if only_char(&piece).is_some() {
+        return Err(Bad);
+    }
+    Ok(piece)
+}
+
+#[tactic(auto, unfolding(crate::specs::Fields::letter_at))]
+fn letter_of(version: u8, rest: &mut &[u8]) -> Result<Piece, Bad>
+    ensures { Gives result rest.new.now (letter_at version rest.old.now) }
+{
+    if version == 1 {
+        char_of(rest)
+    } else {
+        long_piece_of(rest)
+    }
+}
+
+#[tactic(auto, unfolding(crate::specs::Fields::edit_at))]
+pub fn edit_of(version: u8, kind: u8, rest: &mut &[u8]) -> Result<Edit, Bad>
+    ensures { Gives result rest.new.now (edit_at version kind rest.old.now) }
+{
+    match kind {
+        1 => Ok(Edit::Insert {
+            after: name_of(rest)?,
+            letter: letter_of(version, rest)?,
+        }),
+        2 => Ok(Edit::Delete {
+            target: name_of(rest)?,
+        }),
+        3 => Ok(Edit::Update {
+            target: name_of(rest)?,
+            letter: letter_of(version, rest)?,
+        }),
+        _ => Err(Bad),
+    }
+}

@@ -1,0 +1,123 @@
+//! Frames of a stream that comes in pieces.
+ghost use Rattle.std.specs.Prelude.{◌≡◌, ℕ, ◌+◌, ◌^◌, ◌<◌, List, [], ◌++◌, length, OnOk, OnErr, IfOk, MatchResult};
+ghost use Rattle.edit_frame.specs.declared.frame.Frame.{Frame};
+ghost use Rattle.edit_frame.specs.declared.frame.FrameKind.TheVariants.{Truncated};
+ghost use Rattle.edit_frame.specs.Splitting.{NextGives, IsSplit, IsWaiting, Follows, FrontGives, Shortens, is_truncated};
+
+use crate::decoding::{cut_fault, length_of, whole_frame};
+use crate::fail::FrameFail;
+use crate::frame::{DecodeFail, Frame, FrameFault, FrameKind};
+use bytes::{Buf, BytesMut};
+use element_name::NoMemory;
+use std::alloc::Global;
+use std::marker::Model;
+
+/// Takes a stream apart, which comes in pieces, into frames.
+///
+/// It keeps the bytes from the first frame on that wasn't given yet, and is seen as these and the place where they
+/// begin. Nothing else is kept of a fault: it is the first frame's, so that it is told again.
+#[derive(Drop)]
+pub struct Splitter {
+    alloc: Global,
+    buffer: BytesMut,
+    offset: u64,
+}
+
+impl Model for Splitter {
+    ghost use Rattle.std.specs.Prelude.{◌+◌, ◌^◌, ◌<◌, length};
+    ghost use Rattle.edit_frame.specs.Splitting.{Splitting};
+
+    ghost Value = { Splitting };
+
+    ghost view = { λ s. record { offset = s.offset; rest = s.buffer.items } };
+
+    ghost invariant = { λ s. s.offset + length s.buffer.items < 2 ^ 64 };
+}
+
+impl Splitter {
+    /// Nothing was fed yet. Takes no memory.
+    pub fn new(alloc: Global) -> Splitter
+        ensures value { result ≡ record { offset = 0; rest = [] } }
+        ensures waiting { IsWaiting result }
+        ensures split { IsSplit [] [] result }
+    {
+        Splitter {
+            alloc,
+            buffer: BytesMut::new(alloc),
+            offset: 0,
+        }
+    }
+
+    /// Takes the next piece of the stream, in time in its length but for the times when room is made.
+    pub fn feed(&mut self, piece: &[u8]) -> Result<(), NoMemory>
+        requires { self.old.offset + length self.old.rest + length piece.now < 2 ^ 64 }
+        ensures ok { OnOk result (self.new ≡ record { offset = self.old.offset; rest = self.old.rest ++ piece.now }) }
+        ensures err { OnErr result (self.new ≡ self.old) }
+        ensures split { OnOk result ((fed : List ℕ) (frames : List Frame)
+            → IsSplit fed frames self.old → IsSplit (fed ++ piece.now) frames self.new) }
+    {
+        self.buffer.extend_from_slice(piece)?;
+        Ok(())
+    }
+
+    /// The next frame of what was fed; none where its bytes aren't all there yet. A fault is told again.
+    ///
+    /// Takes time in the frame's length, and memory for an entry's lists alone.
+    pub fn next_frame(&mut self) -> Result<Option<Frame>, DecodeFail>
+        ensures exact { NextGives self.old result self.new }
+        ensures counted { self.new.offset + length self.new.rest ≡ self.old.offset + length self.old.rest }
+        ensures shortens { Shortens self.old result self.new }
+        ensures follows { (fed : List ℕ) (frames : List Frame)
+            → IsSplit fed frames self.old → Follows fed frames result self.new }
+    {
+        match front_of(self.alloc, self.buffer.as_slice()) {
+            Ok(Some((frame, len))) => {
+                self.buffer.advance(len);
+                self.offset += len as u64;
+                Ok(Some(frame))
+            }
+            Ok(None) => Ok(None),
+            Err(FrameFail::NoMemory) => Err(DecodeFail::NoMemory),
+            Err(FrameFail::Fault(kind)) => Err(DecodeFail::Fault(FrameFault {
+                offset: self.offset,
+                kind,
+            })),
+        }
+    }
+
+    /// Whether nothing is left of the stream, where it ends. The only fault is Truncated.
+    pub fn finish(&self) -> Result<(), FrameFault>
+        requires { IsWaiting self.now }
+        ensures { MatchResult result (λ _. self.now.rest ≡ [])
+            (λ fault. (0 < length self.now.rest) × (fault ≡ record { offset = self.now.offset; kind = Truncated })) }
+    {
+        if self.buffer.is_empty() {
+            return Ok(());
+        }
+        Err(FrameFault {
+            offset: self.offset,
+            kind: FrameKind::Truncated,
+        })
+    }
+}
+
+fn is_truncated(kind: FrameKind) -> bool
+    ensures { result ≡ is_truncated kind }
+{
+    matches!(kind, FrameKind::Truncated)
+}
+
+// The frame at the front with its length, if its bytes are there.
+fn front_of(alloc: Global, bytes: &[u8]) -> Result<Option<(Frame, usize)>, FrameFail>
+    ensures { FrontGives bytes.now result }
+{
+    if let Some(kind) = cut_fault(bytes) {
+        if is_truncated(kind) {
+            return Ok(None);
+        }
+        return Err(FrameFail::Fault(kind));
+    }
+    let len = 4 + length_of(bytes) as usize;
+    let frame = whole_frame(alloc, false, bytes)?;
+    Ok(Some((frame, len)))
+}

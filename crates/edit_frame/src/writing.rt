@@ -1,0 +1,295 @@
+//! The bytes of frames.
+ghost use Rattle.std.specs.Prelude.{◌≡◌, ◌+◌, ◌≤◌, true, ◌∷◌, ◌++◌, length, OnOk, OnErr, IfOk};
+ghost use Rattle.std.specs.List.{flat_map};
+ghost use Rattle.edit_frame.specs.Spelling.{short, name, extent, user_set, flag, rights, auth, number_of, operation_fields};
+ghost use Rattle.edit_frame.specs.Spelling.{letter, letter_version, edit_version, edit_kind, edit, request_fields, entry_fields};
+ghost use Rattle.edit_frame.specs.Spelling.{body, spelling};
+ghost use Rattle.edit_frame.specs.Spells.{is_frame, Spells};
+
+use crate::frame::Frame;
+use crate::limits::GROUPS_ABOVE;
+use crate::reading::only_char;
+use bytes::{BufMut, BytesMut};
+use coop_request::{Edit, Piece, Request};
+use edit_message::Message;
+use element_name::{Name, NoMemory};
+use policy_book::{AdminOp, Auth, Entry, Extent, NumList, Rights, UserSet};
+use std::alloc::{AllocError, Global};
+
+#[tactic(auto, unfolding(crate::specs::Spelling::short))]
+fn put_short(out: &mut BytesMut, n: u16) -> Result<(), AllocError>
+    ensures { OnOk result (out.new.items ≡ out.old.items ++ short n) }
+{
+    out.put_u16(n)
+}
+
+#[tactic(auto, unfolding(crate::specs::Spelling::name))]
+fn put_name(out: &mut BytesMut, n: Name) -> Result<(), AllocError>
+    ensures { OnOk result (out.new.items ≡ out.old.items ++ name n) }
+{
+    out.put_u64(n.stamp() * 65536 + u64::from(n.site()))
+}
+
+fn put_shorts(out: &mut BytesMut, numbers: &[u16]) -> Result<(), AllocError>
+    ensures { OnOk result (out.new.items ≡ out.old.items ++ flat_map short numbers.now) }
+{
+    for n in numbers {
+        put_short(out, *n)?;
+    }
+    Ok(())
+}
+
+fn put_names(out: &mut BytesMut, names: &[Name]) -> Result<(), AllocError>
+    ensures { OnOk result (out.new.items ≡ out.old.items ++ flat_map name names.now) }
+{
+    for n in names {
+        put_name(out, *n)?;
+    }
+    Ok(())
+}
+
+// A count, to which `more` is added, and the numbers.
+fn put_numbers(out: &mut BytesMut, more: u8, numbers: &NumList) -> Result<(), AllocError>
+    requires { more ≤ 16 }
+    ensures { OnOk result (out.new.items ≡ out.old.items ++ ((length numbers.now + more) ∷ flat_map short numbers.now)) }
+{
+    let numbers = numbers.as_slice();
+    out.put_u8(numbers.len() as u8 + more)?;
+    put_shorts(out, numbers)
+}
+
+#[tactic(auto, unfolding(crate::specs::Spelling::extent))]
+fn put_extent(out: &mut BytesMut, x: &Extent) -> Result<(), AllocError>
+    ensures { OnOk result (out.new.items ≡ out.old.items ++ extent x.now) }
+{
+    match x {
+        Extent::All => out.put_u8(0),
+        Extent::Span(first, last) => {
+            out.put_u8(1)?;
+            put_name(out, *first)?;
+            put_name(out, *last)
+        }
+        Extent::Elems(names) => {
+            let names = names.as_slice();
+            out.put_u8(2)?;
+            out.put_u8(names.len() as u8)?;
+            put_names(out, names)
+        }
+        Extent::By(user) => {
+            out.put_u8(3)?;
+            put_short(out, *user)
+        }
+    }
+}
+
+#[tactic(auto, unfolding(crate::specs::Spelling::user_set))]
+fn put_user_set(out: &mut BytesMut, users: &UserSet) -> Result<(), AllocError>
+    ensures { OnOk result (out.new.items ≡ out.old.items ++ user_set users.now) }
+{
+    match users {
+        UserSet::All => out.put_u8(0),
+        UserSet::Listed(numbers) => put_numbers(out, 0, numbers),
+        UserSet::Groups(numbers) => put_numbers(out, GROUPS_ABOVE, numbers),
+    }
+}
+
+fn flag(worth: u8, set: bool) -> u8
+    ensures { result ≡ flag worth set }
+{
+    if set { worth } else { 0 }
+}
+
+#[tactic(auto, unfolding(crate::specs::Spelling::rights))]
+fn put_rights(out: &mut BytesMut, r: Rights) -> Result<(), AllocError>
+    ensures { OnOk result (out.new.items ≡ out.old.items ++ rights r) }
+{
+    let number = flag(1, r.insert()) + flag(2, r.delete()) + flag(4, r.update());
+    out.put_u8(number)
+}
+
+#[tactic(auto, unfolding(crate::specs::Spelling::auth, crate::specs::Spelling::objects))]
+fn put_auth(out: &mut BytesMut, a: &Auth) -> Result<(), AllocError>
+    ensures { OnOk result (out.new.items ≡ out.old.items ++ auth a.now) }
+{
+    out.put_u8(flag(1, a.grant))?;
+    put_rights(out, a.rights)?;
+    put_user_set(out, &a.users)?;
+    put_numbers(out, 0, &a.objects)
+}
+
+fn number_of(op: &AdminOp) -> u8
+    ensures { result ≡ number_of op.now }
+{
+    match op {
+        AdminOp::AddUser(_) => 1,
+        AdminOp::DelUser(_) => 2,
+        AdminOp::AddObj(_, _) => 3,
+        AdminOp::DelObj(_) => 4,
+        AdminOp::AddAuth(_, _) => 5,
+        AdminOp::DelAuth(_) => 6,
+        AdminOp::Validate(_) => 7,
+        AdminOp::AddGroup(_) => 8,
+        AdminOp::DelGroup(_) => 9,
+        AdminOp::AddMember { .. } => 10,
+        AdminOp::DelMember { .. } => 11,
+    }
+}
+
+#[tactic(auto, unfolding(crate::specs::Spelling::operation_fields))]
+fn put_operation(out: &mut BytesMut, op: &AdminOp) -> Result<(), AllocError>
+    ensures { OnOk result (out.new.items ≡ out.old.items ++ operation_fields op.now) }
+{
+    match op {
+        AdminOp::AddUser(n)
+        | AdminOp::DelUser(n)
+        | AdminOp::DelObj(n)
+        | AdminOp::DelAuth(n)
+        | AdminOp::AddGroup(n)
+        | AdminOp::DelGroup(n) => put_short(out, *n),
+        AdminOp::AddObj(object, extent) => {
+            put_short(out, *object)?;
+            put_extent(out, extent)
+        }
+        AdminOp::AddAuth(place, auth) => {
+            put_short(out, *place)?;
+            put_auth(out, auth)
+        }
+        AdminOp::Validate(n) => put_name(out, *n),
+        AdminOp::AddMember { group, user } | AdminOp::DelMember { group, user } => {
+            put_short(out, *group)?;
+            put_short(out, *user)
+        }
+    }
+}
+
+#[tactic(auto, unfolding(crate::specs::Spelling::letter))]
+fn put_letter(out: &mut BytesMut, piece: &Piece) -> Result<(), AllocError>
+    ensures { OnOk result (out.new.items ≡ out.old.items ++ letter piece.now) }
+{
+    let bytes = piece.bytes();
+    match only_char(piece) {
+        Some(letter) => out.put_u32(letter as u32),
+        None => {
+            out.put_u8(bytes.len() as u8)?;
+            out.put_slice(bytes)
+        }
+    }
+}
+
+#[tactic(auto, unfolding(crate::specs::Spelling::edit))]
+fn put_edit(out: &mut BytesMut, e: &Edit) -> Result<(), AllocError>
+    ensures { OnOk result (out.new.items ≡ out.old.items ++ edit e.now) }
+{
+    match e {
+        Edit::Insert { after, letter } => {
+            put_name(out, *after)?;
+            put_letter(out, letter)
+        }
+        Edit::Delete { target } => put_name(out, *target),
+        Edit::Update { target, letter } => {
+            put_name(out, *target)?;
+            put_letter(out, letter)
+        }
+    }
+}
+
+fn letter_version(piece: &Piece) -> u8
+    ensures { result ≡ letter_version piece.now }
+{
+    if only_char(piece).is_some() { 1 } else { 2 }
+}
+
+fn edit_version(e: &Edit) -> u8
+    ensures { result ≡ edit_version e.now }
+{
+    match e {
+        Edit::Insert { letter, .. } | Edit::Update { letter, .. } => letter_version(letter),
+        Edit::Delete { .. } => 1,
+    }
+}
+
+fn edit_kind(e: &Edit) -> u8
+    ensures { result ≡ edit_kind e.now }
+{
+    match e {
+        Edit::Insert { .. } => 1,
+        Edit::Delete { .. } => 2,
+        Edit::Update { .. } => 3,
+    }
+}
+
+fn put_request(out: &mut BytesMut, q: Request) -> Result<(), AllocError>
+    ensures { OnOk result (out.new.items ≡ out.old.items ++ (edit_version q.edit ∷ edit_kind q.edit ∷ request_fields q)) }
+{
+    let edit = q.edit();
+    out.put_u8(edit_version(&edit))?;
+    out.put_u8(edit_kind(&edit))?;
+    put_name(out, q.id())?;
+    put_short(out, q.version() as u16)?;
+    put_edit(out, &edit)
+}
+
+fn put_entry(out: &mut BytesMut, e: &Entry) -> Result<(), AllocError>
+    ensures { OnOk result (out.new.items ≡ out.old.items ++ (1 ∷ 4 ∷ entry_fields e.now)) }
+{
+    out.put_u8(1)?;
+    out.put_u8(4)?;
+    put_short(out, e.version() as u16)?;
+    out.put_u8(number_of(e.op()))?;
+    put_operation(out, e.op())
+}
+
+#[tactic(auto, unfolding(crate::specs::Spelling::fields))]
+fn put_body(out: &mut BytesMut, f: &Frame) -> Result<(), AllocError>
+    ensures { OnOk result (out.new.items ≡ out.old.items ++ body f.now) }
+{
+    match f {
+        Frame::Item(Message::Coop(request)) => put_request(out, *request),
+        Frame::Item(Message::Admin(entry)) => put_entry(out, entry),
+        Frame::Turn => {
+            out.put_u8(1)?;
+            out.put_u8(5)
+        }
+        Frame::End => {
+            out.put_u8(1)?;
+            out.put_u8(6)
+        }
+    }
+}
+
+// Looks at a message's parts, whose types keep them in their ranges, and does nothing else.
+fn frame_in_range(f: &Frame)
+    ensures { is_frame f.now ≡ true }
+{
+    match f {
+        Frame::Item(message) => {
+            let _ = message.key();
+        }
+        Frame::Turn | Frame::End => {}
+    }
+}
+
+#[tactic(auto, unfolding(crate::specs::Spelling::spelling))]
+fn spelled(alloc: Global, frame: &Frame) -> Result<BytesMut, AllocError>
+    ensures { IfOk result (λ b. b.items ≡ spelling frame.now) }
+{
+    frame_in_range(frame);
+    let mut body = BytesMut::new(alloc);
+    put_body(&mut body, frame)?;
+    let mut whole = BytesMut::new(alloc);
+    whole.put_u32(body.len() as u32)?;
+    whole.put_slice(body.as_slice())?;
+    Ok(whole)
+}
+
+/// Puts the one spelling of the frame at the end, at most 280 bytes.
+pub fn encode(alloc: Global, frame: &Frame, out: &mut Vec<u8>) -> Result<(), NoMemory>
+    ensures ok { OnOk result (out.new.items ≡ out.old.items ++ spelling frame.now) }
+    ensures spells { Spells (spelling frame.now) frame.now }
+    ensures err { OnErr result (out.new.items ≡ out.old.items) }
+{
+    frame_in_range(frame);
+    let bytes = spelled(alloc, frame)?;
+    out.extend_from_slice(bytes.as_slice())?;
+    Ok(())
+}
