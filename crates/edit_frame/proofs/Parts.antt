@@ -20,11 +20,11 @@ use Rattle.policy_book.specs.declared.auth.Auth.{Auth}
 use Rattle.policy_book.specs.declared.op.AdminOp.{AdminOp}
 use Rattle.policy_book.specs.declared.op.AdminOp.TheVariants.{AddUser, DelUser, AddObj, DelObj, AddGroup, DelGroup, AddMember, DelMember, AddAuth, DelAuth, Validate}
 use Rattle.edit_frame.specs.Fields.{Reader, constant, as_value, both, leading, passing, number_at, byte_at, short_at, name_of, name_at, numbers_at, names_at, extent_by, extent_at, user_set_by, user_set_at, sign_at, rights_of, rights_at, auth_of, objects_at, auth_at, operation_rows, operation_by, operation_at}
-use Rattle.edit_frame.specs.Spelling.{short, name, extent, user_set, flag, rights, objects, auth, number_of, operation_fields}
+use Rattle.edit_frame.specs.Spelling.{short_bytes, name_bytes, extent_bytes, user_set_bytes, flag, rights_bytes, objects_bytes, auth_bytes, number_of, operation_fields}
 use Rattle.edit_frame.proofs.Readers.{IsBytes, IsBytes-rest, Took, Reads, ReadsBy, some_is, chosen, reads_both, reads_passing, reads_test, reads_via, reads_same, reads_leading, TakesRows, no_rows, more_rows, row_of, row_constant, row_again, reads_list, wide16, wide64, reads_number}
 
-pub reads_short : Reads ℕ short_at short is_short
-unfolding short_at short
+pub reads_short : Reads ℕ short_at short_bytes is_short
+unfolding short_at short_bytes
 reads_short = reads_number w16 65536 wide16
 
 byte_takes : (bytes : List ℕ) (x : ℕ × List ℕ) → IsBytes bytes → byte_at bytes ≡ Some x → Took bytes (x.0 ∷ []) x.1 × (true ≡ true)
@@ -47,15 +47,15 @@ number_of_name n = n.stamp * 2 ^ 16 + n.site
 abbrev is_pair : Name → Bool
 is_pair n = nat_lt (number_of_name n) 18446744073709551616 && is_short n.site
 
-pair_there : (n : ℕ) → nat_lt n 18446744073709551616 ≡ true → (name (name_of n) ≡ to_be_bytes w64 n) × (is_pair (name_of n) ≡ true)
-unfolding name
+pair_there : (n : ℕ) → nat_lt n 18446744073709551616 ≡ true → (name_bytes (name_of n) ≡ to_be_bytes w64 n) × (is_pair (name_of n) ≡ true)
+unfolding name_bytes
 pair_there n h =
     let same : (n / 2 ^ 16) * 2 ^ 16 + n % 2 ^ 16 ≡ n = omega arith in
     let site : is_short (n % 2 ^ 16) ≡ true = lt-ltb _ _ (omega arith) in
     (ap (to_be_bytes w64) same, rw (same, h, site) refl)
 
-pair_here : (n : Name) → is_pair n ≡ true → (name_of (number_of_name n) ≡ n) × (to_be_bytes w64 (number_of_name n) ≡ name n) × (nat_lt (number_of_name n) 18446744073709551616 ≡ true)
-unfolding name
+pair_here : (n : Name) → is_pair n ≡ true → (name_of (number_of_name n) ≡ n) × (to_be_bytes w64 (number_of_name n) ≡ name_bytes n) × (nat_lt (number_of_name n) 18446744073709551616 ≡ true)
+unfolding name_bytes
 pair_here n h =
     let hs = and_parts (nat_lt (number_of_name n) 18446744073709551616) (is_short n.site) h in
     let site : n.site < 2 ^ 16 = ltb-true _ _ hs.1 in
@@ -63,8 +63,8 @@ pair_here n h =
     let low : (n.stamp * 2 ^ 16 + n.site) % 2 ^ 16 ≡ n.site = omega arith in
     (rw (high, low) refl, refl, hs.0)
 
-reads_pair : Reads Name (as_value name_of (number_at w64)) name is_pair
-reads_pair = reads_via name_of number_of_name (number_at w64) (to_be_bytes w64) (λ n. nat_lt n 18446744073709551616) name is_pair
+reads_pair : Reads Name (as_value name_of (number_at w64)) name_bytes is_pair
+reads_pair = reads_via name_of number_of_name (number_at w64) (to_be_bytes w64) (λ n. nat_lt n 18446744073709551616) name_bytes is_pair
     (reads_number w64 18446744073709551616 wide64) pair_there pair_here
 
 -- a name's number has eight bytes
@@ -77,25 +77,25 @@ pair_by n h =
     let lt : nat_lt (n.stamp * 2 ^ 16 + n.site) 18446744073709551616 ≡ true = lt-ltb _ _ (omega arith) in
     and_from (nat_lt (number_of_name n) 18446744073709551616) (is_short n.site) lt hs.1
 
-pub reads_name : Reads Name name_at name is_name
+pub reads_name : Reads Name name_at name_bytes is_name
 unfolding name_at
-reads_name = reads_test is_name (as_value name_of (number_at w64)) name is_pair reads_pair pair_by
+reads_name = reads_test is_name (as_value name_of (number_at w64)) name_bytes is_pair reads_pair pair_by
 
 -- ---- lists
 
-pub reads_numbers : ReadsBy (List ℕ) numbers_at length (flat_map short) is_num_list
+pub reads_numbers : ReadsBy (List ℕ) numbers_at length (flat_map short_bytes) is_num_list
 unfolding numbers_at
-reads_numbers = reads_list is_num_list short_at short is_short reads_short
+reads_numbers = reads_list is_num_list short_at short_bytes is_short reads_short
     (λ ns h. (and_parts (is_rising nat_lt ns) (list_all is_short ns) (and_parts (nat_lt 0 (length ns) && nat_le (length ns) MAX_NUMBERS) (is_rising nat_lt ns && list_all is_short ns) h).1).1)
 
-pub reads_names : ReadsBy (List Name) names_at length (flat_map name) is_name_list
+pub reads_names : ReadsBy (List Name) names_at length (flat_map name_bytes) is_name_list
 unfolding names_at
-reads_names = reads_list is_name_list name_at name is_name reads_name
+reads_names = reads_list is_name_list name_at name_bytes is_name reads_name
     (λ ns h. (and_parts (is_rising name_lt ns) (list_all is_name ns) (and_parts (nat_lt 0 (length ns) && nat_le (length ns) MAX_NAMES) (is_rising name_lt ns && list_all is_name ns) h).1).1)
 
-pub reads_objects : Reads (List ℕ) objects_at objects is_num_list
-unfolding objects_at objects
-reads_objects = reads_leading numbers_at length (flat_map short) is_num_list reads_numbers
+pub reads_objects : Reads (List ℕ) objects_at objects_bytes is_num_list
+unfolding objects_at objects_bytes
+reads_objects = reads_leading numbers_at length (flat_map short_bytes) is_num_list reads_numbers
 
 -- ---- extents
 
@@ -107,15 +107,15 @@ extent_kind (extents.By u) = 3
 
 abbrev extent_fields : Extent → List ℕ
 extent_fields extents.All = []
-extent_fields (extents.Span a b) = name a ++ name b
-extent_fields (extents.Elems names) = length names ∷ flat_map name names
-extent_fields (extents.By u) = short u
+extent_fields (extents.Span a b) = name_bytes a ++ name_bytes b
+extent_fields (extents.Elems names) = length names ∷ flat_map name_bytes names
+extent_fields (extents.By u) = short_bytes u
 
-reads_span : Reads (Name × Name) (both name_at name_at) (λ x. name x.0 ++ name x.1) (λ x. is_name x.0 && is_name x.1)
-reads_span = reads_both name_at name_at name name is_name is_name reads_name reads_name
+reads_span : Reads (Name × Name) (both name_at name_at) (λ x. name_bytes x.0 ++ name_bytes x.1) (λ x. is_name x.0 && is_name x.1)
+reads_span = reads_both name_at name_at name_bytes name_bytes is_name is_name reads_name reads_name
 
-reads_elems : Reads (List Name) (leading byte_at names_at) (λ ns. length ns ∷ flat_map name ns) (λ ns. is_name_list ns)
-reads_elems = reads_leading names_at length (flat_map name) (λ ns. is_name_list ns) reads_names
+reads_elems : Reads (List Name) (leading byte_at names_at) (λ ns. length ns ∷ flat_map name_bytes ns) is_name_list
+reads_elems = reads_leading names_at length (flat_map name_bytes) is_name_list reads_names
 
 extent_rows : TakesRows Extent extent_kind extent_fields is_extent ((0, constant extents.All) ∷ (1, as_value (λ x. extents.Span x.0 x.1) (both name_at name_at)) ∷ (2, as_value extents.Elems (leading byte_at names_at)) ∷ (3, as_value extents.By short_at) ∷ [])
 extent_rows =
@@ -128,21 +128,21 @@ extent_rows =
 extent_again : (x : Extent) (rest : List ℕ) → is_extent x ≡ true → extent_by (extent_kind x) (extent_fields x ++ rest) ≡ Some (x, rest)
 unfolding extent_by
 extent_again extents.All rest h = refl
-extent_again (extents.Span a b) rest h = row_again (λ (x : Name × Name). extents.Span x.0 x.1) (both name_at name_at) (λ x. name x.0 ++ name x.1) (λ x. is_name x.0 && is_name x.1) (a, b) rest reads_span h
-extent_again (extents.Elems names) rest h = row_again extents.Elems (leading byte_at names_at) (λ ns. length ns ∷ flat_map name ns) (λ ns. is_name_list ns) names rest reads_elems h
-extent_again (extents.By u) rest h = row_again extents.By short_at short is_short u rest reads_short h
+extent_again (extents.Span a b) rest h = row_again (λ (x : Name × Name). extents.Span x.0 x.1) (both name_at name_at) (λ x. name_bytes x.0 ++ name_bytes x.1) (λ x. is_name x.0 && is_name x.1) (a, b) rest reads_span h
+extent_again (extents.Elems names) rest h = row_again extents.Elems (leading byte_at names_at) (λ ns. length ns ∷ flat_map name_bytes ns) is_name_list names rest reads_elems h
+extent_again (extents.By u) rest h = row_again extents.By short_at short_bytes is_short u rest reads_short h
 
-extent_spelled : (x : Extent) → extent x ≡ extent_kind x ∷ extent_fields x
-unfolding extent
+extent_spelled : (x : Extent) → extent_bytes x ≡ extent_kind x ∷ extent_fields x
+unfolding extent_bytes
 extent_spelled extents.All = refl
 extent_spelled (extents.Span a b) = refl
 extent_spelled (extents.Elems names) = refl
 extent_spelled (extents.By u) = refl
 
-pub reads_extent : Reads Extent extent_at extent is_extent
+pub reads_extent : Reads Extent extent_at extent_bytes is_extent
 unfolding extent_at extent_by
 reads_extent =
-    reads_same (leading byte_at extent_by) extent_at (λ x. extent_kind x ∷ extent_fields x) extent is_extent is_extent
+    reads_same (leading byte_at extent_by) extent_at (λ x. extent_kind x ∷ extent_fields x) extent_bytes is_extent is_extent
     (reads_leading extent_by extent_kind extent_fields is_extent (record { takes = extent_rows.takes; again = extent_again }))
     (λ bytes. refl) extent_spelled (λ x. refl)
 
@@ -155,8 +155,8 @@ set_count (users.Groups numbers) = length numbers + 16
 
 abbrev set_fields : UserSet → List ℕ
 set_fields users.All = []
-set_fields (users.Listed numbers) = flat_map short numbers
-set_fields (users.Groups numbers) = flat_map short numbers
+set_fields (users.Listed numbers) = flat_map short_bytes numbers
+set_fields (users.Groups numbers) = flat_map short_bytes numbers
 
 count_bounds : (numbers : List ℕ) → is_num_list numbers ≡ true → (0 < length numbers) × (length numbers ≤ 16)
 count_bounds numbers h =
@@ -201,16 +201,16 @@ set_again (users.Groups numbers) rest h =
     let less : length numbers + 16 - 16 ≡ length numbers = omega arith in
     rw (none, many, less, reads_numbers.again numbers rest h) refl
 
-set_spelled : (x : UserSet) → user_set x ≡ set_count x ∷ set_fields x
-unfolding user_set
+set_spelled : (x : UserSet) → user_set_bytes x ≡ set_count x ∷ set_fields x
+unfolding user_set_bytes
 set_spelled users.All = refl
 set_spelled (users.Listed numbers) = refl
 set_spelled (users.Groups numbers) = refl
 
-pub reads_user_set : Reads UserSet user_set_at user_set is_user_set
+pub reads_user_set : Reads UserSet user_set_at user_set_bytes is_user_set
 unfolding user_set_at
 reads_user_set =
-    reads_same (leading byte_at user_set_by) user_set_at (λ x. set_count x ∷ set_fields x) user_set is_user_set is_user_set
+    reads_same (leading byte_at user_set_by) user_set_at (λ x. set_count x ∷ set_fields x) user_set_bytes is_user_set is_user_set
     (reads_leading user_set_by set_count set_fields is_user_set (record { takes = set_takes; again = set_again }))
     (λ bytes. refl) set_spelled (λ x. refl)
 
@@ -260,9 +260,9 @@ flags_here false true false h = (refl, refl)
 flags_here false false true h = (refl, refl)
 flags_here false false false h = absurd cc
 
-reads_rights : Reads Rights rights_at rights has_any
-unfolding rights_at rights
-reads_rights = reads_via rights_of rights_number (passing (λ n. nat_lt 0 n && nat_le n 7) byte_at) (λ n. n ∷ []) (λ n. (nat_lt 0 n && nat_le n 7) && true) rights has_any
+reads_rights : Reads Rights rights_at rights_bytes has_any
+unfolding rights_at rights_bytes
+reads_rights = reads_via rights_of rights_number (passing (λ n. nat_lt 0 n && nat_le n 7) byte_at) (λ n. n ∷ []) (λ n. (nat_lt 0 n && nat_le n 7) && true) rights_bytes has_any
     (reads_passing (λ n. nat_lt 0 n && nat_le n 7) byte_at (λ n. n ∷ []) (λ n. true) reads_byte) rights_there
     (λ r h. (let f = flags_here r.insert r.delete r.update h in (f.0, refl, f.1)))
 
@@ -277,24 +277,24 @@ turned false b c h = absurd cc
 auth_back : Auth → Bool × (Rights × (UserSet × List ℕ))
 auth_back a = (a.grant, (a.rights, (a.users, a.objects)))
 
-pub reads_auth : Reads Auth auth_at auth is_auth
-unfolding auth_at auth auth_back
+pub reads_auth : Reads Auth auth_at auth_bytes is_auth
+unfolding auth_at auth_bytes auth_back
 reads_auth = reads_via auth_of auth_back (both sign_at (both rights_at (both user_set_at objects_at)))
-    (λ x. (flag 1 x.0 ∷ []) ++ (rights x.1.0 ++ (user_set x.1.1.0 ++ objects x.1.1.1))) (λ x. true && (has_any x.1.0 && (is_user_set x.1.1.0 && is_num_list x.1.1.1))) auth is_auth
+    (λ x. (flag 1 x.0 ∷ []) ++ (rights_bytes x.1.0 ++ (user_set_bytes x.1.1.0 ++ objects_bytes x.1.1.1))) (λ x. true && (has_any x.1.0 && (is_user_set x.1.1.0 && is_num_list x.1.1.1))) auth_bytes is_auth
     (reads_both sign_at (both rights_at (both user_set_at objects_at)) _ _ _ _ reads_sign (reads_both rights_at (both user_set_at objects_at) _ _ _ _ reads_rights (reads_both user_set_at objects_at _ _ _ _ reads_user_set reads_objects)))
     (λ x h. (refl, turned (has_any x.1.0) (is_user_set x.1.1.0) (is_num_list x.1.1.1) h))
     (λ a h. (refl, refl, turned (is_user_set a.users) (has_any a.rights) (is_num_list a.objects) h))
 
 -- ---- operations
 
-reads_object : Reads (ℕ × Extent) (both short_at extent_at) (λ x. short x.0 ++ extent x.1) (λ x. is_short x.0 && is_extent x.1)
-reads_object = reads_both short_at extent_at short extent is_short is_extent reads_short reads_extent
+reads_object : Reads (ℕ × Extent) (both short_at extent_at) (λ x. short_bytes x.0 ++ extent_bytes x.1) (λ x. is_short x.0 && is_extent x.1)
+reads_object = reads_both short_at extent_at short_bytes extent_bytes is_short is_extent reads_short reads_extent
 
-reads_placed : Reads (ℕ × Auth) (both short_at auth_at) (λ x. short x.0 ++ auth x.1) (λ x. is_short x.0 && is_auth x.1)
-reads_placed = reads_both short_at auth_at short auth is_short is_auth reads_short reads_auth
+reads_placed : Reads (ℕ × Auth) (both short_at auth_at) (λ x. short_bytes x.0 ++ auth_bytes x.1) (λ x. is_short x.0 && is_auth x.1)
+reads_placed = reads_both short_at auth_at short_bytes auth_bytes is_short is_auth reads_short reads_auth
 
-reads_member : Reads (ℕ × ℕ) (both short_at short_at) (λ x. short x.0 ++ short x.1) (λ x. is_short x.0 && is_short x.1)
-reads_member = reads_both short_at short_at short short is_short is_short reads_short reads_short
+reads_member : Reads (ℕ × ℕ) (both short_at short_at) (λ x. short_bytes x.0 ++ short_bytes x.1) (λ x. is_short x.0 && is_short x.1)
+reads_member = reads_both short_at short_at short_bytes short_bytes is_short is_short reads_short reads_short
 
 operation_row : {A : Type 0} (f : A → AdminOp) (n : ℕ) (p : Reader A) (sp : A → List ℕ) (fp : A → Bool) (rows : List (ℕ × Reader AdminOp)) → Reads A p sp fp
     → ((x : A) → number_of (f x) ≡ n) → ((x : A) → operation_fields (f x) ≡ sp x) → ((x : A) → is_operation (f x) ≡ fp x)
@@ -319,17 +319,17 @@ operations_taken =
 
 operation_again : (op : AdminOp) (rest : List ℕ) → is_operation op ≡ true → operation_by (number_of op) (operation_fields op ++ rest) ≡ Some (op, rest)
 unfolding operation_by operation_fields
-operation_again (AddUser u) rest h = row_again AddUser short_at short is_short u rest reads_short h
-operation_again (DelUser u) rest h = row_again DelUser short_at short is_short u rest reads_short h
-operation_again (AddObj n x) rest h = row_again (λ (y : ℕ × Extent). AddObj y.0 y.1) (both short_at extent_at) (λ y. short y.0 ++ extent y.1) (λ y. is_short y.0 && is_extent y.1) (n, x) rest reads_object h
-operation_again (DelObj n) rest h = row_again DelObj short_at short is_short n rest reads_short h
-operation_again (AddAuth place a) rest h = row_again (λ (y : ℕ × Auth). AddAuth y.0 y.1) (both short_at auth_at) (λ y. short y.0 ++ auth y.1) (λ y. is_short y.0 && is_auth y.1) (place, a) rest reads_placed h
-operation_again (DelAuth place) rest h = row_again DelAuth short_at short is_short place rest reads_short h
-operation_again (Validate n) rest h = row_again Validate name_at name is_name n rest reads_name h
-operation_again (AddGroup g) rest h = row_again AddGroup short_at short is_short g rest reads_short h
-operation_again (DelGroup g) rest h = row_again DelGroup short_at short is_short g rest reads_short h
-operation_again (AddMember g u) rest h = row_again (λ (y : ℕ × ℕ). AddMember y.0 y.1) (both short_at short_at) (λ y. short y.0 ++ short y.1) (λ y. is_short y.0 && is_short y.1) (g, u) rest reads_member h
-operation_again (DelMember g u) rest h = row_again (λ (y : ℕ × ℕ). DelMember y.0 y.1) (both short_at short_at) (λ y. short y.0 ++ short y.1) (λ y. is_short y.0 && is_short y.1) (g, u) rest reads_member h
+operation_again (AddUser u) rest h = row_again AddUser short_at short_bytes is_short u rest reads_short h
+operation_again (DelUser u) rest h = row_again DelUser short_at short_bytes is_short u rest reads_short h
+operation_again (AddObj n x) rest h = row_again (λ (y : ℕ × Extent). AddObj y.0 y.1) (both short_at extent_at) (λ y. short_bytes y.0 ++ extent_bytes y.1) (λ y. is_short y.0 && is_extent y.1) (n, x) rest reads_object h
+operation_again (DelObj n) rest h = row_again DelObj short_at short_bytes is_short n rest reads_short h
+operation_again (AddAuth place a) rest h = row_again (λ (y : ℕ × Auth). AddAuth y.0 y.1) (both short_at auth_at) (λ y. short_bytes y.0 ++ auth_bytes y.1) (λ y. is_short y.0 && is_auth y.1) (place, a) rest reads_placed h
+operation_again (DelAuth place) rest h = row_again DelAuth short_at short_bytes is_short place rest reads_short h
+operation_again (Validate n) rest h = row_again Validate name_at name_bytes is_name n rest reads_name h
+operation_again (AddGroup g) rest h = row_again AddGroup short_at short_bytes is_short g rest reads_short h
+operation_again (DelGroup g) rest h = row_again DelGroup short_at short_bytes is_short g rest reads_short h
+operation_again (AddMember g u) rest h = row_again (λ (y : ℕ × ℕ). AddMember y.0 y.1) (both short_at short_at) (λ y. short_bytes y.0 ++ short_bytes y.1) (λ y. is_short y.0 && is_short y.1) (g, u) rest reads_member h
+operation_again (DelMember g u) rest h = row_again (λ (y : ℕ × ℕ). DelMember y.0 y.1) (both short_at short_at) (λ y. short_bytes y.0 ++ short_bytes y.1) (λ y. is_short y.0 && is_short y.1) (g, u) rest reads_member h
 
 pub reads_operation : Reads AdminOp operation_at (λ op. number_of op ∷ operation_fields op) is_operation
 unfolding operation_at operation_by

@@ -22,43 +22,43 @@ use Rattle.edit_frame.specs.declared.frame.Frame.{Frame}
 use Rattle.edit_frame.specs.declared.frame.Frame.TheVariants.{Item, Turn, End}
 
 -- two bytes of a number
-unfoldable pub short : ℕ → List ℕ
-short n = to_be_bytes w16 n
+unfoldable pub short_bytes : ℕ → List ℕ
+short_bytes n = to_be_bytes w16 n
 
 -- eight bytes of a name, its stamp in the upper six
-unfoldable pub name : Name → List ℕ
-name n = to_be_bytes w64 (n.stamp * 2 ^ 16 + n.site)
+unfoldable pub name_bytes : Name → List ℕ
+name_bytes n = to_be_bytes w64 (n.stamp * 2 ^ 16 + n.site)
 
 -- ---- the parts of an operation
 
 -- a kind, and what the extent of that kind has
-unfoldable pub extent : Extent → List ℕ
-extent extents.All = 0 ∷ []
-extent (extents.Span a b) = 1 ∷ name a ++ name b
-extent (extents.Elems names) = 2 ∷ length names ∷ flat_map name names
-extent (extents.By u) = 3 ∷ short u
+unfoldable pub extent_bytes : Extent → List ℕ
+extent_bytes extents.All = 0 ∷ []
+extent_bytes (extents.Span a b) = 1 ∷ name_bytes a ++ name_bytes b
+extent_bytes (extents.Elems names) = 2 ∷ length names ∷ flat_map name_bytes names
+extent_bytes (extents.By u) = 3 ∷ short_bytes u
 
 -- a count, raised by 16 where it is of groups, and the numbers
-unfoldable pub user_set : UserSet → List ℕ
-user_set users.All = 0 ∷ []
-user_set (users.Listed numbers) = length numbers ∷ flat_map short numbers
-user_set (users.Groups numbers) = (length numbers + GROUPS_ABOVE) ∷ flat_map short numbers
+unfoldable pub user_set_bytes : UserSet → List ℕ
+user_set_bytes users.All = 0 ∷ []
+user_set_bytes (users.Listed numbers) = length numbers ∷ flat_map short_bytes numbers
+user_set_bytes (users.Groups numbers) = (length numbers + GROUPS_ABOVE) ∷ flat_map short_bytes numbers
 
 -- what a set bit is worth, or 0
 abbrev pub flag : ℕ → Bool → ℕ
 flag worth b = if b then worth else 0
 
 -- the sum of the rights' worths
-unfoldable pub rights : Rights → List ℕ
-rights r = (flag 1 r.insert + flag 2 r.delete + flag 4 r.update) ∷ []
+unfoldable pub rights_bytes : Rights → List ℕ
+rights_bytes r = (flag 1 r.insert + flag 2 r.delete + flag 4 r.update) ∷ []
 
 -- a count, and the numbers
-unfoldable pub objects : List ℕ → List ℕ
-objects numbers = length numbers ∷ flat_map short numbers
+unfoldable pub objects_bytes : List ℕ → List ℕ
+objects_bytes numbers = length numbers ∷ flat_map short_bytes numbers
 
 -- a sign, rights, users and objects
-unfoldable pub auth : Auth → List ℕ
-auth a = (flag 1 a.grant ∷ []) ++ (rights a.rights ++ (user_set a.users ++ objects a.objects))
+unfoldable pub auth_bytes : Auth → List ℕ
+auth_bytes a = (flag 1 a.grant ∷ []) ++ (rights_bytes a.rights ++ (user_set_bytes a.users ++ objects_bytes a.objects))
 
 -- an operation's number
 abbrev pub number_of : AdminOp → ℕ
@@ -76,17 +76,17 @@ number_of (DelMember g u) = 11
 
 -- what stands after its number
 unfoldable pub operation_fields : AdminOp → List ℕ
-operation_fields (AddUser u) = short u
-operation_fields (DelUser u) = short u
-operation_fields (AddObj n x) = short n ++ extent x
-operation_fields (DelObj n) = short n
-operation_fields (AddAuth place a) = short place ++ auth a
-operation_fields (DelAuth place) = short place
-operation_fields (Validate n) = name n
-operation_fields (AddGroup g) = short g
-operation_fields (DelGroup g) = short g
-operation_fields (AddMember g u) = short g ++ short u
-operation_fields (DelMember g u) = short g ++ short u
+operation_fields (AddUser u) = short_bytes u
+operation_fields (DelUser u) = short_bytes u
+operation_fields (AddObj n x) = short_bytes n ++ extent_bytes x
+operation_fields (DelObj n) = short_bytes n
+operation_fields (AddAuth place a) = short_bytes place ++ auth_bytes a
+operation_fields (DelAuth place) = short_bytes place
+operation_fields (Validate n) = name_bytes n
+operation_fields (AddGroup g) = short_bytes g
+operation_fields (DelGroup g) = short_bytes g
+operation_fields (AddMember g u) = short_bytes g ++ short_bytes u
+operation_fields (DelMember g u) = short_bytes g ++ short_bytes u
 
 -- ---- pieces
 
@@ -95,8 +95,8 @@ abbrev pub is_one_char : List ℕ → Bool
 is_one_char piece = length (chars piece) == 1
 
 -- the four bytes of its one scalar value; else a count, and the piece's own bytes
-unfoldable pub letter : List ℕ → List ℕ
-letter piece = if is_one_char piece then to_be_bytes w32 (slice_index (chars piece) 0) else length piece ∷ piece
+unfoldable pub letter_bytes : List ℕ → List ℕ
+letter_bytes piece = if is_one_char piece then to_be_bytes w32 (slice_index (chars piece) 0) else length piece ∷ piece
 
 -- the frame version of a piece: 2 where it isn't one scalar value
 abbrev pub letter_version : List ℕ → ℕ
@@ -117,10 +117,10 @@ edit_kind (Delete target) = 2
 edit_kind (Update target piece) = 3
 
 -- an anchor or a target, and the piece
-unfoldable pub edit : Edit → List ℕ
-edit (Insert after piece) = name after ++ letter piece
-edit (Delete target) = name target
-edit (Update target piece) = name target ++ letter piece
+unfoldable pub edit_bytes : Edit → List ℕ
+edit_bytes (Insert after piece) = name_bytes after ++ letter_bytes piece
+edit_bytes (Delete target) = name_bytes target
+edit_bytes (Update target piece) = name_bytes target ++ letter_bytes piece
 
 -- a frame's version
 abbrev pub version_of : Frame → ℕ
@@ -138,11 +138,11 @@ kind_of End = 6
 
 -- a name, a policy version and an edit
 abbrev pub request_fields : Request → List ℕ
-request_fields q = name q.id ++ (short q.version ++ edit q.edit)
+request_fields q = name_bytes q.id ++ (short_bytes q.version ++ edit_bytes q.edit)
 
 -- a version, a number and the operation's fields
 abbrev pub entry_fields : Entry → List ℕ
-entry_fields e = short e.version ++ (number_of e.op ∷ operation_fields e.op)
+entry_fields e = short_bytes e.version ++ (number_of e.op ∷ operation_fields e.op)
 
 -- a frame's fields: none of a turn or an end
 unfoldable pub fields : Frame → List ℕ

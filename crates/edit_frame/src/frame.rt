@@ -14,7 +14,8 @@ pub enum Frame {
     End,
 }
 
-/// Why bytes are no frame: the first that holds, where BadLength stands between the two cases of Truncated.
+/// Why bytes are no frame. Of several reasons the first is told: that the length field isn't whole, `BadLength`,
+/// that the frame isn't whole, and then `BadKind`, `BadField`, `LeftOver` and `BadRequest`.
 #[derive(Clone, Copy, Debug, PartialEq, Eq)]
 pub enum FrameKind {
     /// The length field is below [`crate::MIN_LENGTH`] or above [`crate::MAX_LENGTH`].

@@ -1,15 +1,20 @@
 //! Laws of spellings and of streams.
 ghost use Rattle.std.specs.Prelude.{◌≡◌, ℕ, List, ◌++◌, true, false, Ok, Err};
+ghost use Rattle.std.specs.List.{flat_map, list_all};
 ghost use Rattle.edit_frame.specs.declared.frame.Frame.{Frame};
 ghost use Rattle.edit_frame.specs.declared.frame.FrameKind.{FrameKind};
 ghost use Rattle.edit_frame.specs.Spelling.{spelling};
 ghost use Rattle.edit_frame.specs.Spells.{is_frame, Spells};
-ghost use Rattle.edit_frame.specs.Reading.{decoded, frame_at};
+ghost use Rattle.edit_frame.specs.Reading.{decoded, frame_at, stream};
 ghost use Rattle.edit_frame.specs.Splitting.{is_truncated};
 
-/// The spelling of a frame is decoded to it.
+/// What is encoded is decoded: alone, at the front of a stream, and frame after frame.
 pub fn encoded_is_decoded()
-    ensures { (f : Frame) → is_frame f ≡ true → decoded (spelling f) ≡ Ok f }
+    ensures alone { (f : Frame) → is_frame f ≡ true → decoded (spelling f) ≡ Ok f }
+    ensures front { (f : Frame) (rest : List ℕ) → is_frame f ≡ true → frame_at (spelling f ++ rest) ≡ Ok f }
+    ensures all { (frames : List Frame) (rest : List ℕ) (kind : FrameKind)
+        → list_all is_frame frames ≡ true → frame_at rest ≡ Err kind
+        → stream (flat_map spelling frames ++ rest) ≡ record { frames = frames; rest = rest } }
 {}
 
 /// A frame has one spelling, no bytes spell two frames, and no spelling begins another.

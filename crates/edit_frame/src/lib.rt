@@ -12,7 +12,7 @@ mod writing;
 
 pub use decoding::decode;
 pub use frame::{DecodeFail, Frame, FrameFault, FrameKind};
-pub use limits::{GROUPS_ABOVE, MAX_LENGTH, MIN_LENGTH};
+pub use limits::{MAX_LENGTH, MIN_LENGTH};
 pub use splitter::Splitter;
 pub use writing::encode;
 

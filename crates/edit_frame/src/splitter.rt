@@ -1,5 +1,5 @@
 //! Frames of a stream that comes in pieces.
-ghost use Rattle.std.specs.Prelude.{◌≡◌, ℕ, ◌+◌, ◌^◌, ◌<◌, List, [], ◌++◌, length, OnOk, OnErr, IfOk, MatchResult};
+ghost use Rattle.std.specs.Prelude.{◌≡◌, ℕ, ◌+◌, ◌^◌, ◌<◌, List, [], ◌++◌, length, OnOk, OnErr, MatchResult};
 ghost use Rattle.edit_frame.specs.declared.frame.Frame.{Frame};
 ghost use Rattle.edit_frame.specs.declared.frame.FrameKind.TheVariants.{Truncated};
 ghost use Rattle.edit_frame.specs.Splitting.{NextGives, IsSplit, IsWaiting, Follows, FrontGives, Shortens, is_truncated};

@@ -1,8 +1,8 @@
 //! The bytes of frames.
 ghost use Rattle.std.specs.Prelude.{◌≡◌, ◌+◌, ◌≤◌, true, ◌∷◌, ◌++◌, length, OnOk, OnErr, IfOk};
 ghost use Rattle.std.specs.List.{flat_map};
-ghost use Rattle.edit_frame.specs.Spelling.{short, name, extent, user_set, flag, rights, auth, number_of, operation_fields};
-ghost use Rattle.edit_frame.specs.Spelling.{letter, letter_version, edit_version, edit_kind, edit, request_fields, entry_fields};
+ghost use Rattle.edit_frame.specs.Spelling.{short_bytes, name_bytes, extent_bytes, user_set_bytes, flag, rights_bytes, auth_bytes, number_of, operation_fields};
+ghost use Rattle.edit_frame.specs.Spelling.{letter_bytes, letter_version, edit_version, edit_kind, edit_bytes, request_fields, entry_fields};
 ghost use Rattle.edit_frame.specs.Spelling.{body, spelling};
 ghost use Rattle.edit_frame.specs.Spells.{is_frame, Spells};
 
@@ -16,22 +16,22 @@ use element_name::{Name, NoMemory};
 use policy_book::{AdminOp, Auth, Entry, Extent, NumList, Rights, UserSet};
 use std::alloc::{AllocError, Global};
 
-#[tactic(auto, unfolding(crate::specs::Spelling::short))]
+#[tactic(auto, unfolding(crate::specs::Spelling::short_bytes))]
 fn put_short(out: &mut BytesMut, n: u16) -> Result<(), AllocError>
-    ensures { OnOk result (out.new.items ≡ out.old.items ++ short n) }
+    ensures { OnOk result (out.new.items ≡ out.old.items ++ short_bytes n) }
 {
     out.put_u16(n)
 }
 
-#[tactic(auto, unfolding(crate::specs::Spelling::name))]
+#[tactic(auto, unfolding(crate::specs::Spelling::name_bytes))]
 fn put_name(out: &mut BytesMut, n: Name) -> Result<(), AllocError>
-    ensures { OnOk result (out.new.items ≡ out.old.items ++ name n) }
+    ensures { OnOk result (out.new.items ≡ out.old.items ++ name_bytes n) }
 {
     out.put_u64(n.stamp() * 65536 + u64::from(n.site()))
 }
 
 fn put_shorts(out: &mut BytesMut, numbers: &[u16]) -> Result<(), AllocError>
-    ensures { OnOk result (out.new.items ≡ out.old.items ++ flat_map short numbers.now) }
+    ensures { OnOk result (out.new.items ≡ out.old.items ++ flat_map short_bytes numbers.now) }
 {
     for n in numbers {
         put_short(out, *n)?;
@@ -40,7 +40,7 @@ fn put_shorts(out: &mut BytesMut, numbers: &[u16]) -> Result<(), AllocError>
 }
 
 fn put_names(out: &mut BytesMut, names: &[Name]) -> Result<(), AllocError>
-    ensures { OnOk result (out.new.items ≡ out.old.items ++ flat_map name names.now) }
+    ensures { OnOk result (out.new.items ≡ out.old.items ++ flat_map name_bytes names.now) }
 {
     for n in names {
         put_name(out, *n)?;
@@ -51,16 +51,16 @@ fn put_names(out: &mut BytesMut, names: &[Name]) -> Result<(), AllocError>
 // A count, to which `more` is added, and the numbers.
 fn put_numbers(out: &mut BytesMut, more: u8, numbers: &NumList) -> Result<(), AllocError>
     requires { more ≤ 16 }
-    ensures { OnOk result (out.new.items ≡ out.old.items ++ ((length numbers.now + more) ∷ flat_map short numbers.now)) }
+    ensures { OnOk result (out.new.items ≡ out.old.items ++ ((length numbers.now + more) ∷ flat_map short_bytes numbers.now)) }
 {
     let numbers = numbers.as_slice();
     out.put_u8(numbers.len() as u8 + more)?;
     put_shorts(out, numbers)
 }
 
-#[tactic(auto, unfolding(crate::specs::Spelling::extent))]
+#[tactic(auto, unfolding(crate::specs::Spelling::extent_bytes))]
 fn put_extent(out: &mut BytesMut, x: &Extent) -> Result<(), AllocError>
-    ensures { OnOk result (out.new.items ≡ out.old.items ++ extent x.now) }
+    ensures { OnOk result (out.new.items ≡ out.old.items ++ extent_bytes x.now) }
 {
     match x {
         Extent::All => out.put_u8(0),
@@ -82,9 +82,9 @@ fn put_extent(out: &mut BytesMut, x: &Extent) -> Result<(), AllocError>
     }
 }
 
-#[tactic(auto, unfolding(crate::specs::Spelling::user_set))]
+#[tactic(auto, unfolding(crate::specs::Spelling::user_set_bytes))]
 fn put_user_set(out: &mut BytesMut, users: &UserSet) -> Result<(), AllocError>
-    ensures { OnOk result (out.new.items ≡ out.old.items ++ user_set users.now) }
+    ensures { OnOk result (out.new.items ≡ out.old.items ++ user_set_bytes users.now) }
 {
     match users {
         UserSet::All => out.put_u8(0),
@@ -99,17 +99,17 @@ fn flag(worth: u8, set: bool) -> u8
     if set { worth } else { 0 }
 }
 
-#[tactic(auto, unfolding(crate::specs::Spelling::rights))]
+#[tactic(auto, unfolding(crate::specs::Spelling::rights_bytes))]
 fn put_rights(out: &mut BytesMut, r: Rights) -> Result<(), AllocError>
-    ensures { OnOk result (out.new.items ≡ out.old.items ++ rights r) }
+    ensures { OnOk result (out.new.items ≡ out.old.items ++ rights_bytes r) }
 {
     let number = flag(1, r.insert()) + flag(2, r.delete()) + flag(4, r.update());
     out.put_u8(number)
 }
 
-#[tactic(auto, unfolding(crate::specs::Spelling::auth, crate::specs::Spelling::objects))]
+#[tactic(auto, unfolding(crate::specs::Spelling::auth_bytes, crate::specs::Spelling::objects_bytes))]
 fn put_auth(out: &mut BytesMut, a: &Auth) -> Result<(), AllocError>
-    ensures { OnOk result (out.new.items ≡ out.old.items ++ auth a.now) }
+    ensures { OnOk result (out.new.items ≡ out.old.items ++ auth_bytes a.now) }
 {
     out.put_u8(flag(1, a.grant))?;
     put_rights(out, a.rights)?;
@@ -162,9 +162,9 @@ fn put_operation(out: &mut BytesMut, op: &AdminOp) -> Result<(), AllocError>
     }
 }
 
-#[tactic(auto, unfolding(crate::specs::Spelling::letter))]
+#[tactic(auto, unfolding(crate::specs::Spelling::letter_bytes))]
 fn put_letter(out: &mut BytesMut, piece: &Piece) -> Result<(), AllocError>
-    ensures { OnOk result (out.new.items ≡ out.old.items ++ letter piece.now) }
+    ensures { OnOk result (out.new.items ≡ out.old.items ++ letter_bytes piece.now) }
 {
     let bytes = piece.bytes();
     match only_char(piece) {
@@ -176,9 +176,9 @@ fn put_letter(out: &mut BytesMut, piece: &Piece) -> Result<(), AllocError>
     }
 }
 
-#[tactic(auto, unfolding(crate::specs::Spelling::edit))]
+#[tactic(auto, unfolding(crate::specs::Spelling::edit_bytes))]
 fn put_edit(out: &mut BytesMut, e: &Edit) -> Result<(), AllocError>
-    ensures { OnOk result (out.new.items ≡ out.old.items ++ edit e.now) }
+    ensures { OnOk result (out.new.items ≡ out.old.items ++ edit_bytes e.now) }
 {
     match e {
         Edit::Insert { after, letter } => {
