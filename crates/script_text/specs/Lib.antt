@@ -1,0 +1,7 @@
+pub mod Words
+pub mod Numbers
+pub mod Pieces
+pub mod Sets
+pub mod Operation
+pub mod Message
+pub mod Line

@@ -1,0 +1,15 @@
+//! Reading the lines of scripts and of steps.
+#![tactic(auto)]
+
+mod line;
+mod message;
+mod numbers;
+mod operation;
+mod pieces;
+mod sets;
+mod step;
+mod words;
+
+pub use line::script_line;
+pub use line_engine::LineFail;
+pub use step::step_line;

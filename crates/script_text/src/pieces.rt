@@ -1,0 +1,66 @@
+//! Pieces of text, as words.
+ghost use Rattle.std.specs.Prelude.{◌≡◌, ◌==◌, IfOk, option_map, false};
+ghost use Rattle.std.specs.List.{list_any};
+ghost use Rattle.script_text.specs.Pieces.{escaped, unescaped, read_piece};
+
+use coop_request::Piece;
+use element_name::NoMemory;
+use std::alloc::Global;
+
+// The byte that `\` and this byte stand for.
+fn escaped(b: u8) -> Option<u8>
+    ensures { result ≡ escaped b }
+{
+    match b {
+        b'n' => Some(b'\n'),
+        b's' => Some(b' '),
+        b'\\' => Some(b'\\'),
+        _ => None,
+    }
+}
+
+// The bytes that a word stands for.
+fn unescaped(alloc: Global, word: &[u8]) -> Result<Option<Vec<u8>>, NoMemory>
+    ensures { IfOk result (λ found. option_map (λ v. v.items) found ≡ unescaped false word.now) }
+{
+    let mut bytes = Vec::new(alloc);
+    let mut behind = false;
+    for b in word {
+        let b = *b;
+        if behind {
+            let Some(byte) = escaped(b) else {
+                return Ok(None);
+            };
+            bytes.push(byte)?;
+            behind = false;
+        } else if b == b'\\' {
+            behind = true;
+        } else {
+            bytes.push(b)?;
+        }
+    }
+    if behind {
+        return Ok(None);
+    }
+    Ok(Some(bytes))
+}
+
+fn has_backslash(word: &[u8]) -> bool
+    ensures { result ≡ list_any (λ b. b == 92) word.now }
+{
+    word.iter().any(|b| *b == b'\\')
+}
+
+/// The piece that a word spells. Takes no memory where the word has no `\`.
+#[tactic(auto, unfolding(crate::specs::Pieces::read_piece))]
+pub(crate) fn read_piece(alloc: Global, word: &[u8]) -> Result<Option<Piece>, NoMemory>
+    ensures { IfOk result (λ found. found ≡ read_piece word.now) }
+{
+    if !has_backslash(word) {
+        return Ok(Piece::checked(word));
+    }
+    let Some(bytes) = unescaped(alloc, word)? else {
+        return Ok(None);
+    };
+    Ok(Piece::checked(&bytes))
+}
