@@ -1,2 +1,4 @@
 pub mod Line
 pub mod Reply
+pub mod Values
+pub mod Spelling

@@ -1,0 +1,10 @@
+//! The lines that answers and replies are written in, and the texts of steps and messages.
+#![tactic(auto)]
+
+mod answer;
+mod part;
+mod spelling;
+mod values;
+
+pub use answer::{answer_line, reply_line};
+pub use spelling::{message_text, step_text};
