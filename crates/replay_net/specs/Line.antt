@@ -1,7 +1,8 @@
 -- Lines, and which of them a world takes.
-use Rattle.std.specs.Prelude.{ℕ, Bool, true, false, not, ◌&&◌, nat_lt}
+use Rattle.std.specs.Prelude.{ℕ, Bool, true, false, not, ◌&&◌, nat_lt, nat_le}
 use Rattle.peer_step.specs.declared.step.Step.{Step}
 use Rattle.peer_step.specs.declared.step.Step.TheVariants.{Edit, Administer, Receive, Settle, ValidateNext, Look, Show}
+use Rattle.replay_net.specs.declared.line.TheConstants.{MAX_PEERS}
 use Rattle.replay_net.specs.declared.line.Line.{Line}
 use Rattle.replay_net.specs.declared.line.Line.TheVariants.{Peers, Local, Give, Hand, StateOf}
 
@@ -13,6 +14,14 @@ is_receive Settle = false
 is_receive ValidateNext = false
 is_receive (Look from) = false
 is_receive Show = false
+
+-- a line that begins a world: with 1 to 64 peers
+abbrev pub is_opening : Line → Bool
+is_opening (Peers count) = nat_lt 0 count && nat_le count MAX_PEERS
+is_opening (Local peer step) = false
+is_opening (Give message peer) = false
+is_opening (Hand peer message) = false
+is_opening (StateOf peer name) = false
 
 -- a line of one of so many peers, where a message is received by `Give` and `Hand` alone
 abbrev pub is_world_line : ℕ → Line → Bool

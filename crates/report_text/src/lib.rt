@@ -8,3 +8,6 @@ mod values;
 
 pub use answer::{answer_line, reply_line};
 pub use spelling::{message_text, step_text};
+
+#[cfg(test)]
+mod tests;

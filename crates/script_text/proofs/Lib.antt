@@ -1,3 +1,5 @@
 pub mod DigitLemmas
 pub mod Escapes
+pub mod SpelledWords
 pub mod TextTests
+pub mod WorldLines

@@ -1,7 +1,6 @@
 -- Script lines and step lines.
-use Rattle.std.specs.Prelude.{ℕ, Bool, nat_lt, List, [], ◌∷◌, Option, Some, None, option_map, codes, if◌then◌else◌}
+use Rattle.std.specs.Prelude.{ℕ, Bool, List, [], ◌∷◌, Option, Some, None, option_map, codes, if◌then◌else◌}
 use Rattle.element_name.specs.Cases.{when, given, first_of, ◌>>=◌}
-use Rattle.element_name.specs.Name.{Name}
 use Rattle.peer_step.specs.declared.step.LocalEdit.{LocalEdit}
 use Rattle.peer_step.specs.declared.step.LocalEdit.TheVariants.{Insert, Delete, Update}
 use Rattle.peer_step.specs.declared.step.Step.{Step}
@@ -83,17 +82,20 @@ read_state peers (a ∷ b ∷ []) = do
   Some (StateOf peer name)
 read_state peers args = None
 
--- a line after the first, where there are so many peers
-abbrev pub read_later : ℕ → List (List ℕ) → Option Line
-read_later peers (word ∷ args) = beside word (
+-- the lines that begin with a word
+abbrev pub word_lines : ℕ → List (List ℕ) → List (List ℕ × Option Line)
+word_lines peers args =
     (codes "give", read_give peers args)
     ∷ (codes "hand", read_hand peers args)
     ∷ (codes "settle", option_map (λ p. Local p Settle) (one_peer peers args))
     ∷ (codes "look", read_look peers args)
     ∷ (codes "show", option_map (λ p. Local p Show) (one_peer peers args))
     ∷ (codes "state", read_state peers args)
-    ∷ [])
-    (read_local peers word args)
+    ∷ []
+
+-- a line after the first, where there are so many peers: it begins with a word or with a peer
+abbrev pub read_later : ℕ → List (List ℕ) → Option Line
+read_later peers (word ∷ args) = beside word (word_lines peers args) (read_local peers word args)
 read_later peers [] = None
 
 abbrev pub one_count : List (List ℕ) → Option ℕ

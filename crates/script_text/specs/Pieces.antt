@@ -1,5 +1,5 @@
 -- Pieces of text, as words.
-use Rattle.std.specs.Prelude.{ℕ, Bool, true, false, not, ◌&&◌, List, [], ◌∷◌, Option, Some, None, ◌==◌, if◌then◌else◌}
+use Rattle.std.specs.Prelude.{ℕ, Bool, true, false, not, ◌&&◌, List, [], ◌∷◌, Option, Some, ◌==◌, if◌then◌else◌}
 use Rattle.element_name.specs.Cases.{when, first_of, ◌>>=◌}
 use Rattle.coop_request.specs.Piece.{is_piece}
 

@@ -1,6 +1,7 @@
 //! Reading the lines of scripts and of steps.
 #![tactic(auto)]
 
+pub mod laws;
 mod line;
 mod message;
 mod numbers;
@@ -13,3 +14,6 @@ mod words;
 pub use line::script_line;
 pub use line_engine::LineFail;
 pub use step::step_line;
+
+#[cfg(test)]
+mod tests;

@@ -1,6 +1,6 @@
 //! Script lines.
-ghost use Rattle.std.specs.Prelude.{◌≡◌, IfOk, IsErrOf, Some, None, IsTrue, false};
-ghost use Rattle.replay_net.specs.Line.{is_world_line};
+ghost use Rattle.std.specs.Prelude.{◌≡◌, IfOk, IsErrOf, Some, None, IsTrue, true, false};
+ghost use Rattle.replay_net.specs.Line.{is_opening, is_world_line};
 ghost use Rattle.script_text.specs.Words.{bytes_of};
 ghost use Rattle.script_text.specs.Line.{read_own, read_local, read_give, read_hand, read_look, read_state, read_later, one_count, read_first, script_line};
 
@@ -163,6 +163,10 @@ fn read_first(words: &[&[u8]]) -> Option<Line>
 pub fn script_line(alloc: Global, bytes: &[u8], first: bool, peers: u32) -> Result<Line, LineFail>
     ensures ok { IfOk result (λ line. script_line first peers bytes.now ≡ Some line) }
     ensures bad { IsErrOf result LineFail.Bad → script_line first peers bytes.now ≡ None }
+
+    // What follows for the world that the line is for.
+    ensures opening { first ≡ true → IfOk result (λ line. IsTrue (is_opening line)) }
+    ensures later { first ≡ false → IfOk result (λ line. IsTrue (is_world_line peers line)) }
 {
     if !is_line(bytes) {
         return Err(LineFail::Bad);
@@ -171,7 +175,10 @@ pub fn script_line(alloc: Global, bytes: &[u8], first: bool, peers: u32) -> Resu
         return Err(LineFail::NoMemory);
     };
     if first {
-        return read_first(&words).ok_or(LineFail::Bad);
+        let Some(line) = read_first(&words) else {
+            return Err(LineFail::Bad);
+        };
+        return Ok(line);
     }
     match read_later(alloc, peers, &words) {
         Ok(Some(line)) => Ok(line),

@@ -1,5 +1,4 @@
 use Rattle.std.proofs.Common.{◌≡◌, ◌++◌, drop, map}
-use Rattle.std.specs.Prelude.{decimal}
 use Rattle.replay_net.specs.Values.{each_behind, name_text}
 use Rattle.report_text.proofs.values.put_more_names.Given as goal
 

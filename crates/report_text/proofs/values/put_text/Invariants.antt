@@ -1,5 +1,4 @@
-use Rattle.std.proofs.Common.{◌≡◌, ◌++◌, drop, map}
-use Rattle.std.specs.Prelude.{decimal}
+use Rattle.std.proofs.Common.{◌≡◌, ◌++◌, drop}
 use Rattle.replay_net.specs.Values.{text_text}
 use Rattle.report_text.proofs.values.put_text.Given as goal
 

@@ -1,4 +1,4 @@
-use Rattle.std.proofs.Common.{◌≡◌, ◌∙◌, sym}
+use Rattle.std.proofs.Common.{◌∙◌, sym}
 use Rattle.script_text.specs.Pieces.{read_piece}
 use Rattle.script_text.proofs.Escapes.{unescaped-plain}
 use Rattle.script_text.proofs.pieces.read_piece.Goals as goal
