@@ -71,11 +71,12 @@ impl Peer {
         })
     }
 
-    /// Its site.
+    /// Its site, which is its user's number.
     pub fn site(&self) -> u16
         ensures site { result ≡ self.now.site }
         ensures sound { IsSound self.now }
     {
+        // Each says that it is within its limits, as the clause `sound` does of both.
         let _ = self.journal.len();
         let _ = self.hold.len();
         self.site
@@ -144,9 +145,17 @@ impl Peer {
         self.journal.missing(message)
     }
 
-    /// Makes a step, and answers it.
+    /// Makes a step, and answers it: the first row of the step's table that holds.
     ///
-    /// Fails where memory is wanting, and the peer is then as it was.
+    /// Time: a request is judged alone, over the versions from the one that it carries; it takes time
+    /// logarithmic in the requests, and linear in the elements while their sequence is a plain list. An entry
+    /// takes a verdict for each Tentative request of a user within its reach, and one pass over the elements
+    /// if it undid any. What waits for what came is woken in one pass over the held messages.
+    ///
+    /// Memory: an insert takes about 1,100 bytes, another request about 700, a held message about 350.
+    ///
+    /// Fails where memory is wanting, and the peer is then as it was: all memory is taken before anything is
+    /// undone, and what a want of memory cuts short is taken back.
     pub fn step(&mut self, step: Step) -> Result<Answer, NoMemory>
         ensures answer { IfOk result (λ answer. answer ≡ answer_of self.old step) }
         ensures after { OnOk result (self.new ≡ peer_after self.old step) }
