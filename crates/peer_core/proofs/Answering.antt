@@ -196,7 +196,7 @@ as_many_shown R S (n ∷ names) = one (shown_of R S n) n (shown_names names R S)
     one None n xs ys same = same
     one (Some piece) n xs ys same = ap suc same
 
-in_filter : (test : Name → Bool) (names : List Name) (n : Name) → has_name (filter test names) n ≡ true → has_name names n ≡ true
+pub in_filter : (test : Name → Bool) (names : List Name) (n : Name) → has_name (filter test names) n ≡ true → has_name names n ≡ true
 in_filter test [] n h = h
 in_filter test (m ∷ names) n h = elim (test m) as (λ b. has_name (cond b (m ∷ filter test names) (filter test names)) n ≡ true → has_name (m ∷ names) n ≡ true) [
   | true ↦ λ g. ⊎_elim
@@ -206,13 +206,13 @@ in_filter test (m ∷ names) n h = elim (test m) as (λ b. has_name (cond b (m �
   | false ↦ λ g. or_right (name_eq n m) (has_name names n) (in_filter test names n g)
 ] h
 
-has_at : (names : List Name) (i : ℕ) (d : Name) → i < length names → has_name names (slice_index_or names i d) ≡ true
+pub has_at : (names : List Name) (i : ℕ) (d : Name) → i < length names → has_name names (slice_index_or names i d) ≡ true
 has_at [] i d h = absurd (omega arith)
 has_at (n ∷ names) zero d h = or_left (name_eq n n) (has_name names n) (name_eq-refl n)
 has_at (n ∷ names) (suc i) d h = or_right (name_eq (slice_index_or names i d) n) (has_name names (slice_index_or names i d)) (has_at names i d (omega arith))
 
 -- an element that shows is one of the history's
-shown_there : (R : List Request) (L : List Entry) (i : ℕ) → IsHistory R → i < length (shown_in R L) → has_name (elements_of R) (slice_index_or (shown_in R L) i start) ≡ true
+pub shown_there : (R : List Request) (L : List Entry) (i : ℕ) → IsHistory R → i < length (shown_in R L) → has_name (elements_of R) (slice_index_or (shown_in R L) i start) ≡ true
 shown_there R L i each h =
     let n : Name = slice_index_or (shown_in R L) i start in
     sym (has_order R n each) ∙ in_filter _ (text_order R) n (has_at (shown_in R L) i start h)
@@ -223,7 +223,7 @@ over : (R : List Request) (s : ℕ) → s ≤ fold (λ stamp q. max stamp q.id.s
 over [] s = omega arith
 over (q ∷ R) s = let more = over R (max s q.id.stamp) in omega (arith, more)
 
-named_below : (R : List Request) (s : ℕ) (n : Name) → list_any (λ r. name_eq r.id n) R ≡ true → n.stamp ≤ fold (λ stamp q. max stamp q.id.stamp) s R
+pub named_below : (R : List Request) (s : ℕ) (n : Name) → list_any (λ r. name_eq r.id n) R ≡ true → n.stamp ≤ fold (λ stamp q. max stamp q.id.stamp) s R
 named_below [] s n h = absurd (cc)
 named_below (q ∷ R) s n h = ⊎_elim
     (λ (t : name_eq q.id n ≡ true).
@@ -234,7 +234,7 @@ named_below (q ∷ R) s n h = ⊎_elim
     (cases_Bool (name_eq q.id n))
 
 -- the element of a request has its name
-named : (R : List Request) (n : Name) → has_name (elements_of R) n ≡ true → list_any (λ r. name_eq r.id n) R ≡ true
+pub named : (R : List Request) (n : Name) → has_name (elements_of R) n ≡ true → list_any (λ r. name_eq r.id n) R ≡ true
 named R n h = ⊎_elim
     (λ (t : list_any (λ r. name_eq r.id n) R ≡ true). t)
     (λ (f : list_any (λ r. name_eq r.id n) R ≡ false). absurd (let none = new_element R n f in cc))
@@ -274,12 +274,12 @@ record Aims (R : List Request) (edit : Edit) : Type 0 where
   older : (anchor_or_target edit).stamp ≤ greatest_stamp R
 
 -- an element of a history
-record IsOld (R : List Request) (n : Name) : Type 0 where
-  anchor : is_anchor (elements_of R) n ≡ true
-  other : name_eq n start ≡ false
-  below : n.stamp ≤ greatest_stamp R
+pub record IsOld (R : List Request) (n : Name) : Type 0 where
+  pub anchor : is_anchor (elements_of R) n ≡ true
+  pub other : name_eq n start ≡ false
+  pub below : n.stamp ≤ greatest_stamp R
 
-old_shown : (R : List Request) (L : List Entry) (i : ℕ) → IsHistory R → i < length (shown_in R L) → IsOld R (slice_index_or (shown_in R L) i start)
+pub old_shown : (R : List Request) (L : List Entry) (i : ℕ) → IsHistory R → i < length (shown_in R L) → IsOld R (slice_index_or (shown_in R L) i start)
 old_shown R L i each h =
     let n : Name = slice_index_or (shown_in R L) i start in
     let there = shown_there R L i each h in

@@ -102,10 +102,10 @@ module _ (R : List Request) (L : List Entry) (known : AreKnown R L) (r : Request
   found_push : (n : Name) → request_of (R ++ r ∷ []) n ≡ option_or (request_of R n) (if name_eq r.id n then Some r else None)
   found_push n = find-append (λ q. name_eq q.id n) R (r ∷ [])
 
-  found_own : request_of (R ++ r ∷ []) r.id ≡ Some r
+  pub found_own : request_of (R ++ r ∷ []) r.id ≡ Some r
   found_own = found_push r.id ∙ rw (fresh, name_eq-refl r.id) refl
 
-  found_other : (n : Name) → name_eq r.id n ≡ false → request_of (R ++ r ∷ []) n ≡ request_of R n
+  pub found_other : (n : Name) → name_eq r.id n ≡ false → request_of (R ++ r ∷ []) n ≡ request_of R n
   found_other n f = found_push n ∙ rw f (nothing (request_of R n))
     where
       nothing : (o : Option Request) → option_or o None ≡ o
@@ -154,7 +154,7 @@ module _ (R : List Request) (L : List Entry) (known : AreKnown R L) (r : Request
           ∙ no_insert r.id r.edit other t
           ∙ sym (ap (λ n. option_and_then piece_made (request_of R n)) here ∙ ap (option_and_then piece_made) fresh)
 
-  cell_more : (e : Name) → name_eq (element_of r) e ≡ false → cell_of (R ++ r ∷ []) (counted_in (R ++ r ∷ []) L) e ≡ cell_of R (counted_in R L) e
+  pub cell_more : (e : Name) → name_eq (element_of r) e ≡ false → cell_of (R ++ r ∷ []) (counted_in (R ++ r ∷ []) L) e ≡ cell_of R (counted_in R L) e
   cell_more e other =
       ap (λ (o : Option (List ℕ)). option_map (λ own. cell_from e own (counted_in (R ++ r ∷ []) L)) o) (own_more e other)
       ∙ ap (λ (C : List Request). option_map (λ own. cell_from e own C) (own_piece R e)) counted_push

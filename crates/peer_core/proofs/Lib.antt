@@ -15,3 +15,4 @@ pub mod Texts
 pub mod Waits
 pub mod Sounds
 pub mod Answering
+pub mod Editing

@@ -1,5 +1,5 @@
 -- The laws of journals.
-use Rattle.std.specs.Prelude.{◌≡◌, ℕ, ◌≤◌, ◌+◌, List, [], ◌∷◌, ◌++◌, length, Contains, true}
+use Rattle.std.specs.Prelude.{◌≡◌, ℕ, ◌≤◌, ◌+◌, List, [], ◌∷◌, ◌++◌, length, Contains, true, insert, remove, slice_set}
 use Rattle.element_name.specs.Name.{Name, has_name}
 use Rattle.element_name.specs.Tree.{before}
 use Rattle.coop_request.specs.Request.{Request}
@@ -12,8 +12,14 @@ use Rattle.auth_match.specs.Requests.{request_verdict}
 use Rattle.admin_log.specs.Log.{IsLog, policy_of, validates}
 use Rattle.check_remote.specs.Laws.{state_after, have_span_ends}
 use Rattle.check_remote.specs.State.{verdict_at}
-use Rattle.peer_core.specs.Peer.{state_in, cell_in, text_in}
-use Rattle.peer_core.specs.Sound.{IsJournal}
+use Rattle.peer_step.specs.declared.step.LocalEdit.{LocalEdit}
+use Rattle.peer_step.specs.declared.step.LocalEdit.TheVariants.{Insert, Delete, Update}
+use Rattle.peer_step.specs.declared.step.Step.TheVariants.{Edit}
+use Rattle.peer_step.specs.declared.answer.Answer.TheVariants.{Done}
+use Rattle.peer_core.specs.Peer.{Peer, state_in, cell_in, text_in, text}
+use Rattle.peer_core.specs.Sound.{IsJournal, IsSound}
+use Rattle.peer_core.specs.Answers.{answer_edit}
+use Rattle.peer_core.specs.After.{peer_after}
 
 -- ---- what a journal consists of
 
@@ -78,3 +84,15 @@ pub record LookAlike (J K : List Message) : Type 0 where
 
 abbrev pub SetLaw : Type 0
 SetLaw = (J K : List Message) → HaveSameSets J K → LookAlike J K
+
+-- ---- edit: a peer's own edit changes the shown text by its piece
+
+-- the text with the edit in it
+abbrev pub edited : List (List ℕ) → LocalEdit → List (List ℕ)
+edited pieces (Insert at letter) = insert pieces at letter
+edited pieces (Delete at) = remove pieces at
+edited pieces (Update at letter) = slice_set pieces at letter
+
+-- where a sound peer makes the edit, it shows the text with the edit in it
+abbrev pub EditLaw : Type 0
+EditLaw = (p : Peer) (edit : LocalEdit) (q : Request) → IsSound p → answer_edit p edit ≡ Done q → text (peer_after p (Edit edit)) ≡ edited (text p) edit
