@@ -1,4 +1,7 @@
 pub mod Line
 pub mod Reply
+pub mod World
+pub mod Places
+pub mod Laws
 pub mod Values
 pub mod Spelling

@@ -31,7 +31,7 @@ is_world_line peers (Give message peer) = nat_lt peer peers
 is_world_line peers (Hand peer message) = nat_lt peer peers
 is_world_line peers (StateOf peer name) = nat_lt peer peers
 
--- a message from outside: a world without such lines is honest
+-- a line that hands in a message from outside
 abbrev pub is_hand : Line → Bool
 is_hand (Peers count) = false
 is_hand (Local peer step) = false
