@@ -15,4 +15,5 @@ pub mod Texts
 pub mod Waits
 pub mod Sounds
 pub mod Answering
+pub mod Staying
 pub mod Editing

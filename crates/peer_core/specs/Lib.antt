@@ -1,5 +1,6 @@
 pub mod Peer
 pub mod Sound
+pub mod Formed
 pub mod Local
 pub mod Answers
 pub mod After
