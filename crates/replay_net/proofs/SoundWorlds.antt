@@ -1,7 +1,7 @@
 -- Worlds stay sound under well-formed lines.
-use Rattle.std.proofs.Common.{◌≡◌, ℕ, zero, suc, ◌+◌, ◌^◌, ◌<◌, ◌≤◌, Bool, true, false, not, ◌&&◌, Option, Some, None, List, [], ◌∷◌, ◌++◌, length, get_or, refl, ap, sym, subst, ◌∙◌, arith}
-use Rattle.std.specs.Prelude.{map, nat_lt, slice_get, slice_set}
-use Rattle.std.specs.List.{range_with_len, list_all}
+use Rattle.std.proofs.Common.{◌≡◌, ℕ, zero, suc, ◌^◌, ◌<◌, ◌≤◌, true, not, Option, Some, None, List, [], ◌∷◌, length, get_or, refl, ap, sym, ◌∙◌, arith}
+use Rattle.std.specs.Prelude.{nat_lt}
+use Rattle.std.specs.List.{list_all}
 use Rattle.std.specs.Option.{option_map_or, option_to_list}
 use Rattle.std.proofs.Math.ListN.{length-set}
 use Rattle.std.proofs.lemmas.Bool.{and_parts, ltb-true}
@@ -26,7 +26,7 @@ use Rattle.replay_net.specs.declared.line.Line.{Line}
 use Rattle.replay_net.specs.declared.line.Line.TheVariants.{Peers, Local, Give, Hand, StateOf}
 use Rattle.replay_net.specs.Line.{is_receive, is_world_line, is_formed_line}
 use Rattle.replay_net.specs.Reply.{issued_by}
-use Rattle.replay_net.specs.World.{World, Turn, fresh_world, peer_at, issued_at, step_turn, no_message, after_hand, turn_of, ArePeers, IsSoundWorld}
+use Rattle.replay_net.specs.World.{World, fresh_world, peer_at, issued_at, step_turn, no_message, after_hand, turn_of, ArePeers, IsSoundWorld}
 use Rattle.replay_net.specs.Laws.{SoundWorldLaw, FreshWorldLaw}
 use Rattle.replay_net.proofs.Worlds.{same_site, journal_issued, fresh_is_world, peers_after}
 

@@ -5,3 +5,4 @@ pub mod Sets
 pub mod Operation
 pub mod Message
 pub mod Line
+pub mod Laws

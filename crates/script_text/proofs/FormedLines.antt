@@ -1,0 +1,424 @@
+-- What is read of a line is well formed.
+use Rattle.std.proofs.Common.{◌≡◌, ℕ, ◌+◌, ◌^◌, Bool, true, false, cond, ◌&&◌, ◌||◌, List, [], ◌∷◌, Some, None, take, drop, refl, ap, sym, ◌∙◌, arith}
+use Rattle.std.specs.Prelude.{nat_le, map, position, option_map, is_none, codes, ◌==◌}
+use Rattle.std.specs.declared.option.Option.{Option}
+use Rattle.std.specs.Option.{option_or}
+use Rattle.std.proofs.lemmas.Bool.{and_from, lt-ltb, leb-true}
+use Rattle.std.proofs.lemmas.Option.{same_Some}
+use Rattle.element_name.specs.Cases.{when, given, ◌>>=◌}
+use Rattle.element_name.specs.declared.limits.TheConstants.{MAX_STAMP}
+use Rattle.element_name.specs.Name.{Name, is_in_range}
+use Rattle.coop_request.specs.declared.edit.Edit.TheVariants as edits
+use Rattle.coop_request.specs.Piece.{is_piece}
+use Rattle.coop_request.specs.Request.{Request, request_fault}
+use Rattle.policy_book.specs.Lists.{is_short, is_name, is_num_list, is_name_list}
+use Rattle.policy_book.specs.Rights.{has_any}
+use Rattle.policy_book.specs.declared.auth.Extent.TheVariants as extents
+use Rattle.policy_book.specs.declared.auth.UserSet.TheVariants as users
+use Rattle.policy_book.specs.declared.op.AdminOp.TheVariants.{AddUser, DelUser, AddObj, DelObj, AddGroup, DelGroup, AddMember, DelMember, AddAuth, DelAuth, Validate}
+use Rattle.policy_book.specs.Operation.{is_extent, is_user_set, is_operation}
+use Rattle.policy_book.specs.Entry.{is_entry_version}
+use Rattle.edit_message.specs.declared.message.Message.TheVariants.{Coop, Admin}
+use Rattle.edit_message.specs.Formed.{is_edit, is_message}
+use Rattle.peer_step.specs.declared.step.LocalEdit.{LocalEdit}
+use Rattle.peer_step.specs.declared.step.LocalEdit.TheVariants.{Insert, Delete, Update}
+use Rattle.peer_step.specs.declared.step.Step.{Step}
+use Rattle.peer_step.specs.declared.step.Step.TheVariants.{Edit as edit_step, Administer, Receive, ValidateNext, Look, Settle, Show}
+use Rattle.replay_net.specs.declared.line.Line.TheVariants.{Peers, Local, Give, Hand, StateOf}
+use Rattle.replay_net.specs.Line.{is_formed_line}
+use Rattle.script_text.specs.declared.numbers.TheConstants.{MAX_SHORT, MAX_WIDE}
+use Rattle.script_text.specs.Words.{is_line, words, parts, each_some, is_alone, are_none}
+use Rattle.script_text.specs.Numbers.{read_number, read_count, read_short, read_wide, read_peer, read_name, one_short, two_shorts, one_wide, one_peer, one_name, two_names}
+use Rattle.script_text.specs.Pieces.{unescaped, read_piece}
+use Rattle.script_text.specs.Sets.{read_numbers, read_names, read_listed, read_users, rights_of, read_rights}
+use Rattle.script_text.specs.Operation.{one_name_list, read_extent, read_object, read_auth, read_operation_by, read_operation}
+use Rattle.script_text.specs.Message.{name_and_piece, read_edit, read_request, read_entry, read_message}
+use Rattle.script_text.specs.Line.{place_and_piece, read_local_edit, read_own, read_local, read_give, read_hand, read_look, read_state, read_later, one_count, read_first, read_plain, read_step}
+use Rattle.script_text.specs.Laws.{FormedLaw, FormedStepLaw}
+
+-- what is there passes the test
+abbrev Passes : {A : Type 0} → (A → Bool) → Option A → Type 0
+Passes {A = A} test value = (x : A) → value ≡ Some x → test x ≡ true
+
+module _ {A : Type 0} (test : A → Bool) where
+  -- nothing is there
+  none : Passes test None
+  none x e = absurd (cc)
+
+  -- a value that passes
+  some : (x : A) → test x ≡ true → Passes test (Some x)
+  some x h y e = ap test (sym (same_Some x y e)) ∙ h
+
+  -- a value behind a test
+  where_ : (b : Bool) (x : A) → (b ≡ true → test x ≡ true) → Passes test (when b x)
+  where_ true x h = some x (h refl)
+  where_ false x h = none
+
+  -- one or the other, by a test
+  either : (b : Bool) (x y : Option A) → Passes test x → Passes test y → Passes test (cond b x y)
+  either true x y first second = first
+  either false x y first second = second
+
+  -- the first of two that is there
+  first : (x y : Option A) → Passes test x → Passes test y → Passes test (option_or x y)
+  first None y head rest = rest
+  first (Some x) y head rest = head
+
+  -- what a value leads to
+  then : {B : Type 0} (value : Option B) (f : B → Option A) → ((x : B) → value ≡ Some x → Passes test (f x)) → Passes test (value >>= f)
+  then None f h = none
+  then (Some x) f h = h x refl
+
+  -- what a value is mapped to
+  mapped : {B : Type 0} (f : B → A) (value : Option B) → ((x : B) → value ≡ Some x → test (f x) ≡ true) → Passes test (option_map f value)
+  mapped f None h = none
+  mapped f (Some x) h = some (f x) (h x refl)
+
+-- ---- numbers, names and pieces
+
+-- a number is at most its limit
+number_low : (limit : ℕ) (word : List ℕ) → Passes (λ n. nat_le n limit) (read_number limit word)
+unfolding read_number
+number_low limit word = then (λ n. nat_le n limit) _ _ (λ n at. where_ (λ m. nat_le m limit) (nat_le n limit) n (λ h. h))
+
+-- a number of at most 16 bits is below 65,536
+short_from : (n : ℕ) → nat_le n MAX_SHORT ≡ true → is_short n ≡ true
+short_from n h = lt-ltb n (2 ^ 16) (let low = leb-true n MAX_SHORT h in omega (arith, low))
+
+-- U, OBJECT, PLACE and G are numbers of 16 bits
+short : (word : List ℕ) → Passes is_short (read_short word)
+short word n e = short_from n (number_low MAX_SHORT word n e)
+
+-- NAME is in its ranges
+name : (word : List ℕ) → Passes is_name (read_name word)
+unfolding read_name
+name word =
+    then is_name (position (λ b. b == 46) word) _ (λ point at. then is_name (read_number MAX_STAMP (take point word)) _ (λ stamp is_stamp. then is_name _ _ (λ site is_site.
+    where_ is_name (is_in_range stamp site) (record { stamp = stamp; site = site })
+    (λ h. and_from (is_in_range stamp site) (is_short site) h (short (drop (point + 1) word) site is_site)))))
+
+-- LETTER is a piece
+piece : (word : List ℕ) → Passes is_piece (read_piece word)
+unfolding read_piece
+piece word = then is_piece (unescaped false word) _ (λ bytes at. where_ is_piece (is_piece bytes) bytes (λ h. h))
+
+-- one argument, a number of 16 bits
+a_short : (args : List (List ℕ)) → Passes is_short (one_short args)
+a_short [] = none is_short
+a_short (a ∷ []) = short a
+a_short (a ∷ b ∷ rest) = none is_short
+
+-- both are numbers of 16 bits
+abbrev are_short : ℕ × ℕ → Bool
+are_short pair = is_short pair.0 && is_short pair.1
+
+-- two arguments, numbers of 16 bits
+shorts : (args : List (List ℕ)) → Passes are_short (two_shorts args)
+shorts [] = none are_short
+shorts (a ∷ []) = none are_short
+shorts (a ∷ b ∷ []) =
+    then are_short _ _ (λ m is_m. then are_short _ _ (λ n is_n.
+    some are_short (m, n) (and_from (is_short m) (is_short n) (short a m is_m) (short b n is_n))))
+shorts (a ∷ b ∷ c ∷ rest) = none are_short
+
+-- one argument, a name
+a_name : (args : List (List ℕ)) → Passes is_name (one_name args)
+a_name [] = none is_name
+a_name (a ∷ []) = name a
+a_name (a ∷ b ∷ rest) = none is_name
+
+-- both are names in their ranges
+abbrev are_names : Name × Name → Bool
+are_names pair = is_name pair.0 && is_name pair.1
+
+-- two arguments, names
+names : (args : List (List ℕ)) → Passes are_names (two_names args)
+names [] = none are_names
+names (a ∷ []) = none are_names
+names (a ∷ b ∷ []) =
+    then are_names _ _ (λ m is_m. then are_names _ _ (λ n is_n.
+    some are_names (m, n) (and_from (is_name m) (is_name n) (name a m is_m) (name b n is_n))))
+names (a ∷ b ∷ c ∷ rest) = none are_names
+
+-- ---- lists, users and rights
+
+-- OBJECTS is a list of numbers
+number_list : (word : List ℕ) → Passes is_num_list (read_numbers word)
+unfolding read_numbers
+number_list word = then is_num_list (each_some (map read_short (parts 44 word))) _ (λ numbers at. where_ is_num_list (is_num_list numbers) numbers (λ h. h))
+
+-- NAMES is a list of names
+name_list : (word : List ℕ) → Passes is_name_list (read_names word)
+unfolding read_names
+name_list word = then is_name_list (each_some (map read_name (parts 44 word))) _ (λ list at. where_ is_name_list (is_name_list list) list (λ h. h))
+
+-- numbers of users, or of groups behind `@`, are a set of users
+listed : (word : List ℕ) → Passes is_user_set (read_listed word)
+listed [] = none is_user_set
+listed (b ∷ bs) =
+    either is_user_set _ _ _ (mapped is_user_set users.Groups (read_numbers bs) (number_list bs)) (mapped is_user_set users.Listed (read_numbers (b ∷ bs)) (number_list (b ∷ bs)))
+
+-- USERS is a set of users
+user_set : (word : List ℕ) → Passes is_user_set (read_users word)
+unfolding read_users
+user_set word = either is_user_set _ _ _ (some is_user_set users.All refl) (listed word)
+
+-- three letters of which one is there are rights
+some_rights : (insert delete update : Bool) → (insert || (delete || update)) ≡ true → Passes has_any (rights_of insert delete update)
+some_rights insert delete update h = some has_any (record { insert = insert; delete = delete; update = update }) h
+
+-- RIGHTS has at least one right
+rights : (word : List ℕ) → Passes has_any (read_rights word)
+unfolding read_rights
+rights word =
+    either has_any _ _ _ (some_rights true false false refl)
+    (either has_any _ _ _ (some_rights false true false refl)
+    (either has_any _ _ _ (some_rights false false true refl)
+    (either has_any _ _ _ (some_rights true true false refl)
+    (either has_any _ _ _ (some_rights true false true refl)
+    (either has_any _ _ _ (some_rights false true true refl)
+    (either has_any _ _ _ (some_rights true true true refl) (none has_any)))))))
+
+-- ---- operations
+
+-- one argument, a list of names
+a_name_list : (args : List (List ℕ)) → Passes is_name_list (one_name_list args)
+a_name_list [] = none is_name_list
+a_name_list (a ∷ []) = name_list a
+a_name_list (a ∷ b ∷ rest) = none is_name_list
+
+-- an extent is in its ranges
+extent : (word : List ℕ) (args : List (List ℕ)) → Passes is_extent (read_extent word args)
+unfolding read_extent
+extent word args =
+    either is_extent _ _ _ (where_ is_extent (are_none args) extents.All (λ h. refl))
+    (either is_extent _ _ _ (mapped is_extent (λ (ends : Name × Name). extents.Span ends.0 ends.1) (two_names args) (names args))
+    (either is_extent _ _ _ (mapped is_extent extents.Elems (one_name_list args) (a_name_list args))
+    (either is_extent _ _ _ (mapped is_extent extents.By (one_short args) (a_short args)) (none is_extent))))
+
+-- so is an object with its extent
+object : (args : List (List ℕ)) → Passes is_operation (read_object args)
+unfolding read_object
+object [] = none is_operation
+object (a ∷ []) = none is_operation
+object (number ∷ word ∷ args) =
+    then is_operation _ _ (λ n is_n. then is_operation _ _ (λ e is_e.
+    some is_operation (AddObj n e) (and_from (is_short n) (is_extent e) (short number n is_n) (extent word args e is_e))))
+
+-- so is an authorization at its place
+auth : (args : List (List ℕ)) → Passes is_operation (read_auth args)
+unfolding read_auth
+auth [] = none is_operation
+auth (a ∷ []) = none is_operation
+auth (a ∷ b ∷ []) = none is_operation
+auth (a ∷ b ∷ c ∷ []) = none is_operation
+auth (a ∷ b ∷ c ∷ d ∷ []) = none is_operation
+auth (place ∷ sign ∷ whom ∷ what ∷ objects ∷ []) =
+    then is_operation _ _ (λ at is_at. then is_operation _ _ (λ grant is_grant. then is_operation _ _ (λ r is_r. then is_operation _ _ (λ u is_u. then is_operation _ _ (λ o is_o.
+    some is_operation (AddAuth at (record { users = u; rights = r; objects = o; grant = grant }))
+    (and_from (is_short at) (is_user_set u && (has_any r && is_num_list o)) (short place at is_at)
+    (and_from (is_user_set u) (has_any r && is_num_list o) (user_set whom u is_u)
+    (and_from (has_any r) (is_num_list o) (rights what r is_r) (number_list objects o is_o)))))))))
+auth (a ∷ b ∷ c ∷ d ∷ e ∷ f ∷ rest) = none is_operation
+
+-- so is an operation, by its first word
+operation_by : (word : List ℕ) (args : List (List ℕ)) → Passes is_operation (read_operation_by word args)
+unfolding read_operation_by
+operation_by word args =
+    either is_operation _ _ _ (mapped is_operation AddUser (one_short args) (a_short args))
+    (either is_operation _ _ _ (mapped is_operation DelUser (one_short args) (a_short args))
+    (either is_operation _ _ _ (object args)
+    (either is_operation _ _ _ (mapped is_operation DelObj (one_short args) (a_short args))
+    (either is_operation _ _ _ (mapped is_operation AddGroup (one_short args) (a_short args))
+    (either is_operation _ _ _ (mapped is_operation DelGroup (one_short args) (a_short args))
+    (either is_operation _ _ _ (mapped is_operation (λ (pair : ℕ × ℕ). AddMember pair.0 pair.1) (two_shorts args) (shorts args))
+    (either is_operation _ _ _ (mapped is_operation (λ (pair : ℕ × ℕ). DelMember pair.0 pair.1) (two_shorts args) (shorts args))
+    (either is_operation _ _ _ (auth args)
+    (either is_operation _ _ _ (mapped is_operation DelAuth (one_short args) (a_short args))
+    (either is_operation _ _ _ (mapped is_operation Validate (one_name args) (a_name args)) (none is_operation)))))))))))
+
+-- OP is in its ranges
+operation : (args : List (List ℕ)) → Passes is_operation (read_operation args)
+unfolding read_operation
+operation [] = none is_operation
+operation (word ∷ args) = operation_by word args
+
+-- ---- messages
+
+-- a name in its ranges, and a piece
+abbrev is_named_piece : Name × List ℕ → Bool
+is_named_piece pair = is_name pair.0 && is_piece pair.1
+
+-- two arguments, a name and a piece
+named_piece : (args : List (List ℕ)) → Passes is_named_piece (name_and_piece args)
+named_piece [] = none is_named_piece
+named_piece (a ∷ []) = none is_named_piece
+named_piece (a ∷ b ∷ []) =
+    then is_named_piece _ _ (λ n is_n. then is_named_piece _ _ (λ p is_p.
+    some is_named_piece (n, p) (and_from (is_name n) (is_piece p) (name a n is_n) (piece b p is_p))))
+named_piece (a ∷ b ∷ c ∷ rest) = none is_named_piece
+
+-- the edit of a request is in its ranges
+edit : (word : List ℕ) (args : List (List ℕ)) → Passes is_edit (read_edit word args)
+unfolding read_edit
+edit word args =
+    either is_edit _ _ _ (mapped is_edit (λ (pair : Name × List ℕ). edits.Insert pair.0 pair.1) (name_and_piece args) (named_piece args))
+    (either is_edit _ _ _ (mapped is_edit edits.Delete (one_name args) (a_name args))
+    (either is_edit _ _ _ (mapped is_edit (λ (pair : Name × List ℕ). edits.Update pair.0 pair.1) (name_and_piece args) (named_piece args)) (none is_edit)))
+
+-- a request is well formed
+request : (args : List (List ℕ)) → Passes is_message (read_request args)
+unfolding read_request
+request [] = none is_message
+request (a ∷ []) = none is_message
+request (a ∷ b ∷ []) = none is_message
+request (a ∷ number ∷ word ∷ args) =
+    then is_message _ _ (λ id is_id. then is_message _ _ (λ version is_version. then is_message _ _ (λ e is_e.
+    let q : Request = record { id = id; version = version; edit = e } in
+    where_ is_message (is_none (request_fault q)) (Coop q) (λ h.
+    and_from (is_name id) (is_edit e && is_none (request_fault q)) (name a id is_id)
+    (and_from (is_edit e) (is_none (request_fault q)) (edit word args e is_e) h)))))
+
+-- so is an entry
+entry : (args : List (List ℕ)) → Passes is_message (read_entry args)
+unfolding read_entry
+entry [] = none is_message
+entry (number ∷ args) =
+    then is_message _ _ (λ version is_version. then is_message _ _ (λ op is_op.
+    where_ is_message (is_entry_version version) (Admin (record { version = version; op = op }))
+    (λ h. and_from (is_entry_version version) (is_operation op) h (operation args op is_op))))
+
+-- MESSAGE is well formed
+message : (args : List (List ℕ)) → Passes is_message (read_message args)
+unfolding read_message
+message [] = none is_message
+message (word ∷ args) = either is_message _ _ _ (request args) (either is_message _ _ _ (entry args) (none is_message))
+
+-- ---- steps
+
+-- a piece beside its place
+abbrev is_placed_piece : ℕ × List ℕ → Bool
+is_placed_piece pair = is_piece pair.1
+
+-- two arguments, a place and a piece
+placed_piece : (args : List (List ℕ)) → Passes is_placed_piece (place_and_piece args)
+placed_piece [] = none is_placed_piece
+placed_piece (a ∷ []) = none is_placed_piece
+placed_piece (a ∷ b ∷ []) =
+    then is_placed_piece _ _ (λ at is_at. then is_placed_piece _ _ (λ p is_p.
+    some is_placed_piece (at, p) (piece b p is_p)))
+placed_piece (a ∷ b ∷ c ∷ rest) = none is_placed_piece
+
+-- a step with which the line of a peer is well formed
+abbrev is_formed_step : Step → Bool
+is_formed_step step = is_formed_line (Local 0 step)
+
+-- an edit that is such a step
+abbrev is_formed_edit : LocalEdit → Bool
+is_formed_edit e = is_formed_step (edit_step e)
+
+-- an edit at a place brings a piece
+local_edit : (args : List (List ℕ)) → Passes is_formed_edit (read_local_edit args)
+unfolding read_local_edit
+local_edit [] = none is_formed_edit
+local_edit (word ∷ args) =
+    either is_formed_edit _ _ _ (mapped is_formed_edit (λ (pair : ℕ × List ℕ). Insert pair.0 pair.1) (place_and_piece args) (placed_piece args))
+    (either is_formed_edit _ _ _ (mapped is_formed_edit Delete (one_wide args) (λ at is_at. refl))
+    (either is_formed_edit _ _ _ (mapped is_formed_edit (λ (pair : ℕ × List ℕ). Update pair.0 pair.1) (place_and_piece args) (placed_piece args)) (none is_formed_edit)))
+
+-- a step of a peer's own is well formed
+own : (args : List (List ℕ)) → Passes is_formed_step (read_own args)
+unfolding read_own
+own args =
+    first is_formed_step _ _ (mapped is_formed_step edit_step (read_local_edit args) (local_edit args))
+    (first is_formed_step _ _ (where_ is_formed_step (is_alone (codes "validatenext") args) ValidateNext (λ h. refl))
+    (first is_formed_step _ _ (mapped is_formed_step Administer (read_operation args) (operation args)) (none is_formed_step)))
+
+-- ---- lines
+
+-- so is its line
+local : (peers : ℕ) (number : List ℕ) (args : List (List ℕ)) → Passes is_formed_line (read_local peers number args)
+unfolding read_local
+local peers number args =
+    then is_formed_line (read_peer peers number) _ (λ p is_p. then is_formed_line _ _ (λ step read. some is_formed_line (Local p step) (own args step read)))
+
+-- so is the line of a message that is given
+give : (peers : ℕ) (args : List (List ℕ)) → Passes is_formed_line (read_give peers args)
+give peers [] = none is_formed_line
+give peers (a ∷ []) = none is_formed_line
+give peers (a ∷ b ∷ []) = then is_formed_line (read_count MAX_WIDE a) _ (λ m is_m. then is_formed_line (read_peer peers b) _ (λ p is_p. some is_formed_line (Give m p) refl))
+give peers (a ∷ b ∷ c ∷ rest) = none is_formed_line
+
+-- so is the line of a message that is handed in
+hand : (peers : ℕ) (args : List (List ℕ)) → Passes is_formed_line (read_hand peers args)
+hand peers [] = none is_formed_line
+hand peers (a ∷ args) = then is_formed_line (read_peer peers a) _ (λ p is_p. then is_formed_line _ _ (λ m is_m. some is_formed_line (Hand p m) (message args m is_m)))
+
+-- so is the line of a look
+look : (peers : ℕ) (args : List (List ℕ)) → Passes is_formed_line (read_look peers args)
+look peers [] = none is_formed_line
+look peers (a ∷ []) = none is_formed_line
+look peers (a ∷ b ∷ []) = then is_formed_line (read_peer peers a) _ (λ p is_p. then is_formed_line (read_wide b) _ (λ at is_at. some is_formed_line (Local p (Look at)) refl))
+look peers (a ∷ b ∷ c ∷ rest) = none is_formed_line
+
+-- so is the line that asks for a state
+state : (peers : ℕ) (args : List (List ℕ)) → Passes is_formed_line (read_state peers args)
+state peers [] = none is_formed_line
+state peers (a ∷ []) = none is_formed_line
+state peers (a ∷ b ∷ []) = then is_formed_line (read_peer peers a) _ (λ p is_p. then is_formed_line (read_name b) _ (λ n is_n. some is_formed_line (StateOf p n) refl))
+state peers (a ∷ b ∷ c ∷ rest) = none is_formed_line
+
+-- so is every line after the first
+later : (peers : ℕ) (args : List (List ℕ)) → Passes is_formed_line (read_later peers args)
+later peers [] = none is_formed_line
+later peers (word ∷ args) =
+    either is_formed_line _ _ _ (give peers args)
+    (either is_formed_line _ _ _ (hand peers args)
+    (either is_formed_line _ _ _ (mapped is_formed_line (λ p. Local p Settle) (one_peer peers args) (λ p is_p. refl))
+    (either is_formed_line _ _ _ (look peers args)
+    (either is_formed_line _ _ _ (mapped is_formed_line (λ p. Local p Show) (one_peer peers args) (λ p is_p. refl))
+    (either is_formed_line _ _ _ (state peers args) (local peers word args))))))
+
+-- so is the first line
+opening : (args : List (List ℕ)) → Passes is_formed_line (read_first args)
+opening [] = none is_formed_line
+opening (word ∷ args) = either is_formed_line _ _ _ (mapped is_formed_line Peers (one_count args) (λ n is_n. refl)) (none is_formed_line)
+
+pub formed_law : FormedLaw
+formed_law first peers bytes = by (is_line bytes) first
+  where
+    by : (b first : Bool) → Passes is_formed_line (given b (cond first (read_first (words bytes)) (read_later peers (words bytes))))
+    by true true = opening (words bytes)
+    by true false = later peers (words bytes)
+    by false first = none is_formed_line
+
+-- ---- step lines
+
+-- a step that is one word is well formed
+plain : (word : List ℕ) → Passes is_formed_step (read_plain word)
+unfolding read_plain
+plain word =
+    either is_formed_step _ _ _ (some is_formed_step Show refl)
+    (either is_formed_step _ _ _ (some is_formed_step Settle refl)
+    (either is_formed_step _ _ _ (some is_formed_step ValidateNext refl) (none is_formed_step)))
+
+-- so is every step
+any_step : (args : List (List ℕ)) → Passes is_formed_step (read_step args)
+unfolding read_step
+any_step [] = none is_formed_step
+any_step (word ∷ args) =
+    either is_formed_step _ _ _ (mapped is_formed_step edit_step (read_local_edit args) (local_edit args))
+    (either is_formed_step _ _ _ (mapped is_formed_step Look (one_wide args) (λ at is_at. refl))
+    (either is_formed_step _ _ _ (mapped is_formed_step Receive (read_message args) (message args))
+    (either is_formed_step _ _ _ (mapped is_formed_step Administer (read_operation args) (operation args)) (allowed (are_none args)))))
+  where
+    allowed : (b : Bool) → Passes is_formed_step (given b (read_plain word))
+    allowed true = plain word
+    allowed false = none is_formed_step
+
+pub formed_step_law : FormedStepLaw
+formed_step_law bytes step peer read = by (is_line bytes) step read
+  where
+    by : (b : Bool) → Passes is_formed_step (given b (read_step (words bytes)))
+    by true = any_step (words bytes)
+    by false = none is_formed_step
