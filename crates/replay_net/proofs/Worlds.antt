@@ -61,7 +61,8 @@ journal_issued p step answer m h = absurd cc
 
 -- ---- messages at places
 
-got_in_front : (xs ys : List Message) (j : ℕ) (m : Message) → slice_get xs j ≡ Some m → slice_get (xs ++ ys) j ≡ Some m
+-- what stands in a list stands there in a longer one
+pub got_in_front : (xs ys : List Message) (j : ℕ) (m : Message) → slice_get xs j ≡ Some m → slice_get (xs ++ ys) j ≡ Some m
 got_in_front [] ys j m h = absurd cc
 got_in_front (x ∷ xs) ys zero m h = h
 got_in_front (x ∷ xs) ys (suc j) m h = got_in_front xs ys j m h
