@@ -4,3 +4,4 @@ pub mod FormedLines
 pub mod SpelledWords
 pub mod TextTests
 pub mod WorldLines
+pub mod TakenLines

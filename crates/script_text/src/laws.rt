@@ -4,7 +4,7 @@ ghost use Rattle.coop_request.specs.Piece.{is_piece};
 ghost use Rattle.replay_net.specs.Values.{piece_text};
 ghost use Rattle.script_text.specs.Numbers.{read_number};
 ghost use Rattle.script_text.specs.Pieces.{read_piece};
-ghost use Rattle.script_text.specs.Laws.{FormedLaw, FormedStepLaw};
+ghost use Rattle.script_text.specs.Laws.{FormedLaw, FormedStepLaw, OpeningLaw, TakenLaw};
 
 /// A piece is read back from its spelling.
 pub fn pieces()
@@ -21,4 +21,10 @@ pub fn numbers()
 pub fn formed()
     ensures script { FormedLaw }
     ensures step { FormedStepLaw }
+{}
+
+/// A first line opens a world, and a later one is one that the world takes.
+pub fn taken()
+    ensures opening { OpeningLaw }
+    ensures later { TakenLaw }
 {}

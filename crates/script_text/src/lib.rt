@@ -13,6 +13,7 @@ mod words;
 
 pub use line::script_line;
 pub use line_engine::LineFail;
+pub use numbers::read_number;
 pub use step::step_line;
 
 #[cfg(test)]

@@ -29,9 +29,10 @@ fn is_numeral(word: &[u8]) -> bool
     word.len() == 1 || word[0] != b'0'
 }
 
-// The number that a word spells, if it is no greater than the limit.
+/// The number that a word spells by its digits, with no leading zero, if it is no greater than the limit. Takes time in the
+/// word's length.
 #[tactic(auto, unfolding(crate::specs::Numbers::read_number))]
-fn read_number(limit: u64, word: &[u8]) -> Option<u64>
+pub fn read_number(limit: u64, word: &[u8]) -> Option<u64>
     requires { limit < 2 ^ 60 }
     ensures value { result ≡ read_number limit word.now }
     ensures small { IfSome result (λ n. n ≤ limit) }
