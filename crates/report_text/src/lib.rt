@@ -2,11 +2,15 @@
 #![tactic(auto)]
 
 mod answer;
+mod closing;
+mod frame;
 mod part;
 mod spelling;
 mod values;
 
 pub use answer::{answer_line, reply_line};
+pub use closing::held_lines;
+pub use frame::{end_line, frame_fault_line, turn_line};
 pub use spelling::{message_text, step_text};
 
 #[cfg(test)]

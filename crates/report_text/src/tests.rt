@@ -1,8 +1,13 @@
 //! What no clause says: that the texts are those of the formats, row by row, and that there is memory.
-use crate::{answer_line, message_text, reply_line, step_text};
-use coop_request::{Edit, Piece, Request};
+use crate::{
+    answer_line, end_line, frame_fault_line, held_lines, message_text, reply_line, step_text,
+    turn_line,
+};
+use coop_request::{Edit, Piece, Request, RequestFault};
+use edit_frame::{FrameFault, FrameKind};
 use edit_message::{Message, Missing};
 use element_name::{Name, NoMemory};
+use peer_core::Peer;
 use peer_step::{Answer, LocalEdit, Outcome, Step, Text};
 use policy_book::{AdminOp, Auth, Entry, EntryFault, NumList, Rights, UserSet};
 use replay_net::Reply;
@@ -228,6 +233,57 @@ fn steps_and_messages(rt: HostRuntime) -> Result<(), Fail> {
     assert_eq!(rt;
         out.as_slice(),
         b"> request 5.1 2 insert 0.0 c\\sd".as_slice()
+    );
+    Ok(())
+}
+
+// Whether the lines of what the peer holds are these.
+fn holds(alloc: Global, peer: &Peer, text: &[u8]) -> Result<bool, NoMemory> {
+    let mut out = Vec::from_slice(alloc, b"> ")?;
+    held_lines(alloc, peer, &mut out)?;
+    Ok(out.as_slice() == text)
+}
+
+fn receive_request(peer: &mut Peer) -> Result<(), Fail> {
+    let request = Message::Coop(insert()?);
+    peer.step(Step::Receive(request))?;
+    Ok(())
+}
+
+fn receive_entry(peer: &mut Peer, version: u32, user: u16) -> Result<(), Fail> {
+    let entry = Message::Admin(entry(version, AdminOp::AddUser(user))?);
+    peer.step(Step::Receive(entry))?;
+    Ok(())
+}
+
+#[test]
+fn held_messages(rt: HostRuntime) -> Result<(), Fail> {
+    let alloc = rt.alloc();
+    let mut peer = Peer::new(alloc, 2)?;
+    assert!(rt; holds(alloc, &peer, b"> held 0\n")?);
+    receive_request(&mut peer)?;
+    receive_entry(&mut peer, 2, 2)?;
+    let missing = b"> held 2\nwaits request 5.1 for version 1\nwaits entry 2 for version 1\n";
+    assert!(rt; holds(alloc, &peer, missing)?);
+    receive_entry(&mut peer, 1, 1)?;
+    let due = b"> held 2\nwaits request 5.1 for version 2\nwaits entry 2 for settle\n";
+    assert!(rt; holds(alloc, &peer, due)?);
+    Ok(())
+}
+
+#[test]
+fn frames_without_a_message(rt: HostRuntime) -> Result<(), Fail> {
+    let alloc = rt.alloc();
+    let mut out = Vec::from_slice(alloc, b"> ")?;
+    turn_line(&mut out)?;
+    end_line(&mut out)?;
+    let kind = FrameKind::Truncated;
+    frame_fault_line(alloc, FrameFault { offset: 28, kind }, &mut out)?;
+    let kind = FrameKind::BadRequest(RequestFault::StampOrder);
+    frame_fault_line(alloc, FrameFault { offset: 0, kind }, &mut out)?;
+    assert_eq!(rt;
+        out.as_slice(),
+        b"> turn\nend\nbad frame 28 5\nbad frame 0 6 3\n".as_slice()
     );
     Ok(())
 }

@@ -1,0 +1,90 @@
+//! The lines of what a peer holds.
+ghost use Rattle.std.specs.Prelude.{◌≡◌, ◌++◌, flat_map, OnOk, OnErr};
+ghost use Rattle.replay_net.specs.Values.{each_behind};
+ghost use Rattle.peer_core.specs.Peer.{finds_no_room};
+ghost use Rattle.report_text.specs.Closing.{waiting_words, reason_words, waits_line, held_lines};
+
+use crate::part::put_missing;
+use crate::values::{put, put_name_word, put_number_word};
+use coop_request::MAX_REQUESTS;
+use edit_message::Message;
+use element_name::NoMemory;
+use peer_core::Peer;
+use std::alloc::Global;
+
+fn finds_no_room(peer: &Peer, message: &Message) -> bool
+    ensures { result ≡ finds_no_room peer.now.journal message.now }
+{
+    match message {
+        Message::Coop(_) => (peer.journal_len() - peer.front()) as usize >= MAX_REQUESTS,
+        Message::Admin(_) => false,
+    }
+}
+
+// Appends what waits, each word behind a space.
+fn put_waiting(line: &mut Vec<u8>, message: &Message) -> Result<(), NoMemory>
+    ensures { OnOk result (line.new.items ≡ line.old.items ++ each_behind 32 (waiting_words message.now)) }
+{
+    match message {
+        Message::Coop(request) => {
+            put(line, b" request")?;
+            put_name_word(line, request.id())
+        }
+        Message::Admin(entry) => {
+            put(line, b" entry")?;
+            put_number_word(line, u64::from(entry.version()))
+        }
+    }
+}
+
+// Appends what a message waits for, each word behind a space.
+fn put_reason(line: &mut Vec<u8>, peer: &Peer, message: &Message) -> Result<(), NoMemory>
+    ensures { OnOk result (line.new.items ≡ line.old.items ++ each_behind 32 (reason_words peer.now message.now)) }
+{
+    if let Some(missing) = peer.missing(message) {
+        return put_missing(line, missing);
+    }
+    if finds_no_room(peer, message) {
+        return put(line, b" room");
+    }
+    put(line, b" settle")
+}
+
+// Appends the line of a held message.
+fn put_waits(line: &mut Vec<u8>, peer: &Peer, message: &Message) -> Result<(), NoMemory>
+    ensures { OnOk result (line.new.items ≡ line.old.items ++ waits_line peer.now message.now) }
+{
+    put(line, b"waits")?;
+    put_waiting(line, message)?;
+    put(line, b" for")?;
+    put_reason(line, peer, message)?;
+    put(line, b"\n")
+}
+
+// Appends the line of each held message.
+fn put_each(lines: &mut Vec<u8>, peer: &Peer) -> Result<(), NoMemory>
+    ensures { OnOk result (lines.new.items ≡ lines.old.items ++ flat_map (waits_line peer.now) peer.now.held) }
+{
+    for i in 0..peer.held_len() {
+        let Some(message) = peer.held(i) else {
+            unreachable!()
+        };
+        put_waits(lines, peer, message)?;
+    }
+    Ok(())
+}
+
+/// Appends how many messages a peer holds, and what each waits for, in order of arrival. Takes time in the number of
+/// held messages.
+pub fn held_lines(alloc: Global, peer: &Peer, out: &mut Vec<u8>) -> Result<(), NoMemory>
+    ensures ok { OnOk result (out.new.items ≡ out.old.items ++ held_lines peer.now) }
+    ensures unchanged { OnErr result (out.new.items ≡ out.old.items) }
+{
+    let mut lines = Vec::new(alloc);
+    put(&mut lines, b"held")?;
+    put_number_word(&mut lines, u64::from(peer.held_len()))?;
+    put(&mut lines, b"\n")?;
+    put_each(&mut lines, peer)?;
+    out.extend_from_slice(&lines)?;
+    Ok(())
+}
