@@ -1,0 +1,14 @@
+//! What a script's run tells of the texts that it shows.
+ghost use Rattle.std.specs.Prelude.{ℕ, List};
+ghost use Rattle.replay_form.specs.Headline.{Headline};
+
+/// Each `show` line writes the text of its peer at that point, and two such lines whose peers have the same requests
+/// and the same log write the same bytes.
+pub fn headline()
+    ensures { (input : List ℕ) → Headline input }
+{
+    peer_core::laws::same_sets();
+    replay_net::laws::sound_worlds();
+    script_text::laws::formed();
+    script_text::laws::taken();
+}

@@ -1,0 +1,12 @@
+//! The form that plays a script: its lines are read as they come, played in a world of peers, and answered.
+#![tactic(auto)]
+
+pub mod laws;
+mod play;
+mod run;
+
+pub use play::Replay;
+pub use run::replay;
+
+#[cfg(test)]
+mod tests;
