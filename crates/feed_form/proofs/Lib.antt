@@ -1,0 +1,4 @@
+pub mod Streams
+pub mod Settling
+pub mod Outputs
+pub mod Forms

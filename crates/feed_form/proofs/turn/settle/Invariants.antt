@@ -1,0 +1,12 @@
+use Rattle.std.proofs.Common.{◌≡◌, ◌++◌, length}
+use Rattle.feed_form.specs.Turn.{settled, answer_lines}
+use Rattle.feed_form.proofs.turn.settle.Given as goal
+
+abbrev pub invariant-steps : goal.invariant-steps
+invariant-steps l = record {
+  reply : l.out.items ++ answer_lines (settled l.peer).answers ≡ l.fn.out.items ++ answer_lines (settled l.fn.peer).answers;
+  peer : (settled l.peer).peer ≡ (settled l.fn.peer).peer;
+}
+
+abbrev pub decreases-steps : goal.decreases-steps
+decreases-steps l = length l.peer.held

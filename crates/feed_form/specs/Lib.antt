@@ -1,0 +1,4 @@
+pub mod Turn
+pub mod Feed
+pub mod Form
+pub mod Laws
