@@ -1,4 +1,1 @@
-pub mod DigitLemmas
-pub mod Growth
-pub mod KeptLemmas
-pub mod Usage
+mod Forms

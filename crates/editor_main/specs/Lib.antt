@@ -1,6 +1,2 @@
-pub mod Script
-pub mod World
-pub mod Kept
-pub mod Report
-pub mod Replay
+pub mod Form
 pub mod Plain

@@ -1,38 +1,59 @@
 -- What the top call writes.
-use Rattle.std.specs.Prelude.{ℕ, Bool, false, List, [], ◌∷◌, Option, None, codes, ⊤, if◌then◌else◌}
-use Rattle.std.specs.Str.{bytes_eq}
+use Rattle.std.specs.Prelude.{◌≡◌, ℕ, Bool, true, false, List, Option, Some, None, codes}
+use Rattle.std.specs.Io.KnownBytes.{Appends, Consumes, IsAtEnd, Keeps}
 use Rattle.line_engine.specs.declared.status.Status.{Status}
-use Rattle.line_engine.specs.declared.status.Status.TheVariants.{Usage}
-use Rattle.line_engine.specs.Output.{Output, line_of}
-use Rattle.line_engine.specs.Run.{output_of, part_of}
-use Rattle.line_engine.specs.Engine.{Ran}
-use Rattle.editor_main.specs.Replay.{turn_of, closing_of}
+use Rattle.line_engine.specs.declared.status.Status.TheVariants.{Done, Usage, ReadFault}
+use Rattle.line_engine.specs.Output.{Output, Ends, line_of}
+use Rattle.line_engine.specs.Engine.{Told}
+use Rattle.replay_form.specs.Replay.{replay_output, replay_part}
+use Rattle.feed_form.specs.Feed.{feed_output, feed_part}
+use Rattle.edit_make.specs.Schedule.{made_world}
+use Rattle.edit_make.specs.Summary.{summary_text}
+use Rattle.editor_main.specs.declared.form.Form.{Form}
+use Rattle.editor_main.specs.declared.form.Form.TheVariants.{Replay, Feed, Make}
 
 abbrev pub usage_line : List ℕ
 usage_line = line_of (codes "usage: replay | feed SITE | make SEED EDITS | race SITE | serve SITE PORT LINKS | dial SITE PORT ROUNDS")
 
-abbrev pub is_replay : List (List ℕ) → Bool
-is_replay [] = false
-is_replay (word ∷ []) = bytes_eq word (codes "replay")
-is_replay (word ∷ other ∷ words) = false
+-- what is written where the words name no form, and the status
+abbrev pub usage_output : Output
+usage_output = record { written = usage_line; status = Usage }
 
--- what `replay` writes of an input, and its status
-abbrev pub replay_output : List ℕ → Output
-replay_output input = output_of turn_of closing_of None input
+-- the summary of the world that a seed makes, and the status
+abbrev pub make_output : ℕ → ℕ → Output
+make_output seed edits = record { written = summary_text seed edits (made_world seed edits); status = Done }
 
--- what it writes of bytes after which reading fails; none where a whole line among them is bad, or their rest is too long for a line
-abbrev pub replay_part : List ℕ → Option (List ℕ)
-replay_part bytes = part_of turn_of None bytes
+-- what a form writes of an input, and the status; where there is none, the usage line
+abbrev pub plain_output : Option Form → List ℕ → Output
+plain_output (Some Replay) input = replay_output input
+plain_output (Some (Feed site)) input = feed_output site input
+plain_output (Some (Make seed edits)) input = make_output seed edits
+plain_output None input = usage_output
 
--- what is written for words and an input, and the status
-abbrev pub plain_output : List (List ℕ) → List ℕ → Output
-plain_output words input = if is_replay words then replay_output input else record { written = usage_line; status = Usage }
+-- what a form writes of bytes after which reading fails; none where it reads nothing or they have a fault
+abbrev pub plain_part : Option Form → List ℕ → Option (List ℕ)
+plain_part (Some Replay) bytes = replay_part bytes
+plain_part (Some (Feed site)) bytes = feed_part site bytes
+plain_part (Some (Make seed edits)) bytes = None
+plain_part None bytes = None
 
--- what is written for words and bytes after which reading fails; only a form that reads has such a part
-abbrev pub plain_part : List (List ℕ) → List ℕ → Option (List ℕ)
-plain_part words bytes = if is_replay words then replay_part bytes else None
+-- whether a form reads its input
+abbrev pub is_reader : Option Form → Bool
+is_reader (Some Replay) = true
+is_reader (Some (Feed site)) = true
+is_reader (Some (Make seed edits)) = false
+is_reader None = false
 
 -- A top call over a source that had this input and a sink that was given these bytes.
 -- Of a source that doesn't tell its bytes there are some of which this holds, and of a sink likewise.
-abbrev pub RanPlain : List (List ℕ) → Option (List ℕ) → Option (List ℕ) → Option (List ℕ) → Option (List ℕ) → Status → List ℕ → List ℕ → Type 0
-RanPlain words = Ran (plain_output words) (plain_part words) (λ cut bytes. ⊤)
+pub record RanPlain (form : Option Form) (left_old left_new sink_old sink_new : Option (List ℕ)) (status : Status) (input written : List ℕ) : Type 0 where
+  pub told : Told left_old input
+  pub appends : Appends sink_old sink_new written
+  -- with a whole status the bytes and the status are the output, else the bytes begin it
+  pub ends : Ends status written (plain_output form input)
+  -- with Done a form that reads has read its input to the end
+  pub at_end : is_reader form ≡ true → status ≡ Done → IsAtEnd left_new
+  -- where reading failed, the bytes are the part of what was read, and nothing in that is bad
+  pub read_fault : status ≡ ReadFault → (read : List ℕ) × Consumes left_old left_new read × (plain_part form read ≡ Some written)
+  -- a form that reads nothing leaves the source as it is
+  pub kept : is_reader form ≡ false → Keeps left_old left_new

@@ -1,12 +1,9 @@
 //! The shared editor's program: the top call over standard input and standard output.
 #![tactic(auto)]
 
+mod form;
 mod plain_call;
-mod replay;
-mod report_text;
-mod script_text;
 mod word;
-mod world;
 
 use edit_io::{ReadSource, WriteSink};
 use line_engine::Status;

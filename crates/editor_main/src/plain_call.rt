@@ -1,42 +1,61 @@
 //! The top call.
-ghost use Rattle.std.specs.Prelude.{◌≡◌, ℕ, List};
-ghost use Rattle.line_engine.specs.Engine.{Reads, StatusCause};
-ghost use Rattle.editor_main.specs.Plain.{RanPlain, is_replay};
+ghost use Rattle.std.specs.Prelude.{◌≡◌, ◌≤◌, ℕ, List, Some};
+ghost use Rattle.line_engine.specs.Engine.{Reads, StatusCause, Says};
+ghost use Rattle.edit_make.specs.declared.limits.TheConstants.{MAX_EDITS};
+ghost use Rattle.replay_form.specs.Headline.{Headline};
+ghost use Rattle.editor_main.specs.Form.{form_of};
+ghost use Rattle.editor_main.specs.Plain.{RanPlain, make_output};
 
-use crate::replay::Replay;
+use crate::form::{Form, form_of};
 use crate::word::Word;
 use edit_io::{Sink, Source};
-use line_engine::{Status, run_world, say};
+use edit_make::summary;
+use feed_form::feed;
+use line_engine::{Status, say};
+use replay_form::replay;
 use std::alloc::Global;
 
 // What is written where the words name no form.
 const USAGE: &[u8; 104] =
     b"usage: replay | feed SITE | make SEED EDITS | race SITE | serve SITE PORT LINKS | dial SITE PORT ROUNDS\n";
 
-fn is_replay(words: &[Word]) -> bool
-    ensures { result ≡ is_replay words.now }
+// Writes the summary of the world that a seed makes.
+fn make<K: Sink>(alloc: Global, seed: u32, edits: u32, sink: &mut K) -> Status
+    requires { edits ≤ MAX_EDITS }
+    ensures says { (written : List ℕ) × Says (K.written sink.old) (K.written sink.new) result (make_output seed edits) written }
+    ensures cause { StatusCause (K.faults sink.old) (K.faults sink.new) result Status.WriteFault }
 {
-    words.len() == 1 && words[0].bytes() == b"replay".as_slice()
+    match summary(alloc, seed, edits) {
+        Ok(lines) => say(sink, &lines, Status::Done),
+        Err(_) => Status::NoMemory,
+    }
 }
 
 /// Runs the form that the words name over a source and a sink, and waits for nobody else.
 ///
-/// A line is answered as soon as its line end was read. Reading is in pieces of at most 64 KiB. It takes
-/// time linear in the input for lines that make no request, and for each insert linear in the text.
+/// A line is answered as soon as its line end was read. Reading is in pieces of at most 64 KiB.
 pub fn plain<S: Source, K: Sink>(
     alloc: Global,
     words: &[Word],
     source: &mut S,
     sink: &mut K,
 ) -> Status
-    ensures ran { (input : List ℕ) × (written : List ℕ) × RanPlain words.now (S.left source.old) (S.left source.new) (K.written sink.old) (K.written sink.new) result input written }
+    ensures ran { (input : List ℕ) × (written : List ℕ) ×
+        RanPlain (form_of words.now) (S.left source.old) (S.left source.new) (K.written sink.old) (K.written sink.new) result input written }
     ensures reads { Reads (S.left source.old) (S.left source.new) }
     ensures read_cause { StatusCause (S.faults source.old) (S.faults source.new) result Status.ReadFault }
     ensures write_cause { StatusCause (K.faults sink.old) (K.faults sink.new) result Status.WriteFault }
+
+    // What the output of `replay` says of the texts that are shown.
+    ensures headline { form_of words.now ≡ Some Form.Replay → (input : List ℕ) → Headline input }
 {
-    if is_replay(words) {
-        let (_, status) = run_world(alloc, Replay::new(), source, sink);
-        return status;
+    match form_of(words) {
+        Some(Form::Replay) => {
+            replay_form::laws::headline();
+            replay(alloc, source, sink)
+        }
+        Some(Form::Feed(site)) => feed(alloc, site, source, sink),
+        Some(Form::Make { seed, edits }) => make(alloc, seed, edits, sink),
+        None => say(sink, USAGE, Status::Usage),
     }
-    say(sink, USAGE, Status::Usage)
 }

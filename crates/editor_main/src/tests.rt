@@ -1,4 +1,4 @@
-//! The worked rows, over sources and sinks that come in pieces and fail.
+//! The forms by their words, over sources and sinks that come in pieces and fail.
 use crate::{Word, plain};
 use edit_io::{MemSink, MemSource};
 use line_engine::Status;
@@ -10,30 +10,54 @@ const LEAST: &[u8] = b"peers 1\n0 insert 0 a\nshow 0\n";
 const USAGE: &[u8] =
     b"usage: replay | feed SITE | make SEED EDITS | race SITE | serve SITE PORT LINKS | dial SITE PORT ROUNDS\n";
 
-/// A run: what the source gives and the sink takes, at how many bytes a call and which calls fail, and how it ends.
+/// A run: the words, what the source gives and the sink takes, at how many bytes a call and which call of each fails
+/// (none where it is 0), and how it ends.
 #[derive(Clone, Copy)]
-struct Row<'a> {
-    words: &'a [&'a [u8]],
-    script: &'a [u8],
+struct Row {
+    words: &'static [&'static [u8]],
+    input: &'static [u8],
     reads: usize,
-    read_fails: &'a [u64],
+    read_fails: u64,
     writes: usize,
-    write_fails: &'a [u64],
+    write_fails: u64,
     status: Status,
-    written: &'a [u8],
+    written: &'static [u8],
 }
 
-const fn replay<'a>(script: &'a [u8], status: Status, written: &'a [u8]) -> Row<'a> {
+const fn call(
+    words: &'static [&'static [u8]],
+    input: &'static [u8],
+    status: Status,
+    written: &'static [u8],
+) -> Row {
     Row {
-        words: &[b"replay"],
-        script,
+        words,
+        input,
         reads: 7,
-        read_fails: &[],
+        read_fails: 0,
         writes: 4,
-        write_fails: &[],
+        write_fails: 0,
         status,
         written,
     }
+}
+
+// An insert of the administrator's, `a` at the start.
+const FRAME: &[u8] =
+    b"\x00\x00\x00\x18\x01\x01\x00\x00\x00\x00\x00\x01\x00\x00\x00\x00\x00\x00\x00\x00\x00\x00\x00\x00\x00\x00\x00\x61";
+
+const MADE: &[u8] = b"made 7 0\nmessages 4 entries 4\n\
+    peer 0 valid 0 tentative 0 invalid 0 length 0 head\n\
+    peer 1 valid 0 tentative 0 invalid 0 length 0 head\n\
+    peer 2 valid 0 tentative 0 invalid 0 length 0 head\n\
+    peer 3 valid 0 tentative 0 invalid 0 length 0 head\n";
+
+fn fails(alloc: Global, call: u64) -> Result<Vec<u64>, AllocError> {
+    let mut calls = Vec::new(alloc);
+    if call > 0 {
+        calls.push(call)?;
+    }
+    Ok(calls)
 }
 
 fn run(alloc: Global, row: &Row) -> Result<(Status, Vec<u8>), AllocError> {
@@ -41,55 +65,47 @@ fn run(alloc: Global, row: &Row) -> Result<(Status, Vec<u8>), AllocError> {
     for word in row.words {
         words.push(Word::new(Vec::from_slice(alloc, word)?))?;
     }
-    let bytes = Vec::from_slice(alloc, row.script)?;
-    let read_fails = Vec::from_slice(alloc, row.read_fails)?;
-    let write_fails = Vec::from_slice(alloc, row.write_fails)?;
-    let mut source = MemSource::new(bytes, row.reads.max(1), read_fails);
-    let mut sink = MemSink::new(alloc, row.writes.max(1), write_fails);
+    let bytes = Vec::from_slice(alloc, row.input)?;
+    let mut source = MemSource::new(bytes, row.reads.max(1), fails(alloc, row.read_fails)?);
+    let mut sink = MemSink::new(alloc, row.writes.max(1), fails(alloc, row.write_fails)?);
     let status = plain(alloc, &words, &mut source, &mut sink);
     Ok((status, Vec::from_slice(alloc, sink.written())?))
 }
 
 #[test]
-fn rows(rt: HostRuntime) -> Result<(), Fail> {
-    let least = replay(LEAST, Status::Done, b"done 1 1.0 0\nshow a\n");
-    let other = Row {
-        words: &[b"replay", b"now"],
-        ..replay(b"", Status::Usage, USAGE)
-    };
+fn forms(rt: HostRuntime) -> Result<(), Fail> {
+    let least = call(&[b"replay"], LEAST, Status::Done, b"done 1 1.0 0\nshow a\n");
     let rows = [
-        replay(b"", Status::BadInput, b"bad line 1\n"),
         least,
+        call(&[b"replay"], b"", Status::BadInput, b"bad line 1\n"),
         Row {
             reads: 1,
-            writes: 1,
+            read_fails: 22,
+            status: Status::ReadFault,
+            written: b"done 1 1.0 0\n",
             ..least
-        },
-        Row {
-            reads: 100,
-            writes: 100,
-            ..least
-        },
-        replay(
-            b"peers 1\n0 insert 0 a\n0 insert 2 b\n0 insert 1 b\nshow 0\n",
-            Status::Done,
-            b"done 1 1.0 0\nno place 1\ndone 2 2.0 0\nshow ab\n",
-        ),
-        other,
-        Row {
-            words: &[],
-            ..other
-        },
-        Row {
-            reads: 1,
-            read_fails: &[22],
-            ..replay(LEAST, Status::ReadFault, b"done 1 1.0 0\n")
         },
         Row {
             writes: 5,
-            write_fails: &[2],
-            ..replay(LEAST, Status::WriteFault, b"done ")
+            write_fails: 2,
+            status: Status::WriteFault,
+            written: b"done ",
+            ..least
         },
+        call(
+            &[b"feed", b"2"],
+            FRAME,
+            Status::Done,
+            b"taken tentative\nshow a\nheld 0\n",
+        ),
+        call(
+            &[b"feed", b"0"],
+            FRAME,
+            Status::Done,
+            b"own site\nshow\nheld 0\n",
+        ),
+        call(&[b"feed", b"65535"], b"", Status::Done, b"show\nheld 0\n"),
+        call(&[b"make", b"7", b"0"], b"", Status::Done, MADE),
     ];
     for row in rows {
         let (status, written) = run(rt.alloc(), &row)?;
@@ -100,33 +116,25 @@ fn rows(rt: HostRuntime) -> Result<(), Fail> {
 }
 
 #[test]
-fn bad_lines(rt: HostRuntime) -> Result<(), Fail> {
-    let lines: [&[u8]; 16] = [
-        b"",
-        b"peers 1",
-        b"show 1",
-        b"show  0",
-        b" show 0",
-        b"show 0 ",
-        b"0 insert 00 a",
-        b"0 insert +1 a",
-        b"0 insert 4294967296 a",
-        b"0 insert 0 ab",
-        b"0 insert 0 \\",
-        b"0 insert 0 \xc3\xa9",
-        b"0 insert 0",
-        b"0 insert 0 a a",
-        b"1 insert 0 a",
-        b"0 delete 0",
+fn words_that_name_no_form(rt: HostRuntime) -> Result<(), Fail> {
+    let rows: [&[&[u8]]; 12] = [
+        &[],
+        &[b"replay", b"now"],
+        &[b"Replay"],
+        &[b"feed"],
+        &[b"feed", b"65536"],
+        &[b"feed", b"01"],
+        &[b"feed", b"2", b"2"],
+        &[b"make", b"7"],
+        &[b"make", b"7", b"100001"],
+        &[b"make", b"4294967296", b"0"],
+        &[b"make", b"+7", b"0"],
+        &[b"race", b"0"],
     ];
-    for line in lines {
-        let mut script = Vec::from_slice(rt.alloc(), b"peers 1\nshow 0\n")?;
-        script.extend_from_slice(line)?;
-        script.extend_from_slice(b"\nshow 0\n")?;
-        let row = replay(&script, Status::BadInput, b"show\nbad line 3\n");
-        let (status, written) = run(rt.alloc(), &row)?;
-        assert_eq!(rt; written.as_slice(), row.written, "{line:?}");
-        assert_eq!(rt; status, row.status);
+    for words in rows {
+        let (status, written) = run(rt.alloc(), &call(words, b"", Status::Usage, USAGE))?;
+        assert_eq!(rt; written.as_slice(), USAGE);
+        assert_eq!(rt; status, Status::Usage);
     }
     Ok(())
 }

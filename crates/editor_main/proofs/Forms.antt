@@ -1,0 +1,76 @@
+-- The calls of the forms.
+use Rattle.std.proofs.Common.{◌≡◌, ℕ, Bool, true, false, List, [], None, Some, ◌⊎◌, inl, inr, refl, sym, ap, subst, ◌∙◌}
+use Rattle.std.specs.declared.option.Option.{Option}
+use Rattle.std.specs.Io.KnownBytes.{Keeps}
+use Rattle.std.proofs.lemmas.Bool.{true≢false}
+use Rattle.line_engine.specs.declared.status.Status.{Status}
+use Rattle.line_engine.specs.declared.status.Status.TheVariants.{Done, Usage, ReadFault}
+use Rattle.line_engine.specs.Status.{IsSinkFail}
+use Rattle.line_engine.specs.Output.{Output, Ends}
+use Rattle.line_engine.specs.Engine.{Told, Says, Ran}
+use Rattle.edit_make.specs.Schedule.{made_world}
+use Rattle.edit_make.specs.Summary.{summary_text}
+use Rattle.editor_main.specs.declared.form.Form.{Form}
+use Rattle.editor_main.specs.Plain.{RanPlain, plain_output, plain_part, is_reader, make_output}
+
+-- what words name, by the name of what was found
+pub named : (found : Option Form) (f g : Form) → Some f ≡ found → f ≡ g → found ≡ Some g
+named found f g e h = sym e ∙ ap (λ (x : Form). Some x) h
+
+-- the run of a form that reads
+pub ran_read : (form : Option Form) (output : List ℕ → Output) (part : List ℕ → Option (List ℕ)) (Leaves : Bool → List ℕ → Type 0) (l r a b : Option (List ℕ)) (status : Status)
+    → is_reader form ≡ true → ((input : List ℕ) → plain_output form input ≡ output input) → ((bytes : List ℕ) → plain_part form bytes ≡ part bytes)
+    → (input : List ℕ) × (written : List ℕ) × Ran output part Leaves l r a b status input written
+    → (input : List ℕ) × (written : List ℕ) × RanPlain form l r a b status input written
+ran_read form output part Leaves l r a b status reads outputs parts (input, written, ran) = (
+  input,
+  written,
+  record {
+    told = ran.told;
+    appends = ran.appends;
+    ends = subst (Ends status written) (sym (outputs input)) ran.ends;
+    at_end = λ reader done. ran.at_end done;
+    read_fault = λ fault. let f = ran.read_fault fault in (f.0, f.1, parts f.0 ∙ f.2);
+    kept = λ silent. absurd (true≢false (sym reads ∙ silent));
+  },
+)
+
+-- any source has some input
+some_told : (left : Option (List ℕ)) → (input : List ℕ) × Told left input
+some_told None = ([], tt)
+some_told (Some left) = (left, refl)
+
+keeps_itself : (left : Option (List ℕ)) → Keeps left left
+keeps_itself None = tt
+keeps_itself (Some left) = refl
+
+-- a call that reads nothing and says lines doesn't end with a failed read
+not_read : (status : Status) (written : List ℕ) (out : Output) → (out.status ≡ ReadFault → ⊥) → (out ≡ record { written = written; status = status }) ⊎ IsSinkFail status → status ≡ ReadFault → ⊥
+not_read status written out other (inl e) read = other (ap (λ (o : Output). o.status) e ∙ read)
+not_read status written out other (inr (inl e)) read = cc
+not_read status written out other (inr (inr e)) read = cc
+
+-- the lines of a form that reads nothing, or of none
+pub ran_said : (form : Option Form) (status : Status) (out : Output) (left a b : Option (List ℕ)) (written : List ℕ)
+    → is_reader form ≡ false → ((input : List ℕ) → plain_output form input ≡ out) → (out.status ≡ ReadFault → ⊥) → Says a b status out written
+    → (input : List ℕ) × (ws : List ℕ) × RanPlain form left left a b status input ws
+ran_said form status out left a b written silent is other says =
+    let input = some_told left in (
+      input.0,
+      written,
+      record {
+        told = input.1;
+        appends = says.appends;
+        ends = subst (Ends status written) (sym (is input.0)) says.ends;
+        at_end = λ reader done. absurd (true≢false (sym reader ∙ silent));
+        read_fault = λ read. absurd (not_read status written out other says.given read);
+        kept = λ none. keeps_itself left;
+      },
+    )
+
+-- the summary's lines were said
+pub said_made : (seed edits : ℕ) (lines : List ℕ) (a b : Option (List ℕ)) (status : Status) (written : List ℕ)
+    → lines ≡ summary_text seed edits (made_world seed edits) → Says a b status (record { written = lines; status = Done }) written
+    → (w : List ℕ) × Says a b status (make_output seed edits) w
+said_made seed edits lines a b status written is says =
+    (written, subst (λ (bytes : List ℕ). Says a b status (record { written = bytes; status = Done }) written) is says)
