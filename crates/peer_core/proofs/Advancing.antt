@@ -46,6 +46,7 @@ use Rattle.retro_undo.specs.Undo.{state_after as swept_after, kept_after, states
 use Rattle.elem_show.specs.Cell.{Cell, shown}
 use Rattle.elem_show.specs.Table.{IsTableOf}
 use Rattle.elem_show.specs.Text.{shown_of}
+use Rattle.elem_show.proofs.Tables.{table-set}
 use Rattle.tomb_seq.specs.declared.slot.Slot.{Slot}
 use Rattle.tomb_seq.specs.Slots.{names_in, slots_by}
 use Rattle.tomb_seq.proofs.Has.{Has, Contains-from_Has}
@@ -58,7 +59,7 @@ use Rattle.peer_core.proofs.Journals.{follows_log, requests_entry, entries_entry
 use Rattle.peer_core.proofs.Histories.{once_law}
 use Rattle.peer_core.proofs.Stable.{element_in_order, known_law}
 use Rattle.peer_core.proofs.Sets.{IsOnce, AreAlike, found_has, has_found, filter_found, filter_once}
-use Rattle.peer_core.proofs.Tables.{all_has, table_alike, filter_has, count_has, count_none, count_alike, counts_by, counted_found, counted_once, requests_in, requests_once, requests_alike, count_requests, kept_by, IsBy, Stands, stands, order_mapped, by_mapped, by_same}
+use Rattle.peer_core.proofs.Tables.{all_has, filter_has, count_has, count_none, count_alike, counts_by, counted_found, counted_once, requests_in, requests_once, requests_alike, count_requests, kept_by, IsBy, Stands, stands, order_mapped, by_mapped, by_same}
 
 -- ---- states
 
@@ -315,7 +316,7 @@ module _ (R : List Request) (L : List Entry) (slots : List Slot) (cells : List (
 
   shown_before : IsTableOf cells R (counted_of done)
   shown_before =
-      table_alike cells R (counted_in R L) (counted_of done) (filter_once (is_granted (text_order R) L) R once) (counted_once done confirmed_law.in_order)
+      table-set cells R (counted_in R L) (counted_of done) (filter_once (is_granted (text_order R) L) R once) (counted_once done confirmed_law.in_order)
       (λ n. sym (counted_law first R L done once confirmed_law.in_order confirmed_law.by_states (λ q h. confirm_invalid (state_in R L q) e.version (validates q.id e.op)) n))
       kept.shown
 
@@ -359,7 +360,7 @@ module _ (R : List Request) (L : List Entry) (slots : List Slot) (cells : List (
   module _ (new_cells : List (Name × Cell)) (after : IsShownAfter cells done new_cells swept) where
     shown_later : IsTableOf new_cells R (counted_in R (L ++ e ∷ []))
     shown_later =
-        table_alike new_cells R (counted_of swept) (counted_in R (L ++ e ∷ [])) (counted_once swept swept_order) (filter_once (is_granted (text_order R) (L ++ e ∷ [])) R once)
+        table-set new_cells R (counted_of swept) (counted_in R (L ++ e ∷ [])) (counted_once swept swept_order) (filter_once (is_granted (text_order R) (L ++ e ∷ [])) R once)
         (counted_law (state_in R (L ++ e ∷ [])) R (L ++ e ∷ []) swept once swept_order swept_by (λ q h. refl))
         (after R shown_before)
 
