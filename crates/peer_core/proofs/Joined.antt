@@ -63,6 +63,10 @@ table_same old new R C same t = record {
 
 -- ---- a request that follows
 
+-- what follows the view follows the items
+pub follows_items : (items J : List Message) (m : Message) → items ≡ J → FollowsJournal J m → FollowsJournal items m
+follows_items items J m is follows = subst (λ (I : List Message). FollowsJournal I m) (sym is) follows
+
 module _ (J : List Message) (log : List Entry) (slots : List Slot) (cells : List (Name × Cell)) (table : List Kept) (stamp count : ℕ)
     (kept : IsKeptOf J log slots cells table stamp count) where
   pub known : AreKnown (requests_of J) log
