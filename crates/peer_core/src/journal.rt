@@ -82,6 +82,7 @@ impl Journal {
 
     // ---- readers, which take no memory
 
+    #[tactic(auto, using(crate::proofs::Reading::within, crate::proofs::Reading::sizes))]
     pub(crate) fn len(&self) -> u32
         ensures count { result ≡ length self.now }
         ensures within { IsWithin self.now }
@@ -118,6 +119,7 @@ impl Journal {
     }
 
     /// The greatest stamp of its requests.
+    #[tactic(auto, using(crate::proofs::Reading::stamps_within))]
     pub(crate) fn stamp(&self) -> u64
         ensures greatest { result ≡ greatest_stamp (requests_of self.now) }
         ensures in_range { result ≤ MAX_STAMP }
@@ -147,6 +149,7 @@ impl Journal {
     }
 
     /// The state of the request of a name.
+    #[tactic(auto, using(crate::proofs::Reading::read_state))]
     pub(crate) fn state(&self, id: Name) -> Option<&State>
         ensures { option_copied result ≡ option_map (state_in (requests_of self.now) (entries_of self.now)) (request_of (requests_of self.now) id) }
     {
@@ -154,6 +157,7 @@ impl Journal {
     }
 
     /// The cell of an element.
+    #[tactic(auto, using(crate::proofs::Reading::read_cell))]
     pub(crate) fn cell(&self, element: Name) -> Option<&Cell>
         ensures { option_copied result ≡ cell_in (requests_of self.now) (entries_of self.now) element }
     {
@@ -161,6 +165,7 @@ impl Journal {
     }
 
     /// How many elements show.
+    #[tactic(auto, using(crate::proofs::Reading::read_shown, crate::proofs::Reading::few_shown))]
     pub(crate) fn shown(&self) -> u32
         ensures { result ≡ length (shown_in (requests_of self.now) (entries_of self.now)) }
     {
@@ -168,6 +173,7 @@ impl Journal {
     }
 
     /// The element at a place among those that show.
+    #[tactic(auto, using(crate::proofs::Reading::read_shown))]
     pub(crate) fn shown_at(&self, i: u32) -> Option<Name>
         ensures { result ≡ slice_get (shown_in (requests_of self.now) (entries_of self.now)) i }
     {
@@ -175,6 +181,7 @@ impl Journal {
     }
 
     /// The least name of a request that awaits its validation.
+    #[tactic(auto, using(crate::proofs::Awaiting::journal_awaiting))]
     pub(crate) fn first_tentative(&self) -> Option<Name>
         ensures { result ≡ least_awaiting (requests_of self.now) (entries_of self.now) }
     {

@@ -90,6 +90,7 @@ impl Peer {
     }
 
     /// How many elements show.
+    #[tactic(auto, using(crate::proofs::Answering::as_many_shown))]
     pub fn shown_len(&self) -> u32
         ensures { result ≡ length (text self.now) }
     {
