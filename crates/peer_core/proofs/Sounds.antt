@@ -1,5 +1,5 @@
 -- Peers stay sound as they change.
-use Rattle.std.proofs.Common.{◌≡◌, ℕ, ◌+◌, ◌<◌, ◌≤◌, zero, suc, Bool, true, false, not, ◌&&◌, ◌||◌, List, [], ◌∷◌, ◌++◌, length, None, Some, refl, ap, sym, subst, ◌∙◌, arith, append_assoc, length-append, remove, take, drop}
+use Rattle.std.proofs.Common.{◌≡◌, ℕ, ◌<◌, ◌≤◌, zero, suc, Bool, true, false, ◌||◌, List, [], ◌∷◌, ◌++◌, length, None, Some, refl, ap, sym, subst, ◌∙◌, arith, append_assoc, length-append, remove, take, drop}
 use Rattle.std.specs.Prelude.{map, slice_get, nat_eq}
 use Rattle.std.proofs.Common.{cond}
 use Rattle.std.specs.List.{list_any, list_all}
@@ -25,7 +25,7 @@ use Rattle.edit_message.specs.declared.message.Missing.{Missing}
 use Rattle.hold_back.specs.declared.held.Held.{Held}
 use Rattle.hold_back.specs.Hold.{IsNewKey, messages_of}
 use Rattle.hold_back.specs.Need.{need_for}
-use Rattle.peer_core.specs.Peer.{Peer, integrate, hold, fresh_peer, history, log, missing_in}
+use Rattle.peer_core.specs.Peer.{Peer, integrate, hold, fresh_peer, missing_in}
 use Rattle.peer_core.specs.Sound.{has_key_of, is_foreign, FollowsJournal, IsWithin, IsSound}
 use Rattle.peer_core.specs.Waiting.{waits_rightly, wait_rightly, woken_after, MayIntegrate, IsPeer}
 use Rattle.peer_core.proofs.ItemLemmas.{eqb-comm}

@@ -1,7 +1,7 @@
 -- What held messages wait for.
-use Rattle.std.specs.Prelude.{◌≡◌, ℕ, ◌+◌, Bool, true, false, not, ◌&&◌, ◌==◌, List, ◌++◌, length, nat_lt, Option, Some, None}
+use Rattle.std.specs.Prelude.{◌≡◌, ℕ, ◌+◌, Bool, true, false, not, ◌&&◌, ◌==◌, List, length, nat_lt, Option, Some, None}
 use Rattle.std.specs.List.{list_all}
-use Rattle.element_name.specs.Name.{Name, start, name_eq, has_name}
+use Rattle.element_name.specs.Name.{start, name_eq, has_name}
 use Rattle.std.specs.Option.{option_map_or}
 use Rattle.element_name.specs.Cases.{when}
 use Rattle.coop_request.specs.Edit.{anchor_or_target, is_insert}

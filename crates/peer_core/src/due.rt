@@ -1,5 +1,5 @@
 //! Which held messages are due, and what the others wait for.
-ghost use Rattle.std.specs.Prelude.{◌≡◌, not, option_map, option_and_then, slice_get, IsTrue};
+ghost use Rattle.std.specs.Prelude.{◌≡◌, option_map, option_and_then, slice_get, IsTrue};
 ghost use Rattle.std.specs.List.{list_all};
 ghost use Rattle.hold_back.specs.Hold.{messages_of, woken_by};
 ghost use Rattle.hold_back.specs.Need.{need_for};

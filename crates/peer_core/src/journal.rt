@@ -1,5 +1,5 @@
 //! The journal, with what is kept of it.
-ghost use Rattle.std.specs.Prelude.{◌≡◌, ◌<◌, ◌≤◌, [], ◌∷◌, ◌++◌, length, slice_get, option_map, option_and_then, filter_map, IfOk, OnOk, OnErr, IsOk};
+ghost use Rattle.std.specs.Prelude.{◌≡◌, ◌<◌, ◌≤◌, [], ◌∷◌, ◌++◌, length, slice_get, option_map, option_and_then, filter_map, IfOk, OnOk, OnErr};
 ghost use Rattle.std.specs.Option.{option_copied};
 ghost use Rattle.element_name.specs.declared.limits.TheConstants.{MAX_STAMP, MAX_VERSION};
 ghost use Rattle.coop_request.specs.declared.request.TheConstants.{MAX_REQUESTS};
@@ -51,9 +51,8 @@ pub(crate) struct Journal {
 }
 
 impl Model for Journal {
-    ghost use Rattle.std.specs.Prelude.{◌≡◌, List, length};
+    ghost use Rattle.std.specs.Prelude.{List};
     ghost use Rattle.edit_message.specs.declared.message.Message.{Message};
-    ghost use Rattle.edit_message.specs.Message.{requests_of};
     ghost use Rattle.peer_core.specs.Kept.{IsKeptOf};
 
     ghost Value = { List Message };

@@ -1,5 +1,5 @@
 //! The peer.
-ghost use Rattle.std.specs.Prelude.{◌≡◌, ℕ, ◌<◌, ◌≤◌, ◌+◌, ◌∷◌, ◌++◌, [], ◌==◌, not, Some, None, List, true, false, length, find, map, position, slice_get, slice_index_or, option_map, option_and_then, unwrap_or, IfOk, OnOk, OnErr, IsOk, IsTrue, MatchOption};
+ghost use Rattle.std.specs.Prelude.{◌≡◌, ℕ, ◌<◌, ◌∷◌, ◌++◌, [], ◌==◌, not, Some, None, List, false, length, map, position, slice_get, slice_index_or, option_map, option_and_then, IfOk, OnOk, OnErr, IsOk, IsTrue};
 ghost use Rattle.std.specs.Option.{option_copied, option_map_or};
 ghost use Rattle.std.specs.List.{list_all};
 ghost use Rattle.element_name.specs.Cases.{when, given, first_of};
@@ -14,11 +14,11 @@ ghost use Rattle.edit_message.specs.Missing.{missing_end};
 ghost use Rattle.edit_message.specs.Same.{message_eq};
 ghost use Rattle.admin_log.specs.Log.{entry_fault};
 ghost use Rattle.hold_back.specs.Hold.{IsNewKey, messages_of, woken_by};
-ghost use Rattle.peer_core.specs.Peer.{Peer as peer_of, fresh_peer, front, history, log, text, shown_elements, state_at, state_of_name, cell_at, missing, is_due, finds_no_room, integrate, hold};
-ghost use Rattle.peer_core.specs.Sound.{IsSound, IsWithin, FollowsJournal, has_key_of, is_foreign};
+ghost use Rattle.peer_core.specs.Peer.{fresh_peer, front, history, log, text, shown_elements, state_at, state_of_name, cell_at, missing, is_due, finds_no_room, integrate, hold};
+ghost use Rattle.peer_core.specs.Sound.{IsSound, IsWithin, FollowsJournal, is_foreign};
 ghost use Rattle.peer_core.specs.Waiting.{wait_rightly, woken_after, MayIntegrate};
 ghost use Rattle.peer_core.specs.Answers.{answer_of, answer_edit, answer_administer, answer_validate_next, answer_receive, answer_settle, answer_issued, answer_known, answer_missing, answer_taken, outcome_of, validated_by, missing_request, invalid_state, next_entry, undone_by, fault_in, answer_own, is_next_entry, is_full_history, is_full_log, answer_denied, local_verdict};
-ghost use Rattle.peer_core.specs.After.{peer_after, changed_by, takes_none, let_go};
+ghost use Rattle.peer_core.specs.After.{peer_after, changed_by, takes_none};
 ghost use Rattle.peer_core.specs.Local.{has_place, greatest_stamp, anchor_at, edit_of, new_request};
 
 use crate::advance::validated_by;

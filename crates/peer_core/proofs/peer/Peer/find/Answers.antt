@@ -1,8 +1,5 @@
-use Rattle.std.proofs.Common.{◌≡◌, List, ◌++◌, Some, None, sym, ap, ◌∙◌}
-use Rattle.std.specs.declared.option.Option.{Option}
-use Rattle.std.specs.Option.{option_or, option_copied}
+use Rattle.std.proofs.Common.{◌++◌, Some, None, sym, ap, ◌∙◌}
 use Rattle.edit_message.specs.declared.message.Key.{Key}
-use Rattle.edit_message.specs.declared.message.Message.{Message}
 use Rattle.edit_message.specs.Message.{key_of, find_key}
 use Rattle.hold_back.specs.Hold.{messages_of, find_held}
 use Rattle.peer_core.specs.Peer.{Peer}

@@ -1,12 +1,12 @@
 use Rattle.std.proofs.Common.{◌≡◌, ℕ, true, ap, sym, subst, ◌∙◌}
 use Rattle.edit_message.specs.declared.message.Message.TheVariants.{Admin}
 use Rattle.hold_back.specs.declared.need.Need.TheVariants.{Front}
-use Rattle.hold_back.specs.Hold.{messages_of, woken_by}
+use Rattle.hold_back.specs.Hold.{woken_by}
 use Rattle.request_state.specs.declared.state.Undone.{Undone}
 use Rattle.peer_core.specs.Peer.{Peer}
 use Rattle.peer_core.specs.Answers.{undone_by}
 use Rattle.peer_core.specs.Waiting.{MayIntegrate, wait_rightly}
-use Rattle.peer_core.proofs.Sounds.{seen, peer_with, once_more, right_more}
+use Rattle.peer_core.proofs.Sounds.{peer_with, once_more, right_more}
 use Rattle.peer_core.proofs.Answering.{undone_more}
 use Rattle.peer_core.proofs.peer.Peer.take_entry.Goals as goal
 

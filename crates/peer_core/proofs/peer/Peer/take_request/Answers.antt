@@ -1,10 +1,8 @@
-use Rattle.std.proofs.Common.{◌≡◌, ap, sym, subst, ◌∙◌}
-use Rattle.coop_request.specs.Request.{Request}
+use Rattle.std.proofs.Common.{ap, sym, subst, ◌∙◌}
 use Rattle.edit_message.specs.declared.message.Message.TheVariants.{Coop}
-use Rattle.hold_back.specs.Hold.{messages_of}
 use Rattle.peer_core.specs.Peer.{Peer, state_at, integrate}
 use Rattle.peer_core.specs.Waiting.{MayIntegrate}
-use Rattle.peer_core.proofs.Sounds.{seen, peer_with, once_more, right_more}
+use Rattle.peer_core.proofs.Sounds.{peer_with, once_more, right_more}
 use Rattle.peer_core.proofs.Answering.{state_more}
 use Rattle.peer_core.proofs.peer.Peer.take_request.Goals as goal
 
