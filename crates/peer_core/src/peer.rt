@@ -16,7 +16,7 @@ ghost use Rattle.admin_log.specs.Log.{entry_fault};
 ghost use Rattle.hold_back.specs.Hold.{IsNewKey, messages_of, woken_by};
 ghost use Rattle.peer_core.specs.Peer.{fresh_peer, front, history, log, text, shown_elements, state_at, state_of_name, cell_at, missing, is_due, finds_no_room, integrate, hold};
 ghost use Rattle.peer_core.specs.Sound.{IsSound, IsWithin, FollowsJournal, is_foreign};
-ghost use Rattle.peer_core.specs.Waiting.{wait_rightly, woken_after, MayIntegrate};
+ghost use Rattle.peer_core.specs.Waiting.{wait_rightly, wait_if_missing, met_by, woken_after, MayIntegrate};
 ghost use Rattle.peer_core.specs.Answers.{answer_of, answer_edit, answer_administer, answer_validate_next, answer_receive, answer_settle, answer_issued, answer_known, answer_missing, answer_taken, outcome_of, validated_by, missing_request, invalid_state, next_entry, undone_by, fault_in, answer_own, is_next_entry, is_full_history, is_full_log, answer_denied, local_verdict};
 ghost use Rattle.peer_core.specs.After.{peer_after, changed_by, takes_none};
 ghost use Rattle.peer_core.specs.Local.{has_place, greatest_stamp, anchor_at, edit_of, new_request};
@@ -683,10 +683,12 @@ fn integrate<W: Sweep>(
 // What waited for a request's element is woken, now that the request is in the journal.
 fn wake_by_request(hold: &mut HoldBack, journal: &Journal, request: Request)
     requires waiting { IsTrue (wait_rightly journal.now (woken_after (Message.Coop request) hold.old)) }
+    requires missing { met_by (Message.Coop request) ≡ None → IsTrue (wait_if_missing journal.now hold.old) }
     requires keys { EachAfter IsNewKey (map key_of (journal.now ++ messages_of hold.old)) }
     requires formed { IsTrue (list_all is_message (messages_of hold.old)) }
     ensures messages { messages_of hold.new ≡ messages_of hold.old }
     ensures waiting { IsTrue (wait_rightly journal.now hold.new) }
+    ensures missing { IsTrue (wait_if_missing journal.now hold.new) }
     ensures within { IsWithin journal.now }
 {
     let _ = journal.len();
@@ -702,6 +704,7 @@ fn wake_by_entry(hold: &mut HoldBack, journal: &Journal, version: u32)
     requires formed { IsTrue (list_all is_message (messages_of hold.old)) }
     ensures messages { messages_of hold.new ≡ messages_of hold.old }
     ensures waiting { IsTrue (wait_rightly journal.now hold.new) }
+    ensures missing { IsTrue (wait_if_missing journal.now hold.new) }
     ensures within { IsWithin journal.now }
 {
     let _ = journal.len();
@@ -710,10 +713,12 @@ fn wake_by_entry(hold: &mut HoldBack, journal: &Journal, version: u32)
 
 fn wake_by(hold: &mut HoldBack, journal: &Journal, message: &Message)
     requires waiting { IsTrue (wait_rightly journal.now (woken_after message.now hold.old)) }
+    requires missing { met_by message.now ≡ None → IsTrue (wait_if_missing journal.now hold.old) }
     requires keys { EachAfter IsNewKey (map key_of (journal.now ++ messages_of hold.old)) }
     requires formed { IsTrue (list_all is_message (messages_of hold.old)) }
     ensures messages { messages_of hold.new ≡ messages_of hold.old }
     ensures waiting { IsTrue (wait_rightly journal.now hold.new) }
+    ensures missing { IsTrue (wait_if_missing journal.now hold.new) }
     ensures within { IsWithin journal.now }
 {
     match message {
