@@ -34,6 +34,13 @@ pub has_last : {X : Type 0} (xs : List X) (x : X) → Has (xs ++ x ∷ []) x
 has_last [] x = inl refl
 has_last (y ∷ xs) x = inr (has_last xs x)
 
+-- what holds of each in a list, and of one more, holds of each where it is the last
+pub each_more : {X : Type 0} (P : X → Type 0) (xs : List X) (last : X) → ((x : X) → Has xs x → P x) → P last → (x : X) → Has (xs ++ last ∷ []) x → P x
+each_more P [] last each more x (inl p) = subst P p more
+each_more P [] last each more x (inr h) = absurd h
+each_more P (y ∷ xs) last each more x (inl p) = each x (inl p)
+each_more P (y ∷ xs) last each more x (inr h) = each_more P xs last (λ z there. each z (inr there)) more x h
+
 -- what passes a test makes the test of any pass
 pub any_has : {X : Type 0} (test : X → Bool) (xs : List X) (x : X) → Has xs x → test x ≡ true → list_any test xs ≡ true
 any_has test [] x h t = absurd h
