@@ -1,16 +1,17 @@
 -- What stands among the messages of a journal, by its key.
 use Rattle.std.proofs.Common.{◌≡◌, ℕ, ◌≤◌, inl, inr, Bool, true, false, not, cond, ◌||◌, List, [], ◌∷◌, ◌++◌, length, Some, refl, ap, sym, subst, ◌∙◌, arith, length-append}
 use Rattle.std.specs.Prelude.{find, nat_eq}
-use Rattle.std.specs.List.{list_any, list_all}
-use Rattle.std.proofs.lemmas.Bool.{and_parts, or_parts, or_left, or_right, both_ways, eqb-true, eq-eqb}
-use Rattle.std.proofs.lemmas.List.Folds.{list_any-append}
+use Rattle.std.specs.List.{list_any}
+use Rattle.std.proofs.lemmas.Bool.{or_parts, or_left, or_right, both_ways, eqb-true, eq-eqb}
+use Rattle.std.proofs.lemmas.List.Elements.{Contains-append_left}
+use Rattle.std.proofs.lemmas.List.Folds.{list_any-append, list_any-from_Any, Any-from_list_any}
 use Rattle.element_name.specs.Name.{Name, name_eq, has_name}
 use Rattle.element_name.specs.Growing.{EachFrom}
 use Rattle.element_name.proofs.NameOrder.{name_eq-refl, same_name}
 use Rattle.coop_request.specs.Request.{Request}
 use Rattle.coop_request.specs.History.{elements_of, request_of}
 use Rattle.policy_book.specs.Entry.{Entry}
-use Rattle.tomb_seq.proofs.Has.{Has}
+use Rattle.tomb_seq.proofs.Has.{Has, Has-append_right, Has-from_Contains, Contains-from_Has}
 use Rattle.elem_show.proofs.Cells.{first_new, rest_once}
 use Rattle.edit_message.specs.declared.message.Message.{Message}
 use Rattle.edit_message.specs.declared.message.Message.TheVariants.{Coop, Admin}
@@ -25,14 +26,11 @@ use Rattle.peer_core.proofs.Sets.{IsOnce, has_found}
 
 -- what stands in the first of two lists stands in both together
 pub has_left : {X : Type 0} (xs ys : List X) (x : X) → Has xs x → Has (xs ++ ys) x
-has_left [] ys x h = absurd h
-has_left (y ∷ xs) ys x (inl p) = inl p
-has_left (y ∷ xs) ys x (inr h) = inr (has_left xs ys x h)
+has_left xs ys x h = Has-from_Contains (xs ++ ys) x (Contains-append_left xs ys x (Contains-from_Has xs x h))
 
 -- the last of a list stands in it
 pub has_last : {X : Type 0} (xs : List X) (x : X) → Has (xs ++ x ∷ []) x
-has_last [] x = inl refl
-has_last (y ∷ xs) x = inr (has_last xs x)
+has_last xs x = Has-append_right xs (x ∷ []) x (inl refl)
 
 -- what holds of each in a list, and of one more, holds of each where it is the last
 pub each_more : {X : Type 0} (P : X → Type 0) (xs : List X) (last : X) → ((x : X) → Has xs x → P x) → P last → (x : X) → Has (xs ++ last ∷ []) x → P x
@@ -43,19 +41,11 @@ each_more P (y ∷ xs) last each more x (inr h) = each_more P xs last (λ z ther
 
 -- what passes a test makes the test of any pass
 pub any_has : {X : Type 0} (test : X → Bool) (xs : List X) (x : X) → Has xs x → test x ≡ true → list_any test xs ≡ true
-any_has test [] x h t = absurd h
-any_has test (y ∷ xs) x (inl p) t = or_left (test y) (list_any test xs) (ap test p ∙ t)
-any_has test (y ∷ xs) x (inr h) t = or_right (test y) (list_any test xs) (any_has test xs x h t)
+any_has test xs x h passes = let at = Contains-from_Has xs x h in list_any-from_Any test xs (at.0, x, at.1, at.2, passes)
 
 -- where any passes there is one that does
 pub any_which : {X : Type 0} (test : X → Bool) (xs : List X) → list_any test xs ≡ true → (x : X) × Has xs x × (test x ≡ true)
-any_which test [] h = absurd cc
-any_which {X} test (y ∷ xs) h = by (test y) refl h (any_which test xs)
-  where
-    by : (b : Bool) → test y ≡ b → (b || list_any test xs) ≡ true → (list_any test xs ≡ true → (x : X) × Has xs x × (test x ≡ true))
-        → (x : X) × Has (y ∷ xs) x × (test x ≡ true)
-    by true e g rest = (y, inl refl, e)
-    by false e g rest = let r = rest g in (r.0, inr r.1, r.2)
+any_which test xs h = let at = Any-from_list_any test xs h in (at.1, Has-from_Contains xs at.1 (at.0, at.2, at.3), at.4)
 
 -- what is found stands there, and passes the test
 pub find_which : {X : Type 0} (test : X → Bool) (xs : List X) (x : X) → find test xs ≡ Some x → Has xs x × (test x ≡ true)
@@ -66,12 +56,6 @@ find_which {X} test (y ∷ xs) x h = by (test y) refl h (find_which test xs x)
         → Has (y ∷ xs) x × (test x ≡ true)
     by true e g rest = let same : y ≡ x = cc in (inl same, ap test (sym same) ∙ e)
     by false e g rest = let r = rest g in (inr r.0, r.1)
-
--- all of a list pass the test, so each does
-pub all_has : {X : Type 0} (test : X → Bool) (xs : List X) (x : X) → list_all test xs ≡ true → Has xs x → test x ≡ true
-all_has test [] x all h = absurd h
-all_has test (y ∷ xs) x all (inl p) = ap test (sym p) ∙ (and_parts (test y) (list_all test xs) all).0
-all_has test (y ∷ xs) x all (inr h) = all_has test xs x (and_parts (test y) (list_all test xs) all).1 h
 
 -- ---- keys
 
