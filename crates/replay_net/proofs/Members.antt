@@ -2,7 +2,7 @@
 use Rattle.std.proofs.Common.{◌≡◌, ℕ, ◌≤◌, inl, inr, Bool, true, false, not, cond, ◌||◌, List, [], ◌∷◌, ◌++◌, length, Some, refl, ap, sym, subst, ◌∙◌, arith, length-append}
 use Rattle.std.specs.Prelude.{find, nat_eq}
 use Rattle.std.specs.List.{list_any}
-use Rattle.std.proofs.lemmas.Bool.{or_parts, or_left, or_right, both_ways, eqb-true, eq-eqb}
+use Rattle.std.proofs.lemmas.Bool.{or_parts, both_ways, eqb-true, eq-eqb}
 use Rattle.std.proofs.lemmas.List.Elements.{Contains-append_left}
 use Rattle.std.proofs.lemmas.List.Folds.{list_any-append, list_any-from_Any, Any-from_list_any}
 use Rattle.element_name.specs.Name.{Name, name_eq, has_name}
@@ -135,36 +135,20 @@ entry_from (Coop r ∷ J) e h = inr (entry_from J e h)
 
 -- ---- elements
 
--- the elements of one more request, in front
-first_element : (q : Request) (R : List Request) (n : Name) → has_name (elements_of (q ∷ R)) n ≡ (has_name (elements_of (q ∷ [])) n || has_name (elements_of R) n)
-first_element q R n =
+-- an element of requests is one of any of them
+element_of_any : (R : List Request) (n : Name) → has_name (elements_of R) n ≡ list_any (λ q. has_name (elements_of (q ∷ [])) n) R
+element_of_any [] n = refl
+element_of_any (q ∷ R) n =
     ap (λ (names : List Name). has_name names n) (elements_append (q ∷ []) R) ∙ list_any-append (name_eq n) (elements_of (q ∷ [])) (elements_of R)
-
--- an element is that of a request
-element_which : (R : List Request) (n : Name) → has_name (elements_of R) n ≡ true → (q : Request) × Has R q × (has_name (elements_of (q ∷ [])) n ≡ true)
-element_which [] n h = absurd cc
-element_which (q ∷ R) n h = by (has_name (elements_of (q ∷ [])) n) refl (sym (first_element q R n) ∙ h) (element_which R n)
-  where
-    by : (b : Bool) → has_name (elements_of (q ∷ [])) n ≡ b → (b || has_name (elements_of R) n) ≡ true
-        → (has_name (elements_of R) n ≡ true → (r : Request) × Has R r × (has_name (elements_of (r ∷ [])) n ≡ true))
-        → (r : Request) × Has (q ∷ R) r × (has_name (elements_of (r ∷ [])) n ≡ true)
-    by true e g rest = (q, inl refl, e)
-    by false e g rest = let r = rest g in (r.0, inr r.1, r.2)
-
--- an element of a request is one of all of them
-element_of_one : (R : List Request) (q : Request) (n : Name) → Has R q → has_name (elements_of (q ∷ [])) n ≡ true → has_name (elements_of R) n ≡ true
-element_of_one [] q n h t = absurd h
-element_of_one (r ∷ R) q n (inl p) t =
-    first_element r R n ∙ or_left (has_name (elements_of (r ∷ [])) n) (has_name (elements_of R) n) (ap (λ (x : Request). has_name (elements_of (x ∷ [])) n) p ∙ t)
-element_of_one (r ∷ R) q n (inr h) t =
-    first_element r R n ∙ or_right (has_name (elements_of (r ∷ [])) n) (has_name (elements_of R) n) (element_of_one R q n h t)
+    ∙ ap (λ (b : Bool). has_name (elements_of (q ∷ [])) n || b) (element_of_any R n)
 
 -- more messages have more elements
 pub elements_within : (J I : List Message) (n : Name) → ((m : Message) → Has J m → Has I m) → has_name (elements_of (requests_of J)) n ≡ true
     → has_name (elements_of (requests_of I)) n ≡ true
 elements_within J I n more h =
-    let q = element_which (requests_of J) n h in
-    element_of_one (requests_of I) q.0 n (request_there I q.0 (more (Coop q.0) (request_from J q.0 q.1))) q.2
+    let makes : Request → Bool = λ q. has_name (elements_of (q ∷ [])) n in
+    let q = any_which makes (requests_of J) (sym (element_of_any (requests_of J) n) ∙ h) in
+    element_of_any (requests_of I) n ∙ any_has makes (requests_of I) q.0 (request_there I q.0 (more (Coop q.0) (request_from J q.0 q.1))) q.2
 
 -- ---- how many
 
