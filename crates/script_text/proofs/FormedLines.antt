@@ -74,6 +74,17 @@ module _ {A : Type 0} (test : A → Bool) where
   mapped f None h = none
   mapped f (Some x) h = some (f x) (h x refl)
 
+-- each of two values passes its test
+abbrev both : {A B : Type 0} → (A → Bool) → (B → Bool) → A × B → Bool
+both test other values = test values.0 && other values.1
+
+-- two values, if both are there
+pair : {A B : Type 0} (test : A → Bool) (other : B → Bool) (x : Option A) (y : Option B) → Passes test x → Passes other y
+    → Passes (both test other) (x >>= λ a. y >>= λ b. Some (a, b))
+pair test other x y first second =
+    then (both test other) x _ (λ a is_a. then (both test other) y _ (λ b is_b.
+    some (both test other) (a, b) (and_from (test a) (other b) (first a is_a) (second b is_b))))
+
 -- ---- numbers, names and pieces
 
 -- a number is at most its limit
@@ -104,41 +115,23 @@ piece word = then is_piece (unescaped false word) _ (λ bytes at. where_ is_piec
 
 -- one argument, a number of 16 bits
 a_short : (args : List (List ℕ)) → Passes is_short (one_short args)
-a_short [] = none is_short
 a_short (a ∷ []) = short a
-a_short (a ∷ b ∷ rest) = none is_short
-
--- both are numbers of 16 bits
-abbrev are_short : ℕ × ℕ → Bool
-are_short pair = is_short pair.0 && is_short pair.1
+a_short args = none is_short
 
 -- two arguments, numbers of 16 bits
-shorts : (args : List (List ℕ)) → Passes are_short (two_shorts args)
-shorts [] = none are_short
-shorts (a ∷ []) = none are_short
-shorts (a ∷ b ∷ []) =
-    then are_short _ _ (λ m is_m. then are_short _ _ (λ n is_n.
-    some are_short (m, n) (and_from (is_short m) (is_short n) (short a m is_m) (short b n is_n))))
-shorts (a ∷ b ∷ c ∷ rest) = none are_short
+shorts : (args : List (List ℕ)) → Passes (both is_short is_short) (two_shorts args)
+shorts (a ∷ b ∷ []) = pair is_short is_short _ _ (short a) (short b)
+shorts args = none (both is_short is_short)
 
 -- one argument, a name
 a_name : (args : List (List ℕ)) → Passes is_name (one_name args)
-a_name [] = none is_name
 a_name (a ∷ []) = name a
-a_name (a ∷ b ∷ rest) = none is_name
-
--- both are names in their ranges
-abbrev are_names : Name × Name → Bool
-are_names pair = is_name pair.0 && is_name pair.1
+a_name args = none is_name
 
 -- two arguments, names
-names : (args : List (List ℕ)) → Passes are_names (two_names args)
-names [] = none are_names
-names (a ∷ []) = none are_names
-names (a ∷ b ∷ []) =
-    then are_names _ _ (λ m is_m. then are_names _ _ (λ n is_n.
-    some are_names (m, n) (and_from (is_name m) (is_name n) (name a m is_m) (name b n is_n))))
-names (a ∷ b ∷ c ∷ rest) = none are_names
+names : (args : List (List ℕ)) → Passes (both is_name is_name) (two_names args)
+names (a ∷ b ∷ []) = pair is_name is_name _ _ (name a) (name b)
+names args = none (both is_name is_name)
 
 -- ---- lists, users and rights
 
@@ -183,9 +176,8 @@ rights word =
 
 -- one argument, a list of names
 a_name_list : (args : List (List ℕ)) → Passes is_name_list (one_name_list args)
-a_name_list [] = none is_name_list
 a_name_list (a ∷ []) = name_list a
-a_name_list (a ∷ b ∷ rest) = none is_name_list
+a_name_list args = none is_name_list
 
 -- an extent is in its ranges
 extent : (word : List ℕ) (args : List (List ℕ)) → Passes is_extent (read_extent word args)
@@ -199,27 +191,21 @@ extent word args =
 -- so is an object with its extent
 object : (args : List (List ℕ)) → Passes is_operation (read_object args)
 unfolding read_object
-object [] = none is_operation
-object (a ∷ []) = none is_operation
 object (number ∷ word ∷ args) =
     then is_operation _ _ (λ n is_n. then is_operation _ _ (λ e is_e.
     some is_operation (AddObj n e) (and_from (is_short n) (is_extent e) (short number n is_n) (extent word args e is_e))))
+object args = none is_operation
 
 -- so is an authorization at its place
 auth : (args : List (List ℕ)) → Passes is_operation (read_auth args)
 unfolding read_auth
-auth [] = none is_operation
-auth (a ∷ []) = none is_operation
-auth (a ∷ b ∷ []) = none is_operation
-auth (a ∷ b ∷ c ∷ []) = none is_operation
-auth (a ∷ b ∷ c ∷ d ∷ []) = none is_operation
 auth (place ∷ sign ∷ whom ∷ what ∷ objects ∷ []) =
     then is_operation _ _ (λ at is_at. then is_operation _ _ (λ grant is_grant. then is_operation _ _ (λ r is_r. then is_operation _ _ (λ u is_u. then is_operation _ _ (λ o is_o.
     some is_operation (AddAuth at (record { users = u; rights = r; objects = o; grant = grant }))
     (and_from (is_short at) (is_user_set u && (has_any r && is_num_list o)) (short place at is_at)
     (and_from (is_user_set u) (has_any r && is_num_list o) (user_set whom u is_u)
     (and_from (has_any r) (is_num_list o) (rights what r is_r) (number_list objects o is_o)))))))))
-auth (a ∷ b ∷ c ∷ d ∷ e ∷ f ∷ rest) = none is_operation
+auth args = none is_operation
 
 -- so is an operation, by its first word
 operation_by : (word : List ℕ) (args : List (List ℕ)) → Passes is_operation (read_operation_by word args)
@@ -245,18 +231,10 @@ operation (word ∷ args) = operation_by word args
 
 -- ---- messages
 
--- a name in its ranges, and a piece
-abbrev is_named_piece : Name × List ℕ → Bool
-is_named_piece pair = is_name pair.0 && is_piece pair.1
-
 -- two arguments, a name and a piece
-named_piece : (args : List (List ℕ)) → Passes is_named_piece (name_and_piece args)
-named_piece [] = none is_named_piece
-named_piece (a ∷ []) = none is_named_piece
-named_piece (a ∷ b ∷ []) =
-    then is_named_piece _ _ (λ n is_n. then is_named_piece _ _ (λ p is_p.
-    some is_named_piece (n, p) (and_from (is_name n) (is_piece p) (name a n is_n) (piece b p is_p))))
-named_piece (a ∷ b ∷ c ∷ rest) = none is_named_piece
+named_piece : (args : List (List ℕ)) → Passes (both is_name is_piece) (name_and_piece args)
+named_piece (a ∷ b ∷ []) = pair is_name is_piece _ _ (name a) (piece b)
+named_piece args = none (both is_name is_piece)
 
 -- the edit of a request is in its ranges
 edit : (word : List ℕ) (args : List (List ℕ)) → Passes is_edit (read_edit word args)
@@ -269,15 +247,13 @@ edit word args =
 -- a request is well formed
 request : (args : List (List ℕ)) → Passes is_message (read_request args)
 unfolding read_request
-request [] = none is_message
-request (a ∷ []) = none is_message
-request (a ∷ b ∷ []) = none is_message
 request (a ∷ number ∷ word ∷ args) =
     then is_message _ _ (λ id is_id. then is_message _ _ (λ version is_version. then is_message _ _ (λ e is_e.
     let q : Request = record { id = id; version = version; edit = e } in
     where_ is_message (is_none (request_fault q)) (Coop q) (λ h.
     and_from (is_name id) (is_edit e && is_none (request_fault q)) (name a id is_id)
     (and_from (is_edit e) (is_none (request_fault q)) (edit word args e is_e) h)))))
+request args = none is_message
 
 -- so is an entry
 entry : (args : List (List ℕ)) → Passes is_message (read_entry args)
@@ -296,18 +272,10 @@ message (word ∷ args) = either is_message _ _ _ (request args) (either is_mess
 
 -- ---- steps
 
--- a piece beside its place
-abbrev is_placed_piece : ℕ × List ℕ → Bool
-is_placed_piece pair = is_piece pair.1
-
 -- two arguments, a place and a piece
-placed_piece : (args : List (List ℕ)) → Passes is_placed_piece (place_and_piece args)
-placed_piece [] = none is_placed_piece
-placed_piece (a ∷ []) = none is_placed_piece
-placed_piece (a ∷ b ∷ []) =
-    then is_placed_piece _ _ (λ at is_at. then is_placed_piece _ _ (λ p is_p.
-    some is_placed_piece (at, p) (piece b p is_p)))
-placed_piece (a ∷ b ∷ c ∷ rest) = none is_placed_piece
+placed_piece : (args : List (List ℕ)) → Passes (both (λ at. true) is_piece) (place_and_piece args)
+placed_piece (a ∷ b ∷ []) = pair (λ at. true) is_piece (read_wide a) _ (λ at is_at. refl) (piece b)
+placed_piece args = none (both (λ at. true) is_piece)
 
 -- a step with which the line of a peer is well formed
 abbrev is_formed_step : Step → Bool
@@ -344,10 +312,8 @@ local peers number args =
 
 -- so is the line of a message that is given
 give : (peers : ℕ) (args : List (List ℕ)) → Passes is_formed_line (read_give peers args)
-give peers [] = none is_formed_line
-give peers (a ∷ []) = none is_formed_line
 give peers (a ∷ b ∷ []) = then is_formed_line (read_count MAX_WIDE a) _ (λ m is_m. then is_formed_line (read_peer peers b) _ (λ p is_p. some is_formed_line (Give m p) refl))
-give peers (a ∷ b ∷ c ∷ rest) = none is_formed_line
+give peers args = none is_formed_line
 
 -- so is the line of a message that is handed in
 hand : (peers : ℕ) (args : List (List ℕ)) → Passes is_formed_line (read_hand peers args)
@@ -356,17 +322,13 @@ hand peers (a ∷ args) = then is_formed_line (read_peer peers a) _ (λ p is_p. 
 
 -- so is the line of a look
 look : (peers : ℕ) (args : List (List ℕ)) → Passes is_formed_line (read_look peers args)
-look peers [] = none is_formed_line
-look peers (a ∷ []) = none is_formed_line
 look peers (a ∷ b ∷ []) = then is_formed_line (read_peer peers a) _ (λ p is_p. then is_formed_line (read_wide b) _ (λ at is_at. some is_formed_line (Local p (Look at)) refl))
-look peers (a ∷ b ∷ c ∷ rest) = none is_formed_line
+look peers args = none is_formed_line
 
 -- so is the line that asks for a state
 state : (peers : ℕ) (args : List (List ℕ)) → Passes is_formed_line (read_state peers args)
-state peers [] = none is_formed_line
-state peers (a ∷ []) = none is_formed_line
 state peers (a ∷ b ∷ []) = then is_formed_line (read_peer peers a) _ (λ p is_p. then is_formed_line (read_name b) _ (λ n is_n. some is_formed_line (StateOf p n) refl))
-state peers (a ∷ b ∷ c ∷ rest) = none is_formed_line
+state peers args = none is_formed_line
 
 -- so is every line after the first
 later : (peers : ℕ) (args : List (List ℕ)) → Passes is_formed_line (read_later peers args)
