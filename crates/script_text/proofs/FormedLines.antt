@@ -1,11 +1,7 @@
 -- What is read of a line is well formed.
-use Rattle.std.proofs.Common.{◌≡◌, ℕ, ◌+◌, ◌^◌, Bool, true, false, cond, ◌&&◌, ◌||◌, List, [], ◌∷◌, Some, None, take, drop, refl, ap, sym, ◌∙◌, arith}
-use Rattle.std.specs.Prelude.{nat_le, map, position, option_map, is_none, codes, ◌==◌}
-use Rattle.std.specs.declared.option.Option.{Option}
-use Rattle.std.specs.Option.{option_or}
+use Rattle.std.proofs.Common.{◌≡◌, ℕ, ◌+◌, ◌^◌, Bool, true, false, ◌&&◌, ◌||◌, List, [], ◌∷◌, take, drop, refl, arith}
+use Rattle.std.specs.Prelude.{nat_le, map, position, is_none, codes, ◌==◌}
 use Rattle.std.proofs.lemmas.Bool.{and_from, lt-ltb, leb-true}
-use Rattle.std.proofs.lemmas.Option.{same_Some}
-use Rattle.element_name.specs.Cases.{when, given, ◌>>=◌}
 use Rattle.element_name.specs.declared.limits.TheConstants.{MAX_STAMP}
 use Rattle.element_name.specs.Name.{Name, is_in_range}
 use Rattle.coop_request.specs.declared.edit.Edit.TheVariants as edits
@@ -35,55 +31,7 @@ use Rattle.script_text.specs.Operation.{one_name_list, read_extent, read_object,
 use Rattle.script_text.specs.Message.{name_and_piece, read_edit, read_request, read_entry, read_message}
 use Rattle.script_text.specs.Line.{place_and_piece, read_local_edit, read_own, read_local, read_give, read_hand, read_look, read_state, read_later, one_count, read_first, read_plain, read_step}
 use Rattle.script_text.specs.Laws.{FormedLaw, FormedStepLaw}
-
--- what is there passes the test
-abbrev Passes : {A : Type 0} → (A → Bool) → Option A → Type 0
-Passes {A = A} test value = (x : A) → value ≡ Some x → test x ≡ true
-
-module _ {A : Type 0} (test : A → Bool) where
-  -- nothing is there
-  none : Passes test None
-  none x e = absurd (cc)
-
-  -- a value that passes
-  some : (x : A) → test x ≡ true → Passes test (Some x)
-  some x h y e = ap test (sym (same_Some x y e)) ∙ h
-
-  -- a value behind a test
-  where_ : (b : Bool) (x : A) → (b ≡ true → test x ≡ true) → Passes test (when b x)
-  where_ true x h = some x (h refl)
-  where_ false x h = none
-
-  -- one or the other, by a test
-  either : (b : Bool) (x y : Option A) → Passes test x → Passes test y → Passes test (cond b x y)
-  either true x y first second = first
-  either false x y first second = second
-
-  -- the first of two that is there
-  first : (x y : Option A) → Passes test x → Passes test y → Passes test (option_or x y)
-  first None y head rest = rest
-  first (Some x) y head rest = head
-
-  -- what a value leads to
-  then : {B : Type 0} (value : Option B) (f : B → Option A) → ((x : B) → value ≡ Some x → Passes test (f x)) → Passes test (value >>= f)
-  then None f h = none
-  then (Some x) f h = h x refl
-
-  -- what a value is mapped to
-  mapped : {B : Type 0} (f : B → A) (value : Option B) → ((x : B) → value ≡ Some x → test (f x) ≡ true) → Passes test (option_map f value)
-  mapped f None h = none
-  mapped f (Some x) h = some (f x) (h x refl)
-
--- each of two values passes its test
-abbrev both : {A B : Type 0} → (A → Bool) → (B → Bool) → A × B → Bool
-both test other values = test values.0 && other values.1
-
--- two values, if both are there
-pair : {A B : Type 0} (test : A → Bool) (other : B → Bool) (x : Option A) (y : Option B) → Passes test x → Passes other y
-    → Passes (both test other) (x >>= λ a. y >>= λ b. Some (a, b))
-pair test other x y first second =
-    then (both test other) x _ (λ a is_a. then (both test other) y _ (λ b is_b.
-    some (both test other) (a, b) (and_from (test a) (other b) (first a is_a) (second b is_b))))
+use Rattle.script_text.proofs.Passing.{Passes, none, some, where_, allowed, either, first, then, mapped, both, pair}
 
 -- ---- numbers, names and pieces
 
@@ -347,12 +295,8 @@ opening [] = none is_formed_line
 opening (word ∷ args) = either is_formed_line _ _ _ (mapped is_formed_line Peers (one_count args) (λ n is_n. refl)) (none is_formed_line)
 
 pub formed_law : FormedLaw
-formed_law first peers bytes = by (is_line bytes) first
-  where
-    by : (b first : Bool) → Passes is_formed_line (given b (cond first (read_first (words bytes)) (read_later peers (words bytes))))
-    by true true = opening (words bytes)
-    by true false = later peers (words bytes)
-    by false first = none is_formed_line
+formed_law true peers bytes = allowed is_formed_line (is_line bytes) _ (opening (words bytes))
+formed_law false peers bytes = allowed is_formed_line (is_line bytes) _ (later peers (words bytes))
 
 -- ---- step lines
 
@@ -372,15 +316,7 @@ any_step (word ∷ args) =
     either is_formed_step _ _ _ (mapped is_formed_step edit_step (read_local_edit args) (local_edit args))
     (either is_formed_step _ _ _ (mapped is_formed_step Look (one_wide args) (λ at is_at. refl))
     (either is_formed_step _ _ _ (mapped is_formed_step Receive (read_message args) (message args))
-    (either is_formed_step _ _ _ (mapped is_formed_step Administer (read_operation args) (operation args)) (allowed (are_none args)))))
-  where
-    allowed : (b : Bool) → Passes is_formed_step (given b (read_plain word))
-    allowed true = plain word
-    allowed false = none is_formed_step
+    (either is_formed_step _ _ _ (mapped is_formed_step Administer (read_operation args) (operation args)) (allowed is_formed_step (are_none args) _ (plain word)))))
 
 pub formed_step_law : FormedStepLaw
-formed_step_law bytes step peer read = by (is_line bytes) step read
-  where
-    by : (b : Bool) → Passes is_formed_step (given b (read_step (words bytes)))
-    by true = any_step (words bytes)
-    by false = none is_formed_step
+formed_step_law bytes step peer read = allowed is_formed_step (is_line bytes) _ (any_step (words bytes)) step read

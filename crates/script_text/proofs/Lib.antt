@@ -1,5 +1,6 @@
 pub mod DigitLemmas
 pub mod Escapes
+pub mod Passing
 pub mod FormedLines
 pub mod SpelledWords
 pub mod TextTests
