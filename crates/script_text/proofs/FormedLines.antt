@@ -1,6 +1,6 @@
--- What is read of a line is well formed.
+-- What is read of a line, its step or its message, is well formed.
 use Rattle.std.proofs.Common.{◌≡◌, ℕ, ◌+◌, ◌^◌, Bool, true, false, ◌&&◌, ◌||◌, List, [], ◌∷◌, take, drop, refl, arith}
-use Rattle.std.specs.Prelude.{nat_le, map, position, is_none, codes, ◌==◌}
+use Rattle.std.specs.Prelude.{nat_le, map, position, is_none, ◌==◌}
 use Rattle.std.proofs.lemmas.Bool.{and_from, lt-ltb, leb-true}
 use Rattle.element_name.specs.declared.limits.TheConstants.{MAX_STAMP}
 use Rattle.element_name.specs.Name.{Name, is_in_range}
@@ -20,23 +20,23 @@ use Rattle.peer_step.specs.declared.step.LocalEdit.{LocalEdit}
 use Rattle.peer_step.specs.declared.step.LocalEdit.TheVariants.{Insert, Delete, Update}
 use Rattle.peer_step.specs.declared.step.Step.{Step}
 use Rattle.peer_step.specs.declared.step.Step.TheVariants.{Edit as edit_step, Administer, Receive, ValidateNext, Look, Settle, Show}
-use Rattle.replay_net.specs.declared.line.Line.TheVariants.{Peers, Local, Give, Hand, StateOf}
+use Rattle.replay_net.specs.declared.line.Line.TheVariants.{Local}
 use Rattle.replay_net.specs.Line.{is_formed_line}
-use Rattle.script_text.specs.declared.numbers.TheConstants.{MAX_SHORT, MAX_WIDE}
-use Rattle.script_text.specs.Words.{is_line, words, parts, each_some, is_alone, are_none}
-use Rattle.script_text.specs.Numbers.{read_number, read_count, read_short, read_wide, read_peer, read_name, one_short, two_shorts, one_wide, one_peer, one_name, two_names}
+use Rattle.script_text.specs.declared.numbers.TheConstants.{MAX_SHORT}
+use Rattle.script_text.specs.Words.{is_line, words, parts, each_some, are_none}
+use Rattle.script_text.specs.Numbers.{read_number, read_short, read_wide, read_name, one_short, two_shorts, one_wide, one_name, two_names}
 use Rattle.script_text.specs.Pieces.{unescaped, read_piece}
 use Rattle.script_text.specs.Sets.{read_numbers, read_names, read_listed, read_users, rights_of, read_rights}
 use Rattle.script_text.specs.Operation.{one_name_list, read_extent, read_object, read_auth, read_operation_by, read_operation}
 use Rattle.script_text.specs.Message.{name_and_piece, read_edit, read_request, read_entry, read_message}
-use Rattle.script_text.specs.Line.{place_and_piece, read_local_edit, read_own, read_local, read_give, read_hand, read_look, read_state, read_later, one_count, read_first, read_plain, read_step}
-use Rattle.script_text.specs.Laws.{FormedLaw, FormedStepLaw}
-use Rattle.script_text.proofs.Passing.{Passes, none, some, where_, allowed, either, first, then, mapped, both, pair}
+use Rattle.script_text.specs.Line.{place_and_piece, read_local_edit, read_plain, read_step}
+use Rattle.script_text.specs.Laws.{FormedStepLaw}
+use Rattle.script_text.proofs.Passing.{Passes, none, some, where_, allowed, either, then, mapped, both, pair}
 
 -- ---- numbers, names and pieces
 
 -- a number is at most its limit
-number_low : (limit : ℕ) (word : List ℕ) → Passes (λ n. nat_le n limit) (read_number limit word)
+pub number_low : (limit : ℕ) (word : List ℕ) → Passes (λ n. nat_le n limit) (read_number limit word)
 unfolding read_number
 number_low limit word = then (λ n. nat_le n limit) _ _ (λ n at. where_ (λ m. nat_le m limit) (nat_le n limit) n (λ h. h))
 
@@ -172,7 +172,7 @@ operation_by word args =
     (either is_operation _ _ _ (mapped is_operation Validate (one_name args) (a_name args)) (none is_operation)))))))))))
 
 -- OP is in its ranges
-operation : (args : List (List ℕ)) → Passes is_operation (read_operation args)
+pub operation : (args : List (List ℕ)) → Passes is_operation (read_operation args)
 unfolding read_operation
 operation [] = none is_operation
 operation (word ∷ args) = operation_by word args
@@ -213,7 +213,7 @@ entry (number ∷ args) =
     (λ h. and_from (is_entry_version version) (is_operation op) h (operation args op is_op))))
 
 -- MESSAGE is well formed
-message : (args : List (List ℕ)) → Passes is_message (read_message args)
+pub message : (args : List (List ℕ)) → Passes is_message (read_message args)
 unfolding read_message
 message [] = none is_message
 message (word ∷ args) = either is_message _ _ _ (request args) (either is_message _ _ _ (entry args) (none is_message))
@@ -226,79 +226,21 @@ placed_piece (a ∷ b ∷ []) = pair (λ at. true) is_piece (read_wide a) _ (λ 
 placed_piece args = none (both (λ at. true) is_piece)
 
 -- a step with which the line of a peer is well formed
-abbrev is_formed_step : Step → Bool
+abbrev pub is_formed_step : Step → Bool
 is_formed_step step = is_formed_line (Local 0 step)
 
 -- an edit that is such a step
-abbrev is_formed_edit : LocalEdit → Bool
+abbrev pub is_formed_edit : LocalEdit → Bool
 is_formed_edit e = is_formed_step (edit_step e)
 
 -- an edit at a place brings a piece
-local_edit : (args : List (List ℕ)) → Passes is_formed_edit (read_local_edit args)
+pub local_edit : (args : List (List ℕ)) → Passes is_formed_edit (read_local_edit args)
 unfolding read_local_edit
 local_edit [] = none is_formed_edit
 local_edit (word ∷ args) =
     either is_formed_edit _ _ _ (mapped is_formed_edit (λ (pair : ℕ × List ℕ). Insert pair.0 pair.1) (place_and_piece args) (placed_piece args))
     (either is_formed_edit _ _ _ (mapped is_formed_edit Delete (one_wide args) (λ at is_at. refl))
     (either is_formed_edit _ _ _ (mapped is_formed_edit (λ (pair : ℕ × List ℕ). Update pair.0 pair.1) (place_and_piece args) (placed_piece args)) (none is_formed_edit)))
-
--- a step of a peer's own is well formed
-own : (args : List (List ℕ)) → Passes is_formed_step (read_own args)
-unfolding read_own
-own args =
-    first is_formed_step _ _ (mapped is_formed_step edit_step (read_local_edit args) (local_edit args))
-    (first is_formed_step _ _ (where_ is_formed_step (is_alone (codes "validatenext") args) ValidateNext (λ h. refl))
-    (first is_formed_step _ _ (mapped is_formed_step Administer (read_operation args) (operation args)) (none is_formed_step)))
-
--- ---- lines
-
--- so is its line
-local : (peers : ℕ) (number : List ℕ) (args : List (List ℕ)) → Passes is_formed_line (read_local peers number args)
-unfolding read_local
-local peers number args =
-    then is_formed_line (read_peer peers number) _ (λ p is_p. then is_formed_line _ _ (λ step read. some is_formed_line (Local p step) (own args step read)))
-
--- so is the line of a message that is given
-give : (peers : ℕ) (args : List (List ℕ)) → Passes is_formed_line (read_give peers args)
-give peers (a ∷ b ∷ []) = then is_formed_line (read_count MAX_WIDE a) _ (λ m is_m. then is_formed_line (read_peer peers b) _ (λ p is_p. some is_formed_line (Give m p) refl))
-give peers args = none is_formed_line
-
--- so is the line of a message that is handed in
-hand : (peers : ℕ) (args : List (List ℕ)) → Passes is_formed_line (read_hand peers args)
-hand peers [] = none is_formed_line
-hand peers (a ∷ args) = then is_formed_line (read_peer peers a) _ (λ p is_p. then is_formed_line _ _ (λ m is_m. some is_formed_line (Hand p m) (message args m is_m)))
-
--- so is the line of a look
-look : (peers : ℕ) (args : List (List ℕ)) → Passes is_formed_line (read_look peers args)
-look peers (a ∷ b ∷ []) = then is_formed_line (read_peer peers a) _ (λ p is_p. then is_formed_line (read_wide b) _ (λ at is_at. some is_formed_line (Local p (Look at)) refl))
-look peers args = none is_formed_line
-
--- so is the line that asks for a state
-state : (peers : ℕ) (args : List (List ℕ)) → Passes is_formed_line (read_state peers args)
-state peers (a ∷ b ∷ []) = then is_formed_line (read_peer peers a) _ (λ p is_p. then is_formed_line (read_name b) _ (λ n is_n. some is_formed_line (StateOf p n) refl))
-state peers args = none is_formed_line
-
--- so is every line after the first
-later : (peers : ℕ) (args : List (List ℕ)) → Passes is_formed_line (read_later peers args)
-later peers [] = none is_formed_line
-later peers (word ∷ args) =
-    either is_formed_line _ _ _ (give peers args)
-    (either is_formed_line _ _ _ (hand peers args)
-    (either is_formed_line _ _ _ (mapped is_formed_line (λ p. Local p Settle) (one_peer peers args) (λ p is_p. refl))
-    (either is_formed_line _ _ _ (look peers args)
-    (either is_formed_line _ _ _ (mapped is_formed_line (λ p. Local p Show) (one_peer peers args) (λ p is_p. refl))
-    (either is_formed_line _ _ _ (state peers args) (local peers word args))))))
-
--- so is the first line
-opening : (args : List (List ℕ)) → Passes is_formed_line (read_first args)
-opening [] = none is_formed_line
-opening (word ∷ args) = either is_formed_line _ _ _ (mapped is_formed_line Peers (one_count args) (λ n is_n. refl)) (none is_formed_line)
-
-pub formed_law : FormedLaw
-formed_law true peers bytes = allowed is_formed_line (is_line bytes) _ (opening (words bytes))
-formed_law false peers bytes = allowed is_formed_line (is_line bytes) _ (later peers (words bytes))
-
--- ---- step lines
 
 -- a step that is one word is well formed
 plain : (word : List ℕ) → Passes is_formed_step (read_plain word)
