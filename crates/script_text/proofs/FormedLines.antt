@@ -31,7 +31,7 @@ use Rattle.script_text.specs.Operation.{one_name_list, read_extent, read_object,
 use Rattle.script_text.specs.Message.{name_and_piece, read_edit, read_request, read_entry, read_message}
 use Rattle.script_text.specs.Line.{place_and_piece, read_local_edit, read_plain, read_step}
 use Rattle.script_text.specs.Laws.{FormedStepLaw}
-use Rattle.script_text.proofs.Passing.{Passes, none, some, where_, allowed, either, then, mapped, both, pair}
+use Rattle.script_text.proofs.Passing.{Passes, none, some, where_, allowed, either, then, mapped, both, alone, pair}
 
 -- ---- numbers, names and pieces
 
@@ -63,23 +63,19 @@ piece word = then is_piece (unescaped false word) _ (λ bytes at. where_ is_piec
 
 -- one argument, a number of 16 bits
 a_short : (args : List (List ℕ)) → Passes is_short (one_short args)
-a_short (a ∷ []) = short a
-a_short args = none is_short
+a_short = alone is_short read_short short
 
 -- two arguments, numbers of 16 bits
 shorts : (args : List (List ℕ)) → Passes (both is_short is_short) (two_shorts args)
-shorts (a ∷ b ∷ []) = pair is_short is_short _ _ (short a) (short b)
-shorts args = none (both is_short is_short)
+shorts = pair is_short is_short read_short read_short short short
 
 -- one argument, a name
 a_name : (args : List (List ℕ)) → Passes is_name (one_name args)
-a_name (a ∷ []) = name a
-a_name args = none is_name
+a_name = alone is_name read_name name
 
 -- two arguments, names
 names : (args : List (List ℕ)) → Passes (both is_name is_name) (two_names args)
-names (a ∷ b ∷ []) = pair is_name is_name _ _ (name a) (name b)
-names args = none (both is_name is_name)
+names = pair is_name is_name read_name read_name name name
 
 -- ---- lists, users and rights
 
@@ -124,8 +120,7 @@ rights word =
 
 -- one argument, a list of names
 a_name_list : (args : List (List ℕ)) → Passes is_name_list (one_name_list args)
-a_name_list (a ∷ []) = name_list a
-a_name_list args = none is_name_list
+a_name_list = alone is_name_list read_names name_list
 
 -- an extent is in its ranges
 extent : (word : List ℕ) (args : List (List ℕ)) → Passes is_extent (read_extent word args)
@@ -181,8 +176,7 @@ operation (word ∷ args) = operation_by word args
 
 -- two arguments, a name and a piece
 named_piece : (args : List (List ℕ)) → Passes (both is_name is_piece) (name_and_piece args)
-named_piece (a ∷ b ∷ []) = pair is_name is_piece _ _ (name a) (piece b)
-named_piece args = none (both is_name is_piece)
+named_piece = pair is_name is_piece read_name read_piece name piece
 
 -- the edit of a request is in its ranges
 edit : (word : List ℕ) (args : List (List ℕ)) → Passes is_edit (read_edit word args)
@@ -222,8 +216,7 @@ message (word ∷ args) = either is_message _ _ _ (request args) (either is_mess
 
 -- two arguments, a place and a piece
 placed_piece : (args : List (List ℕ)) → Passes (both (λ at. true) is_piece) (place_and_piece args)
-placed_piece (a ∷ b ∷ []) = pair (λ at. true) is_piece (read_wide a) _ (λ at is_at. refl) (piece b)
-placed_piece args = none (both (λ at. true) is_piece)
+placed_piece = pair (λ at. true) is_piece read_wide read_piece (λ word at is_at. refl) piece
 
 -- a step with which the line of a peer is well formed
 abbrev pub is_formed_step : Step → Bool

@@ -1,5 +1,5 @@
 -- What is there passes a test: by the ways in which a value is read.
-use Rattle.std.proofs.Common.{◌≡◌, Bool, true, false, cond, ◌&&◌, Some, None, refl, ap, sym, ◌∙◌}
+use Rattle.std.proofs.Common.{◌≡◌, ℕ, Bool, true, false, cond, ◌&&◌, List, [], ◌∷◌, Some, None, refl, ap, sym, ◌∙◌}
 use Rattle.std.specs.Prelude.{option_map}
 use Rattle.std.specs.declared.option.Option.{Option}
 use Rattle.std.specs.Option.{option_or}
@@ -50,11 +50,27 @@ module _ {A : Type 0} (test : A → Bool) where
 
 -- each of two values passes its test
 abbrev pub both : {A B : Type 0} → (A → Bool) → (B → Bool) → A × B → Bool
-both test other values = test values.0 && other values.1
+both test also values = test values.0 && also values.1
 
--- two values, if both are there
-pub pair : {A B : Type 0} (test : A → Bool) (other : B → Bool) (x : Option A) (y : Option B) → Passes test x → Passes other y
-    → Passes (both test other) (x >>= λ a. y >>= λ b. Some (a, b))
-pair test other x y first second =
-    then (both test other) x _ (λ a is_a. then (both test other) y _ (λ b is_b.
-    some (both test other) (a, b) (and_from (test a) (other b) (first a is_a) (second b is_b))))
+-- ---- words, so many and no more
+
+-- what is read of one word
+abbrev pub one : {A : Type 0} → (List ℕ → Option A) → List (List ℕ) → Option A
+one read (a ∷ []) = read a
+one read words = None
+
+-- what is read of two
+abbrev pub two : {A B : Type 0} → (List ℕ → Option A) → (List ℕ → Option B) → List (List ℕ) → Option (A × B)
+two read other (a ∷ b ∷ []) = read a >>= λ x. other b >>= λ y. Some (x, y)
+two read other words = None
+
+pub alone : {A : Type 0} (test : A → Bool) (read : List ℕ → Option A) → ((word : List ℕ) → Passes test (read word)) → (words : List (List ℕ)) → Passes test (one read words)
+alone test read each (a ∷ []) = each a
+alone test read each words = none test
+
+pub pair : {A B : Type 0} (test : A → Bool) (also : B → Bool) (read : List ℕ → Option A) (other : List ℕ → Option B)
+    → ((word : List ℕ) → Passes test (read word)) → ((word : List ℕ) → Passes also (other word)) → (words : List (List ℕ)) → Passes (both test also) (two read other words)
+pair test also read other each rest (a ∷ b ∷ []) =
+    then (both test also) (read a) _ (λ x is_x. then (both test also) (other b) _ (λ y is_y.
+    some (both test also) (x, y) (and_from (test x) (also y) (each a x is_x) (rest b y is_y))))
+pair test also read other each rest words = none (both test also)

@@ -16,7 +16,7 @@ use Rattle.script_text.specs.Words.{is_alone}
 use Rattle.script_text.specs.Numbers.{read_number, read_wide, read_count, read_peer, read_name, one_peer}
 use Rattle.script_text.specs.Operation.{read_operation}
 use Rattle.script_text.specs.Line.{read_local_edit, read_own, read_local, read_give, read_hand, read_look, read_state, read_later, one_count, read_first}
-use Rattle.script_text.proofs.Passing.{Passes, none, some, where_, either, first, then, mapped}
+use Rattle.script_text.proofs.Passing.{Passes, none, some, where_, either, first, then, mapped, alone}
 use Rattle.script_text.proofs.FormedLines.{number_low, operation, message, is_formed_step, local_edit}
 
 -- ---- peers and their own steps
@@ -27,8 +27,7 @@ peer peers word = then (λ p. nat_lt p peers) (read_wide word) _ (λ n at. where
 
 -- one argument, a peer
 a_peer : (peers : ℕ) (args : List (List ℕ)) → Passes (λ p. nat_lt p peers) (one_peer peers args)
-a_peer peers (a ∷ []) = peer peers a
-a_peer peers args = none (λ p. nat_lt p peers)
+a_peer peers = alone (λ p. nat_lt p peers) (read_peer peers) (peer peers)
 
 -- a step that takes no message, and is well formed
 abbrev is_own : Step → Bool
@@ -84,9 +83,9 @@ state : (peers : ℕ) (args : List (List ℕ)) → Passes (fits peers) (read_sta
 state peers (a ∷ b ∷ []) = for_peer peers a _ (λ p below. then (fits peers) (read_name b) _ (λ n is_n. some (fits peers) (StateOf p n) below))
 state peers args = none (fits peers)
 
--- a step of one word
-alone : (peers : ℕ) (args : List (List ℕ)) (step : Step) → is_own step ≡ true → Passes (fits peers) (option_map (λ p. Local p step) (one_peer peers args))
-alone peers args step is = mapped (fits peers) (λ p. Local p step) (one_peer peers args) (λ p read. own_line peers p step (a_peer peers args p read) is)
+-- a step of one word, for a peer
+of_peer : (peers : ℕ) (args : List (List ℕ)) (step : Step) → is_own step ≡ true → Passes (fits peers) (option_map (λ p. Local p step) (one_peer peers args))
+of_peer peers args step is = mapped (fits peers) (λ p. Local p step) (one_peer peers args) (λ p read. own_line peers p step (a_peer peers args p read) is)
 
 -- every line after the first
 later : (peers : ℕ) (args : List (List ℕ)) → Passes (fits peers) (read_later peers args)
@@ -94,9 +93,9 @@ later peers [] = none (fits peers)
 later peers (word ∷ args) =
     either (fits peers) _ _ _ (give peers args)
     (either (fits peers) _ _ _ (hand peers args)
-    (either (fits peers) _ _ _ (alone peers args Settle refl)
+    (either (fits peers) _ _ _ (of_peer peers args Settle refl)
     (either (fits peers) _ _ _ (look peers args)
-    (either (fits peers) _ _ _ (alone peers args Show refl)
+    (either (fits peers) _ _ _ (of_peer peers args Show refl)
     (either (fits peers) _ _ _ (state peers args) (local peers word args))))))
 
 pub later-formed : (peers : ℕ) (args : List (List ℕ)) → Passes is_formed_line (read_later peers args)
@@ -107,17 +106,20 @@ later-taken peers args line read = (and_parts (is_formed_line line) (is_world_li
 
 -- ---- the first line
 
--- one argument, from 1 to 64 peers
-a_count : (args : List (List ℕ)) → Passes (λ n. nat_lt 0 n && nat_le n MAX_PEERS) (one_count args)
-a_count (a ∷ []) =
-    then (λ n. nat_lt 0 n && nat_le n MAX_PEERS) (read_number MAX_PEERS a) _ (λ n read. where_ (λ m. nat_lt 0 m && nat_le m MAX_PEERS) (nat_lt 0 n) n
-    (λ above. and_from (nat_lt 0 n) (nat_le n MAX_PEERS) above (number_low MAX_PEERS a n read)))
-a_count args = none (λ n. nat_lt 0 n && nat_le n MAX_PEERS)
+-- from 1 to 64
+abbrev is_count : ℕ → Bool
+is_count n = nat_lt 0 n && nat_le n MAX_PEERS
+
+-- N is a number of peers
+count : (word : List ℕ) → Passes is_count (read_count MAX_PEERS word)
+count word =
+    then is_count (read_number MAX_PEERS word) _ (λ n read. where_ is_count (nat_lt 0 n) n
+    (λ above. and_from (nat_lt 0 n) (nat_le n MAX_PEERS) above (number_low MAX_PEERS word n read)))
 
 -- the first line opens a world
 pub read_first-first : (args : List (List ℕ)) → Passes is_opening (read_first args)
 read_first-first [] = none is_opening
-read_first-first (word ∷ args) = either is_opening _ _ _ (mapped is_opening Peers (one_count args) (a_count args)) (none is_opening)
+read_first-first (word ∷ args) = either is_opening _ _ _ (mapped is_opening Peers (one_count args) (alone is_count (read_count MAX_PEERS) count args)) (none is_opening)
 
 -- a line that opens a world is well formed
 opening-formed : (line : Line) → is_opening line ≡ true → is_formed_line line ≡ true
