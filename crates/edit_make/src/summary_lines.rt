@@ -1,5 +1,5 @@
 //! The summary.
-ghost use Rattle.std.specs.Prelude.{◌≡◌, ◌≤◌, ◌<◌, ◌+◌, ◌^◌, ◌++◌, length, count_by, slice_get, string_bytes, option_and_then, OnOk, IfOk};
+ghost use Rattle.std.specs.Prelude.{◌≡◌, ◌≤◌, ◌<◌, ◌+◌, ◌^◌, ◌++◌, ◌∷◌, [], decimal, length, count_by, slice_get, string_bytes, option_and_then, OnOk, IfOk};
 ghost use Rattle.std.specs.List.{range_with_len};
 ghost use Rattle.std.specs.Option.{option_copied, option_to_list};
 ghost use Rattle.line_engine.specs.Output.{line_of};
@@ -12,12 +12,12 @@ ghost use Rattle.edit_make.specs.Summary.{is_valid, state_kept, count_kept, head
 
 use crate::limits::{HEAD, MAX_EDITS, PEERS};
 use crate::playing::made_world;
-use crate::written::{put, put_named, put_number, put_shown};
 use edit_message::Message;
 use element_name::NoMemory;
 use peer_core::Peer;
 use peer_step::{Answer, Step, Text};
 use replay_net::{Line, Reply, World};
+use report_text::{put_number_word, put_shown};
 use request_state::State;
 use std::alloc::Global;
 
@@ -86,13 +86,22 @@ fn tally_of(peer: &Peer) -> Tally
     tally
 }
 
+// Appends a space, a word, a space and a number.
+fn put_named(line: &mut Vec<u8>, word: &[u8], number: u32) -> Result<(), NoMemory>
+    ensures { OnOk result (line.new.items ≡ line.old.items ++ each_behind 32 (word.now ∷ decimal number ∷ [])) }
+{
+    line.extend_from_slice(b" ")?;
+    line.extend_from_slice(word)?;
+    put_number_word(line, u64::from(number))
+}
+
 // Appends what is said of a peer's states and length.
 fn put_counts(out: &mut Vec<u8>, number: u32, peer: &Peer) -> Result<(), NoMemory>
     ensures { OnOk result (out.new.items ≡ out.old.items ++ spaced (count_words number peer.now)) }
 {
     let tally = tally_of(peer);
-    put(out, b"peer")?;
-    put_number(out, number)?;
+    out.extend_from_slice(b"peer")?;
+    put_number_word(out, u64::from(number))?;
     put_named(out, b"valid", tally.valid)?;
     put_named(out, b"tentative", tally.tentative)?;
     put_named(out, b"invalid", tally.invalid)?;
@@ -112,9 +121,10 @@ fn put_head(alloc: Global, out: &mut Vec<u8>, text: &str) -> Result<(), NoMemory
     ensures { OnOk result (out.new.items ≡ out.old.items ++ line_of (each_behind 32 (head_words text.now))) }
 {
     let head = head_of(alloc, text)?;
-    put(out, b" head")?;
+    out.extend_from_slice(b" head")?;
     put_shown(out, head.as_bytes())?;
-    put(out, b"\n")
+    out.extend_from_slice(b"\n")?;
+    Ok(())
 }
 
 // The text that a peer shows. The world stays as it is.
@@ -152,10 +162,11 @@ fn put_peer(
 fn put_made(out: &mut Vec<u8>, seed: u32, edits: u32) -> Result<(), NoMemory>
     ensures { OnOk result (out.new.items ≡ out.old.items ++ line_of (spaced (made_words seed edits))) }
 {
-    put(out, b"made")?;
-    put_number(out, seed)?;
-    put_number(out, edits)?;
-    put(out, b"\n")
+    out.extend_from_slice(b"made")?;
+    put_number_word(out, u64::from(seed))?;
+    put_number_word(out, u64::from(edits))?;
+    out.extend_from_slice(b"\n")?;
+    Ok(())
 }
 
 // Appends the line of what was issued.
@@ -163,10 +174,11 @@ fn put_messages(out: &mut Vec<u8>, world: &World) -> Result<(), NoMemory>
     requires { 0 < length world.now.peers }
     ensures { OnOk result (out.new.items ≡ out.old.items ++ line_of (spaced (message_words world.now))) }
 {
-    put(out, b"messages")?;
-    put_number(out, world.issued())?;
+    out.extend_from_slice(b"messages")?;
+    put_number_word(out, u64::from(world.issued()))?;
     put_named(out, b"entries", peer_at(world, 0).front())?;
-    put(out, b"\n")
+    out.extend_from_slice(b"\n")?;
+    Ok(())
 }
 
 // Appends the lines of the peers. The world stays as it is.

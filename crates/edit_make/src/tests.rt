@@ -1,5 +1,8 @@
 //! What no clause says: that there is memory, and the summaries of two seeds.
-use crate::summary;
+use crate::{Maker, PEERS, summary};
+use peer_step::Step;
+use policy_book::AdminOp;
+use replay_net::{Line, World};
 use std::test::Fail;
 
 const NO_EDITS: &[u8] = b"made 7 0
@@ -29,5 +32,16 @@ fn a_world_of_no_edits(rt: HostRuntime) -> Result<(), Fail> {
 fn a_world_of_2000_edits(rt: HostRuntime) -> Result<(), Fail> {
     let out = summary(rt.alloc(), 7, 2000)?;
     assert_eq!(rt; out.as_slice(), SOME_EDITS);
+    Ok(())
+}
+
+// The administrator begins, by adding the first user.
+#[test]
+fn the_first_line(rt: HostRuntime) -> Result<(), Fail> {
+    let mut maker = Maker::new(rt.alloc(), 7, 0)?;
+    let world = World::new(rt.alloc(), PEERS)?;
+    let line = maker.next_line(&world, None)?.ok_or("a line")?;
+    let add = AdminOp::AddUser(1);
+    assert!(rt; matches!(line, Line::Local(0, Step::Administer(op)) if op.same(&add)));
     Ok(())
 }

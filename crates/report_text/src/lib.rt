@@ -11,7 +11,9 @@ mod values;
 pub use answer::{answer_line, reply_line};
 pub use closing::held_lines;
 pub use frame::{end_line, frame_fault_line, turn_line};
+pub use part::put_shown;
 pub use spelling::{message_text, step_text};
+pub use values::put_number_word;
 
 #[cfg(test)]
 mod tests;

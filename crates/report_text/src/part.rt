@@ -129,8 +129,8 @@ pub(crate) fn put_outcome(line: &mut Vec<u8>, outcome: Outcome) -> Result<(), No
     }
 }
 
-/// A text that isn't empty.
-pub(crate) fn put_shown(line: &mut Vec<u8>, text: &[u8]) -> Result<(), NoMemory>
+/// Appends a space and a text, unless the text is empty. Takes time in its bytes.
+pub fn put_shown(line: &mut Vec<u8>, text: &[u8]) -> Result<(), NoMemory>
     ensures { OnOk result (line.new.items ≡ line.old.items ++ each_behind 32 (shown_words text.now)) }
 {
     if text.is_empty() {
