@@ -1,8 +1,14 @@
-//! Worked streams, over sources and sinks that come in pieces and fail.
-use crate::feed;
+//! Worked streams, over sources and sinks that come in pieces and fail, and streams that fill the hold and the history.
+use crate::{feed, feed_peer};
+use coop_request::{Edit, Piece, Request};
+use edit_frame::{Frame, encode};
 use edit_io::{MemSink, MemSource};
+use edit_message::Message;
+use element_name::Name;
 use line_engine::Status;
-use std::alloc::{AllocError, Global};
+use peer_core::Peer;
+use std::alloc::{Alloc, AllocError, Global};
+use std::process::Abort;
 use std::test::Fail;
 
 // The insert 1.0 of `a` at the start.
@@ -115,5 +121,107 @@ fn streams(rt: HostRuntime) -> Result<(), Fail> {
         assert_eq!(rt; written.as_slice(), row.written);
         assert_eq!(rt; status, row.status);
     }
+    Ok(())
+}
+
+// A peer that was fed is given back.
+#[test]
+fn a_peer_that_was_fed(rt: HostRuntime) -> Result<(), Fail> {
+    let alloc = rt.alloc();
+    let peer = Peer::new(alloc, 2)?;
+    let mut source = MemSource::new(Vec::from_slice(alloc, FIRST)?, 7, Vec::new(alloc));
+    let mut sink = MemSink::new(alloc, 4, Vec::new(alloc));
+    let (peer, status) = feed_peer(alloc, peer, &mut source, &mut sink);
+    assert_eq!(rt; status, Status::Done);
+    assert_eq!(rt; peer.shown_len(), 1);
+    Ok(())
+}
+
+// Appends the frame of the administrator's request of a stamp, at version 0.
+fn put_request(alloc: Global, out: &mut Vec<u8>, stamp: u64, edit: Edit) -> Result<(), Fail> {
+    let id = Name::read(stamp, 0).ok_or("a name")?;
+    let request = Request::checked(id, 0, edit).ok().ok_or("a request")?;
+    encode(alloc, &Frame::Item(Message::Coop(request)), out)?;
+    Ok(())
+}
+
+// The bytes so many times, one behind another.
+fn put_times(out: &mut Vec<u8>, bytes: &[u8], count: usize) -> Result<(), AllocError> {
+    for _ in 0..count {
+        out.extend_from_slice(bytes)?;
+    }
+    Ok(())
+}
+
+// Feeds the frames whole, and looks at what was written.
+fn check(
+    rt: &(impl Abort + Alloc<A = Global>),
+    frames: &[u8],
+    wanted: &[u8],
+) -> Result<(), AllocError> {
+    let row = Row {
+        reads: 65_536,
+        writes: 65_536,
+        ..fed(&[], Status::Done, b"")
+    };
+    let (status, written) = run(
+        rt.alloc(),
+        &Row {
+            frames: &[frames],
+            ..row
+        },
+    )?;
+    assert!(rt; written.as_slice() == wanted);
+    assert_eq!(rt; status, Status::Done);
+    Ok(())
+}
+
+// Inserts behind an element that comes last: as many as the hold takes, and one more.
+#[test]
+fn a_full_hold(rt: HostRuntime) -> Result<(), Fail> {
+    let alloc = rt.alloc();
+    let after = Name::read(1, 0).ok_or("1.0")?;
+    let (mut frames, mut written) = (Vec::new(alloc), Vec::new(alloc));
+    let letter = Piece::of('b');
+    for stamp in 2..=4_098 {
+        put_request(alloc, &mut frames, stamp, Edit::Insert { after, letter })?;
+    }
+    frames.extend_from_slice(FIRST)?;
+    put_times(&mut written, b"held element 1.0\n", 4_096)?;
+    written.extend_from_slice(b"hold full\ntaken tentative\n")?;
+    for stamp in 2..=4_097 {
+        let line = format!(in alloc; "settled {stamp}.0 tentative\n")?;
+        written.extend_from_slice(line.as_bytes())?;
+    }
+    written.extend_from_slice(b"show a")?;
+    put_times(&mut written, b"b", 4_096)?;
+    written.extend_from_slice(b"\nheld 0\n")?;
+    check(&rt, &frames, &written)?;
+    Ok(())
+}
+
+// A delete is held until its element comes, as the last request that the history takes.
+#[test]
+fn a_full_history(rt: HostRuntime) -> Result<(), Fail> {
+    let alloc = rt.alloc();
+    let start = Name::start();
+    let first = Name::read(1, 0).ok_or("1.0")?;
+    let late = Name::read(199_999, 0).ok_or("199999.0")?;
+    let mut frames = Vec::new(alloc);
+    put_request(alloc, &mut frames, 200_000, Edit::Delete { target: late })?;
+    frames.extend_from_slice(FIRST)?;
+    for stamp in 2..=131_071 {
+        put_request(alloc, &mut frames, stamp, Edit::Delete { target: first })?;
+    }
+    let insert = Edit::Insert {
+        after: start,
+        letter: Piece::of('b'),
+    };
+    put_request(alloc, &mut frames, 199_999, insert)?;
+    put_request(alloc, &mut frames, 131_072, Edit::Delete { target: first })?;
+    let mut written = Vec::from_slice(alloc, b"held element 199999.0\n")?;
+    put_times(&mut written, b"taken tentative\n", 131_072)?;
+    written.extend_from_slice(b"history full\nshow b\nheld 1\nwaits request 200000.0 for room\n")?;
+    check(&rt, &frames, &written)?;
     Ok(())
 }

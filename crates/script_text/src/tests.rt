@@ -1,5 +1,5 @@
 //! What no clause says: that the grammar is the one of the formats, row by row, and that there is memory.
-use crate::{LineFail, script_line, step_line};
+use crate::{LineFail, read_number, script_line, step_line};
 use coop_request::Piece;
 use peer_step::{LocalEdit, Step};
 use replay_net::Line;
@@ -282,4 +282,20 @@ fn edits_by_their_lines(rt: HostRuntime) -> Result<(), Fail> {
         );
     }
     Ok(())
+}
+
+#[test]
+fn numbers(rt: HostRuntime) {
+    let rows: [(&[u8], Option<u64>); 7] = [
+        (b"0", Some(0)),
+        (b"65535", Some(65_535)),
+        (b"65536", None),
+        (b"07", None),
+        (b"", None),
+        (b"+1", None),
+        (b"1 ", None),
+    ];
+    for (word, number) in rows {
+        assert_eq!(rt; read_number(65_535, word), number, "{word:?}");
+    }
 }
