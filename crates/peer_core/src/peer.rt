@@ -76,9 +76,6 @@ impl Peer {
         ensures site { result ≡ self.now.site }
         ensures sound { IsSound self.now }
     {
-        // Each says that it is within its limits, as the clause `sound` does of both.
-        let _ = self.journal.len();
-        let _ = self.hold.len();
         self.site
     }
 
