@@ -36,7 +36,7 @@ fn put_frame_kind(line: &mut Vec<u8>, kind: FrameKind) -> Result<(), NoMemory>
     }
 }
 
-/// Appends the line that says which frame of a stream is bad, and why.
+/// Appends the line that says which frame of a stream is bad, and why. Takes time in the length of the line.
 pub fn frame_fault_line(alloc: Global, fault: FrameFault, out: &mut Vec<u8>) -> Result<(), NoMemory>
     ensures ok { OnOk result (out.new.items ≡ out.old.items ++ frame_fault_line fault) }
     ensures unchanged { OnErr result (out.new.items ≡ out.old.items) }

@@ -1,4 +1,6 @@
 //! The lines that answers and replies are written in, and the texts of steps and messages.
+//!
+//! A call fails where memory is wanting, and has then appended nothing, if it doesn't say otherwise.
 #![tactic(auto)]
 
 mod answer;

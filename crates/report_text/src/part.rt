@@ -129,7 +129,8 @@ pub(crate) fn put_outcome(line: &mut Vec<u8>, outcome: Outcome) -> Result<(), No
     }
 }
 
-/// Appends a space and a text, unless the text is empty. Takes time in its bytes.
+/// Appends a space and a text, unless the text is empty. Takes time in its bytes. Fails where memory is wanting; a
+/// part may then stand in the line.
 pub fn put_shown(line: &mut Vec<u8>, text: &[u8]) -> Result<(), NoMemory>
     ensures { OnOk result (line.new.items ≡ line.old.items ++ each_behind 32 (shown_words text.now)) }
 {

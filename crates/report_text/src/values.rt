@@ -24,7 +24,8 @@ pub(crate) fn put_number(line: &mut Vec<u8>, number: u64) -> Result<(), NoMemory
     put(line, digits.as_bytes())
 }
 
-/// Appends a space and a number. Takes time in its digits.
+/// Appends a space and a number. Takes time in its digits. Fails where memory is wanting; a part may then stand in
+/// the line.
 pub fn put_number_word(line: &mut Vec<u8>, number: u64) -> Result<(), NoMemory>
     ensures { OnOk result (line.new.items ≡ line.old.items ++ each_behind 32 (decimal number ∷ [])) }
 {
