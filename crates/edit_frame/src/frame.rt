@@ -3,7 +3,7 @@
 use coop_request::RequestFault;
 use edit_message::Message;
 
-/// What a side of a session sends, one at a time.
+/// What a peer sends to another, one at a time.
 #[derive(Drop)]
 pub enum Frame {
     /// A message.

@@ -282,7 +282,8 @@ fn spelled(alloc: Global, frame: &Frame) -> Result<BytesMut, AllocError>
     Ok(whole)
 }
 
-/// Puts the one spelling of the frame at the end, at most 280 bytes.
+/// Puts the one spelling of the frame at the end, at most 280 bytes. Fails where memory is wanting, and has then put
+/// nothing.
 pub fn encode(alloc: Global, frame: &Frame, out: &mut Vec<u8>) -> Result<(), NoMemory>
     ensures ok { OnOk result (out.new.items ≡ out.old.items ++ spelling frame.now) }
     ensures spells { Spells (spelling frame.now) frame.now }

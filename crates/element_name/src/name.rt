@@ -8,8 +8,8 @@ use std::marker::Model;
 
 /// The name of a request, and of the element that an insert makes: `stamp.site`.
 ///
-/// Names are ordered by stamp, and then by site. A stamp is a Lamport clock's: one more than the
-/// greatest that the site has seen. So a name is greater than all that its site knew when it was made.
+/// Names are ordered by stamp, and then by site. A stamp is a Lamport clock's: that of a peer's next edit is one
+/// more than the greatest of the requests that it has integrated, so that its name is greater than all of theirs.
 #[derive(Clone, Copy, Debug, PartialEq, Eq, PartialOrd, Ord, Hash)]
 pub struct Name {
     stamp: u64,

@@ -2,7 +2,7 @@
 
 use std::alloc::{AllocError, AllocFailed};
 
-/// Memory was wanting. No contract says when it is, and each says that nothing changed.
+/// Memory was wanting. No contract says when it is; a call on an object leaves it as it was.
 #[derive(Clone, Copy, Debug, PartialEq, Eq)]
 pub struct NoMemory;
 

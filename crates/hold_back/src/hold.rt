@@ -17,7 +17,7 @@ use std::marker::Model;
 /// How many messages may be held.
 pub const MAX_HELD: usize = 4_096;
 
-/// Which messages are due: of those that are asked about, the ones that miss nothing.
+/// Which messages are due: of those that are asked about, the ones that may be integrated.
 pub trait Due {
     ghost use Rattle.std.specs.Prelude.{Bool};
     ghost use Rattle.edit_message.specs.declared.message.Message as spec;

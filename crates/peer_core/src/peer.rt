@@ -86,7 +86,7 @@ impl Peer {
         self.journal.front()
     }
 
-    /// How many elements show.
+    /// How many elements show. Takes time in the number of elements.
     #[tactic(auto, using(crate::proofs::Answering::as_many_shown))]
     pub fn shown_len(&self) -> u32
         ensures { result ≡ length (text self.now) }
@@ -136,7 +136,7 @@ impl Peer {
         self.hold.at(i)
     }
 
-    /// What a message misses.
+    /// What a message misses. Takes time in the number of elements.
     pub fn missing(&self, message: &Message) -> Option<Missing>
         ensures { result ≡ missing self.now message.now }
     {
@@ -148,7 +148,8 @@ impl Peer {
     /// Time: a request is judged alone, over the versions from the one that it carries; it takes time
     /// logarithmic in the requests, and linear in the elements while their sequence is a plain list. An entry
     /// takes a verdict for each Tentative request of a user within its reach, and one pass over the elements
-    /// if it undid any. What waits for what came is woken in one pass over the held messages.
+    /// if it undid any. What waits for what came is woken in two passes over the held messages, and each that is
+    /// woken, then or where a step settles, is looked up among the elements.
     ///
     /// Memory: an insert takes about 1,100 bytes, another request about 700, a held message about 350.
     ///

@@ -15,7 +15,8 @@ pub enum Outcome {
     Advanced(Undone),
 }
 
-/// The answer to a step, in the order in which they are tried for each step.
+/// The answer to a step, in the order in which they are tried for each step; but the `HistoryFull` of a request that
+/// comes is tried between `OwnLog` and `Illegal`.
 #[derive(Drop)]
 pub enum Answer {
     /// The text is only as long as this.
