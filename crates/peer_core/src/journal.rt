@@ -1,5 +1,5 @@
 //! The journal, with what is kept of it.
-ghost use Rattle.std.specs.Prelude.{◌≡◌, ◌<◌, ◌≤◌, [], ◌∷◌, ◌++◌, length, slice_get, option_map, option_and_then, filter_map, IfOk, OnOk, OnErr};
+ghost use Rattle.std.specs.Prelude.{◌≡◌, ◌<◌, ◌≤◌, [], ◌∷◌, ◌++◌, length, slice_get, option_map, filter_map, IfOk, OnOk, OnErr};
 ghost use Rattle.std.specs.Option.{option_copied};
 ghost use Rattle.element_name.specs.declared.limits.TheConstants.{MAX_STAMP, MAX_VERSION};
 ghost use Rattle.coop_request.specs.declared.request.TheConstants.{MAX_REQUESTS};
@@ -284,11 +284,10 @@ fn judged(request: Request) -> Judged
     }
 }
 
-// The piece that shows at a place.
-fn piece_at(seq: &TombSeq, cells: &ElemTable, place: usize) -> Option<Piece>
-    ensures { result ≡ option_and_then (piece_by cells.now) (slice_get (names_in seq.now) place) }
+// The piece that shows of an element.
+fn piece_of(cells: &ElemTable, element: Name) -> Option<Piece>
+    ensures { result ≡ piece_by cells.now element }
 {
-    let element = seq.name_at(place)?;
     let cell = cells.cell(element)?;
     shown(cell)
 }
@@ -297,8 +296,9 @@ fn text_of(alloc: Global, seq: &TombSeq, cells: &ElemTable) -> Result<Text, NoMe
     ensures { IfOk result (λ text. text ≡ filter_map (piece_by cells.now) (names_in seq.now)) }
 {
     let mut text = Text::new(alloc);
-    for place in 0..seq.len() {
-        if let Some(piece) = piece_at(seq, cells, place) {
+    let names = seq.names()?;
+    for name in &names {
+        if let Some(piece) = piece_of(cells, *name) {
             text.push(piece)?;
         }
     }
