@@ -29,6 +29,7 @@ use coop_request::{Edit, Piece, Request};
 use edit_message::{Key, Message, Missing};
 use elem_show::{Cell, ElemTable, shown};
 use element_name::{Name, NoMemory};
+use packed_message::PackedMessage;
 use peer_step::Text;
 use policy_book::{AdminOp, Entry, EntryFault};
 use request_state::{State, StateTable, Undone};
@@ -89,13 +90,13 @@ impl Journal {
         self.items.len() as u32
     }
 
-    pub(crate) fn at(&self, i: u32) -> Option<&Message>
+    pub(crate) fn at(&self, i: u32) -> Option<&PackedMessage>
         ensures { option_copied result ≡ slice_get self.now i }
     {
         self.items.at(i as usize)
     }
 
-    pub(crate) fn find(&self, key: Key) -> Option<&Message>
+    pub(crate) fn find(&self, key: Key) -> Option<&PackedMessage>
         ensures { option_copied result ≡ find_key key self.now }
     {
         self.items.find(key)
