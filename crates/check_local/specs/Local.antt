@@ -10,10 +10,10 @@ use Rattle.check_local.specs.declared.check.LocalVerdict.{LocalVerdict}
 use Rattle.check_local.specs.declared.check.LocalVerdict.TheVariants.{Granted, Denied}
 
 -- a verdict at a version: a denial names both
-abbrev pub verdict_at : ℕ → Verdict → LocalVerdict
-verdict_at version verdicts.Granted = Granted
-verdict_at version (verdicts.Denied by) = Denied version by
+abbrev pub with_version : ℕ → Verdict → LocalVerdict
+with_version version verdicts.Granted = Granted
+with_version version (verdicts.Denied by) = Denied version by
 
 -- the verdict of the policy p, which is that of the version
 abbrev pub local_verdict : List Name → Policy → ℕ → ℕ → Right → Name → LocalVerdict
-local_verdict names p version u right e = verdict_at version (verdict names p u right e)
+local_verdict names p version u right e = with_version version (verdict names p u right e)

@@ -20,7 +20,7 @@ use Rattle.coop_request.specs.Request.{Request}
 use Rattle.policy_book.specs.Entry.{Entry, is_entry_version, is_entry}
 use Rattle.policy_book.specs.declared.op.AdminOp.{AdminOp}
 use Rattle.edit_frame.specs.Fields.{Field, as_value, both, leading, passing, number_at, byte_at, short_at, name_at, char_at, bytes_at, is_long_piece, long_piece_at, letter_at, edit_at, operation_at}
-use Rattle.edit_frame.specs.Reading.{request_of, request_at, entry_of, entry_at}
+use Rattle.edit_frame.specs.Reading.{request_of_fields, request_at, entry_of, entry_at}
 use Rattle.edit_frame.specs.Spelling.{request_fields, entry_fields, short_bytes, name_bytes, is_one_char, letter_bytes, letter_version, edit_version, edit_kind, edit_bytes, number_of, operation_fields}
 use Rattle.edit_frame.proofs.Readers.{IsBytes, IsBytes-drop, Took, Reads, ReadsBy, reads_both, reads_passing, reads_via, reads_same, reads_leading, TakesRows, no_rows, more_rows, row_of, row_again, wide32, reads_number}
 use Rattle.edit_frame.proofs.Parts.{reads_short, reads_name, reads_operation}
@@ -201,7 +201,7 @@ request_back q = (q.id, (q.version, q.edit))
 
 pub reads_request : (v k : ℕ) → Reads Request (request_at v k) request_fields (fits_request v k)
 unfolding request_at
-reads_request v k = reads_via request_of request_back (both name_at (both short_at (edit_at v k)))
+reads_request v k = reads_via request_of_fields request_back (both name_at (both short_at (edit_at v k)))
     (λ x. name_bytes x.0 ++ (short_bytes x.1.0 ++ edit_bytes x.1.1)) (λ x. is_name x.0 && (is_short x.1.0 && ((edit_kind x.1.1 == k) && fits_edit v x.1.1))) request_fields (fits_request v k)
     (reads_both name_at (both short_at (edit_at v k)) name_bytes (λ x. short_bytes x.0 ++ edit_bytes x.1) is_name (λ x. is_short x.0 && ((edit_kind x.1 == k) && fits_edit v x.1)) reads_name
     (reads_both short_at (edit_at v k) short_bytes edit_bytes is_short (λ e. (edit_kind e == k) && fits_edit v e) reads_short (reads_edit v k)))

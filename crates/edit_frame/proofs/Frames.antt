@@ -21,7 +21,7 @@ use Rattle.edit_frame.specs.declared.frame.Frame.TheVariants.{Item, Turn, End}
 use Rattle.edit_frame.specs.declared.frame.FrameKind.{FrameKind}
 use Rattle.edit_frame.specs.declared.frame.FrameKind.TheVariants.{BadKind, BadField, LeftOver, BadRequest}
 use Rattle.edit_frame.specs.Fields.{Field, constant, as_value}
-use Rattle.edit_frame.specs.Reading.{request_at, entry_at, other_at, is_kind, fault_or, accepted, ended, frame_by, frame_of, length_field, cut_fault, inner, front_frame, frame_at, decoded}
+use Rattle.edit_frame.specs.Reading.{request_at, entry_at, other_at, is_kind, fault_or, request_frame, ended, frame_by, frame_of, length_field, cut_fault, inner, front_frame, frame_at, decoded}
 use Rattle.edit_frame.specs.Spelling.{request_fields, entry_fields, is_one_char, edit_version, edit_kind, version_of, kind_of, fields, body, spelling}
 use Rattle.edit_frame.specs.Spells.{is_frame, Spells}
 use Rattle.edit_frame.proofs.Readers.{IsBytes, IsBytes-drop, IsBytes-take, IsBytes-rest, chosen, TakesRows, no_rows, more_rows, row_of, row_constant, wide32}
@@ -117,10 +117,10 @@ pub record IsRead (more : Bool) (v k : ℕ) (bytes : List ℕ) (f : Frame) : Typ
   pub formed : is_frame f ≡ true
   pub alone : more ≡ false
 
-request_taken : (more : Bool) (v k : ℕ) (bytes : List ℕ) (f : Frame) → IsBytes bytes → is_kind v k ≡ true → ended more accepted (request_at v k bytes) ≡ Ok f → IsRead more v k bytes f
+request_taken : (more : Bool) (v k : ℕ) (bytes : List ℕ) (f : Frame) → IsBytes bytes → is_kind v k ≡ true → ended more request_frame (request_at v k bytes) ≡ Ok f → IsRead more v k bytes f
 unfolding fields
 request_taken more v k bytes f fits h e =
-    let a = ended_ok more accepted (request_at v k bytes) f e in
+    let a = ended_ok more request_frame (request_at v k bytes) f e in
     let q = a.value in
     let t = (reads_request v k).takes bytes (q, []) fits a.found in
     let m = accepted_by (request_fault q) q f a.made in
@@ -146,9 +146,9 @@ other_taken more v k bytes f fits h big e =
 
 pub frame_taken : (more : Bool) (v k : ℕ) (bytes : List ℕ) (f : Frame) → IsBytes bytes → frame_by more v k bytes ≡ Ok f → IsRead more v k bytes f
 unfolding frame_by
-frame_taken more v k bytes f fits e = elim (chosen (not (is_kind v k)) (bad BadKind) (cond (nat_le k 3) (ended more accepted (request_at v k bytes)) (ended more (λ g. Ok g) (other_at k bytes))) (Ok f) e) [
+frame_taken more v k bytes f fits e = elim (chosen (not (is_kind v k)) (bad BadKind) (cond (nat_le k 3) (ended more request_frame (request_at v k bytes)) (ended more (λ g. Ok g) (other_at k bytes))) (Ok f) e) [
   | inl c ↦ absurd (no_frame BadKind f c.1)
-  | inr c ↦ elim (chosen (nat_le k 3) (ended more accepted (request_at v k bytes)) (ended more (λ g. Ok g) (other_at k bytes)) (Ok f) c.1) [
+  | inr c ↦ elim (chosen (nat_le k 3) (ended more request_frame (request_at v k bytes)) (ended more (λ g. Ok g) (other_at k bytes)) (Ok f) c.1) [
     | inl d ↦ request_taken more v k bytes f fits (not-false (is_kind v k) c.0) d.1
     | inr d ↦ other_taken more v k bytes f fits (not-false (is_kind v k) c.0) d.0 d.1
   ]
@@ -158,7 +158,7 @@ none_is : (fault : Option RequestFault) → is_none fault ≡ true → fault ≡
 none_is None h = refl
 none_is (Some r) h = absurd cc
 
-fault_free : (q : Request) → is_none (request_fault q) ≡ true → accepted q ≡ Ok (Item (Coop q))
+fault_free : (q : Request) → is_none (request_fault q) ≡ true → request_frame q ≡ Ok (Item (Coop q))
 fault_free q h = ap (λ (r : Option RequestFault). fault_or (option_map BadRequest r) (good (Item (Coop q)))) (none_is (request_fault q) h)
 
 -- an accepted request's version isn't above the greatest

@@ -19,7 +19,7 @@ use Rattle.policy_book.specs.declared.auth.UserSet.TheVariants as users
 use Rattle.policy_book.specs.declared.auth.Auth.{Auth}
 use Rattle.policy_book.specs.declared.op.AdminOp.{AdminOp}
 use Rattle.policy_book.specs.declared.op.AdminOp.TheVariants.{AddUser, DelUser, AddObj, DelObj, AddGroup, DelGroup, AddMember, DelMember, AddAuth, DelAuth, Validate}
-use Rattle.edit_frame.specs.Fields.{Reader, constant, as_value, both, leading, passing, number_at, byte_at, short_at, name_of, name_at, numbers_at, names_at, extent_by, extent_at, user_set_by, user_set_at, sign_at, rights_of, rights_at, auth_of, objects_at, auth_at, operation_rows, operation_by, operation_at}
+use Rattle.edit_frame.specs.Fields.{Reader, constant, as_value, both, leading, passing, number_at, byte_at, short_at, name_of, name_at, numbers_at, names_at, extent_by, extent_at, user_set_by, user_set_at, sign_at, rights_of_byte, rights_at, auth_of, objects_at, auth_at, operation_rows, operation_by, operation_at}
 use Rattle.edit_frame.specs.Spelling.{short_bytes, name_bytes, extent_bytes, user_set_bytes, flag, rights_bytes, objects_bytes, auth_bytes, number_of, operation_fields}
 use Rattle.edit_frame.proofs.Readers.{IsBytes, IsBytes-rest, Took, Reads, ReadsBy, some_is, chosen, reads_both, reads_passing, reads_test, reads_via, reads_same, reads_leading, TakesRows, no_rows, more_rows, row_of, row_constant, row_again, reads_list, wide16, wide64, reads_number}
 
@@ -239,7 +239,7 @@ rights_number r = flag 1 r.insert + flag 2 r.delete + flag 4 r.update
 no_rights : (n : ℕ) → ((nat_lt 0 (suc (suc (suc (suc (suc (suc (suc (suc n)))))))) && nat_le (suc (suc (suc (suc (suc (suc (suc (suc n)))))))) 7) && true) ≡ true → ⊥
 no_rights n h = grind arith
 
-rights_there : (n : ℕ) → ((nat_lt 0 n && nat_le n 7) && true) ≡ true → (rights_number (rights_of n) ∷ [] ≡ n ∷ []) × (has_any (rights_of n) ≡ true)
+rights_there : (n : ℕ) → ((nat_lt 0 n && nat_le n 7) && true) ≡ true → (rights_number (rights_of_byte n) ∷ [] ≡ n ∷ []) × (has_any (rights_of_byte n) ≡ true)
 rights_there zero h = absurd cc
 rights_there (suc zero) h = (refl, refl)
 rights_there (suc (suc zero)) h = (refl, refl)
@@ -250,7 +250,7 @@ rights_there (suc (suc (suc (suc (suc (suc zero)))))) h = (refl, refl)
 rights_there (suc (suc (suc (suc (suc (suc (suc zero))))))) h = (refl, refl)
 rights_there (suc (suc (suc (suc (suc (suc (suc (suc n)))))))) h = absurd (no_rights n h)
 
-flags_here : (a b c : Bool) → has_any (record { insert = a; delete = b; update = c }) ≡ true → (rights_of (flag 1 a + flag 2 b + flag 4 c) ≡ record { insert = a; delete = b; update = c }) × (((nat_lt 0 (flag 1 a + flag 2 b + flag 4 c) && nat_le (flag 1 a + flag 2 b + flag 4 c) 7) && true) ≡ true)
+flags_here : (a b c : Bool) → has_any (record { insert = a; delete = b; update = c }) ≡ true → (rights_of_byte (flag 1 a + flag 2 b + flag 4 c) ≡ record { insert = a; delete = b; update = c }) × (((nat_lt 0 (flag 1 a + flag 2 b + flag 4 c) && nat_le (flag 1 a + flag 2 b + flag 4 c) 7) && true) ≡ true)
 flags_here true true true h = (refl, refl)
 flags_here true true false h = (refl, refl)
 flags_here true false true h = (refl, refl)
@@ -262,7 +262,7 @@ flags_here false false false h = absurd cc
 
 reads_rights : Reads Rights rights_at rights_bytes has_any
 unfolding rights_at rights_bytes
-reads_rights = reads_via rights_of rights_number (passing (λ n. nat_lt 0 n && nat_le n 7) byte_at) (λ n. n ∷ []) (λ n. (nat_lt 0 n && nat_le n 7) && true) rights_bytes has_any
+reads_rights = reads_via rights_of_byte rights_number (passing (λ n. nat_lt 0 n && nat_le n 7) byte_at) (λ n. n ∷ []) (λ n. (nat_lt 0 n && nat_le n 7) && true) rights_bytes has_any
     (reads_passing (λ n. nat_lt 0 n && nat_le n 7) byte_at (λ n. n ∷ []) (λ n. true) reads_byte) rights_there
     (λ r h. (let f = flags_here r.insert r.delete r.update h in (f.0, refl, f.1)))
 

@@ -17,7 +17,7 @@ use Rattle.edit_frame.specs.declared.fail.FrameFail.{FrameFail}
 use Rattle.edit_frame.specs.declared.fail.FrameFail.TheVariants as fails
 use Rattle.edit_frame.specs.Gives.{FrameFails}
 use Rattle.edit_frame.specs.Fields.{Field}
-use Rattle.edit_frame.specs.Reading.{request_at, other_at, is_kind, fault_or, accepted, ended, frame_by, frame_of, length_field, cut_fault, inner, front_frame, frame_at, takes_memory, Stream, stream_with, stream_of, stream, rest_fault}
+use Rattle.edit_frame.specs.Reading.{request_at, other_at, is_kind, fault_or, request_frame, ended, frame_by, frame_of, length_field, cut_fault, inner, front_frame, frame_at, takes_memory, Stream, stream_with, stream_of, stream, rest_fault}
 use Rattle.edit_frame.specs.Spelling.{body, spelling}
 use Rattle.edit_frame.specs.Spells.{is_frame}
 use Rattle.edit_frame.specs.Splitting.{Splitting, is_truncated, FrontGives, IsSplit, IsAllOf}
@@ -46,10 +46,10 @@ pub frame_whole : (more : Bool) (xs : List ℕ) (k : FrameKind) → frame_of mor
 unfolding frame_by
 frame_whole more [] k e = other_kind BadKind k refl e
 frame_whole more (v ∷ []) k e = other_kind BadKind k refl e
-frame_whole more (v ∷ kind ∷ bytes) k e = elim (chosen (not (is_kind v kind)) (bad BadKind) (cond (nat_le kind 3) (ended more accepted (request_at v kind bytes)) (ended more (λ g. Ok g) (other_at kind bytes))) (Err k) e) [
+frame_whole more (v ∷ kind ∷ bytes) k e = elim (chosen (not (is_kind v kind)) (bad BadKind) (cond (nat_le kind 3) (ended more request_frame (request_at v kind bytes)) (ended more (λ g. Ok g) (other_at kind bytes))) (Err k) e) [
   | inl c ↦ other_kind BadKind k refl c.1
-  | inr c ↦ elim (chosen (nat_le kind 3) (ended more accepted (request_at v kind bytes)) (ended more (λ g. Ok g) (other_at kind bytes)) (Err k) c.1) [
-    | inl d ↦ ended_whole more accepted (request_at v kind bytes) k (λ q m. accepted_whole (request_fault q) _ k m) d.1
+  | inr c ↦ elim (chosen (nat_le kind 3) (ended more request_frame (request_at v kind bytes)) (ended more (λ g. Ok g) (other_at kind bytes)) (Err k) c.1) [
+    | inl d ↦ ended_whole more request_frame (request_at v kind bytes) k (λ q m. accepted_whole (request_fault q) _ k m) d.1
     | inr d ↦ ended_whole more (λ g. good g) (other_at kind bytes) k (λ g m. absurd (no_frame k g (sym m))) d.1
   ]
 ]

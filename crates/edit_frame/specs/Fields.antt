@@ -128,12 +128,12 @@ abbrev pub has_bit : ℕ → ℕ → Bool
 has_bit worth n = (n / worth) % 2 == 1
 
 -- the rights of a sum of their worths
-abbrev pub rights_of : ℕ → Rights
-rights_of n = record { insert = has_bit 1 n; delete = has_bit 2 n; update = has_bit 4 n }
+abbrev pub rights_of_byte : ℕ → Rights
+rights_of_byte n = record { insert = has_bit 1 n; delete = has_bit 2 n; update = has_bit 4 n }
 
 -- at least one right
 unfoldable pub rights_at : Reader Rights
-rights_at bytes = as_value rights_of (passing (λ n. nat_lt 0 n && nat_le n 7) byte_at) bytes
+rights_at bytes = as_value rights_of_byte (passing (λ n. nat_lt 0 n && nat_le n 7) byte_at) bytes
 
 -- a count, and so many numbers of objects
 unfoldable pub objects_at : Reader (List ℕ)

@@ -18,12 +18,12 @@ use Rattle.edit_frame.specs.Fields.{Field, Reader, constant, as_value, both, pas
 -- ---- the fields of a frame whose version and kind are known
 
 -- the request of a name, a policy version and an edit
-abbrev pub request_of : Name × (ℕ × Edit) → Request
-request_of x = record { id = x.0; version = x.1.0; edit = x.1.1 }
+abbrev pub request_of_fields : Name × (ℕ × Edit) → Request
+request_of_fields x = record { id = x.0; version = x.1.0; edit = x.1.1 }
 
 -- a name, a policy version and the edit of this frame version and kind; whether it is accepted is asked later
 unfoldable pub request_at : ℕ → ℕ → Reader Request
-request_at version kind bytes = as_value request_of (both name_at (both short_at (edit_at version kind))) bytes
+request_at version kind bytes = as_value request_of_fields (both name_at (both short_at (edit_at version kind))) bytes
 
 -- the entry of a version and an operation
 abbrev pub entry_of : ℕ × AdminOp → Entry
@@ -53,8 +53,8 @@ fault_or (Some kind) read = Err kind
 fault_or None read = read
 
 -- the frame of a request that was read, if it is accepted
-abbrev pub accepted : Request → Result Frame FrameKind
-accepted q = fault_or (option_map BadRequest (request_fault q)) (Ok (Item (Coop q)))
+abbrev pub request_frame : Request → Result Frame FrameKind
+request_frame q = fault_or (option_map BadRequest (request_fault q)) (Ok (Item (Coop q)))
 
 -- the frame of what was read, if no bytes are left over; `more` says whether some stand after the frame
 abbrev pub ended : {A : Type 0} → Bool → (A → Result Frame FrameKind) → Field A → Result Frame FrameKind
@@ -65,7 +65,7 @@ ended more make (Some x) = if nat_lt 0 (length x.1) || more then Err LeftOver el
 unfoldable pub frame_by : Bool → ℕ → ℕ → List ℕ → Result Frame FrameKind
 frame_by more version kind bytes =
     if not (is_kind version kind) then Err BadKind
-    else if nat_le kind 3 then ended more accepted (request_at version kind bytes)
+    else if nat_le kind 3 then ended more request_frame (request_at version kind bytes)
     else ended more (λ f. Ok f) (other_at kind bytes)
 
 -- the frame of what stands after the length field

@@ -3,7 +3,7 @@ ghost use Rattle.std.specs.Prelude.{◌≡◌, ◌≤◌, ◌+◌, ◌||◌, ◌
 ghost use Rattle.edit_frame.specs.declared.frame.Frame.{Frame};
 ghost use Rattle.edit_frame.specs.declared.fail.FieldFail.TheVariants.{NoMemory as no_memory};
 ghost use Rattle.edit_frame.specs.Gives.{MayGive, GivesDraft, GivesFrame, GivesAt, drafted};
-ghost use Rattle.edit_frame.specs.Reading.{is_kind, request_at, entry_at, other_at, accepted, frame_by, frame_of, cut_fault};
+ghost use Rattle.edit_frame.specs.Reading.{is_kind, request_at, entry_at, other_at, request_frame, frame_by, frame_of, cut_fault};
 ghost use Rattle.edit_frame.specs.Reading.{length_field, inner, front_frame, decoded, takes_memory};
 ghost use Rattle.edit_frame.specs.Spells.{Spells};
 
@@ -59,7 +59,7 @@ fn other_of(alloc: Global, kind: u8, rest: &mut &[u8]) -> Result<Frame, FieldFai
 }
 
 fn accepted(draft: Draft) -> Result<Frame, FrameFail>
-    ensures { GivesFrame false result (accepted (drafted draft)) }
+    ensures { GivesFrame false result (request_frame (drafted draft)) }
 {
     match Request::checked(draft.id, u32::from(draft.version), draft.edit) {
         Ok(request) => Ok(Frame::Item(Message::Coop(request))),

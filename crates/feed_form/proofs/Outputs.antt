@@ -15,7 +15,7 @@ use Rattle.edit_frame.proofs.Stays.{stays}
 use Rattle.peer_core.specs.Peer.{Peer}
 use Rattle.report_text.specs.Closing.{closing_lines}
 use Rattle.feed_form.specs.Turn.{frame_turn, frames_turn}
-use Rattle.feed_form.specs.Feed.{counted_fault, bad_frame, ending, output_from, part_from, peer_fed}
+use Rattle.feed_form.specs.Feed.{counted_fault, bad_frame, stream_ending, output_from, part_from, peer_fed}
 use Rattle.feed_form.proofs.Streams.{behind, behind_size, stream_none, stream_more, rest_short}
 
 -- ---- by a stream's frames and its rest
@@ -23,7 +23,7 @@ use Rattle.feed_form.proofs.Streams.{behind, behind_size, stream_none, stream_mo
 -- what is written, where the stream has so many bytes
 abbrev output_by : Bool → Peer → ℕ → ℕ → Stream → Output
 output_by cut p offset size s = let turn = frames_turn p s.frames in
-    after_bytes turn.reply (ending cut turn.peer (offset + (size - length s.rest)) (counted_fault cut s.rest))
+    after_bytes turn.reply (stream_ending cut turn.peer (offset + (size - length s.rest)) (counted_fault cut s.rest))
 
 abbrev part_by : Peer → Stream → Option (List ℕ)
 part_by p s = when (is_none (counted_fault true s.rest)) (frames_turn p s.frames).reply
@@ -58,8 +58,8 @@ output_next : (cut : Bool) (p : Peer) (offset size more taken : ℕ) (f : Frame)
     → output_by cut p offset size (stream_with f s) ≡ after_bytes (frame_turn p f).reply (output_by cut (frame_turn p f).peer (offset + taken) more s)
 output_next cut p offset size more taken f s e le =
     let later = frames_turn (frame_turn p f).peer s.frames in
-    ap (λ (place : ℕ). after_bytes ((frame_turn p f).reply ++ later.reply) (ending cut later.peer place (counted_fault cut s.rest))) (same_place offset size more taken (length s.rest) e le)
-    ∙ after_both (frame_turn p f).reply later.reply (ending cut later.peer (offset + taken + (more - length s.rest)) (counted_fault cut s.rest))
+    ap (λ (place : ℕ). after_bytes ((frame_turn p f).reply ++ later.reply) (stream_ending cut later.peer place (counted_fault cut s.rest))) (same_place offset size more taken (length s.rest) e le)
+    ∙ after_both (frame_turn p f).reply later.reply (stream_ending cut later.peer (offset + taken + (more - length s.rest)) (counted_fault cut s.rest))
 
 pub output_front : (cut : Bool) (p : Peer) (offset : ℕ) (rest more : List ℕ) (f : Frame) → frame_at rest ≡ Ok f
     → output_from cut p offset (rest ++ more)
@@ -90,13 +90,13 @@ fed_front p rest more f e =
 
 -- nothing is answered, and the rest begins where the bytes do
 output_none : (cut : Bool) (p : Peer) (offset : ℕ) (bytes : List ℕ) (kind : FrameKind) (found : Option FrameKind) → frame_at bytes ≡ Err kind
-    → counted_fault cut bytes ≡ found → output_from cut p offset bytes ≡ ending cut p offset found
+    → counted_fault cut bytes ≡ found → output_from cut p offset bytes ≡ stream_ending cut p offset found
 output_none cut p offset bytes kind found e counted =
     let here : offset + (length bytes - length bytes) ≡ offset = omega arith in
     output_is cut p offset bytes
     ∙ ap (output_by cut p offset (length bytes)) (stream_none bytes kind e)
-    ∙ ap (λ (place : ℕ). ending cut p place (counted_fault cut bytes)) here
-    ∙ ap (ending cut p offset) counted
+    ∙ ap (λ (place : ℕ). stream_ending cut p place (counted_fault cut bytes)) here
+    ∙ ap (stream_ending cut p offset) counted
 
 part_none : (p : Peer) (bytes : List ℕ) (kind : FrameKind) → frame_at bytes ≡ Err kind → counted_fault true bytes ≡ None → part_from p bytes ≡ Some []
 part_none p bytes kind e counted = part_is p bytes ∙ ap (part_by p) (stream_none bytes kind e) ∙ ap (λ (o : Option FrameKind). when (is_none o) (let none : List ℕ = [] in none)) counted

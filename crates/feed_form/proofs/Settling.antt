@@ -19,7 +19,7 @@ use Rattle.peer_core.specs.Peer.{Peer, is_due}
 use Rattle.peer_core.specs.Answers.{answer_due, answer_settle, fault_in, outcome_of}
 use Rattle.report_text.specs.Answer.{answer_line}
 use Rattle.peer_core.specs.After.{peer_after, changed_by, let_go}
-use Rattle.feed_form.specs.Turn.{is_quiet, settle_line, Answered, answered_first, settle_steps, settled, answer_lines}
+use Rattle.feed_form.specs.Turn.{is_quiet, settle_line, SettleRun, run_first, settle_steps, settle_all, answer_lines}
 
 pub quiet_is : (a : Answer) → is_quiet a ≡ true → a ≡ Quiet
 quiet_is Quiet h = refl
@@ -60,10 +60,10 @@ settle_less p h = less_by p (find (is_due p.journal) p.held) refl h
 
 -- ---- all steps
 
-abbrev one_by : Bool → ℕ → Peer → Answered
+abbrev one_by : Bool → ℕ → Peer → SettleRun
 one_by quiet n p = elim quiet [
   | true ↦ record { answers = []; peer = p }
-  | false ↦ answered_first (answer_settle p) (settle_steps n (peer_after p Settle))
+  | false ↦ run_first (answer_settle p) (settle_steps n (peer_after p Settle))
 ]
 
 steps_quiet : (n : ℕ) (p : Peer) → is_quiet (answer_settle p) ≡ true → settle_steps n p ≡ record { answers = []; peer = p }
@@ -71,7 +71,7 @@ unfolding settle_steps
 steps_quiet zero p h = refl
 steps_quiet (suc n) p h = ap (λ (quiet : Bool). one_by quiet n p) h
 
-steps_more : (n : ℕ) (p : Peer) → is_quiet (answer_settle p) ≡ false → settle_steps (suc n) p ≡ answered_first (answer_settle p) (settle_steps n (peer_after p Settle))
+steps_more : (n : ℕ) (p : Peer) → is_quiet (answer_settle p) ≡ false → settle_steps (suc n) p ≡ run_first (answer_settle p) (settle_steps n (peer_after p Settle))
 unfolding settle_steps
 steps_more n p h = ap (λ (quiet : Bool). one_by quiet n p) h
 
@@ -88,33 +88,33 @@ enough (suc n) (suc m) p false h le lf =
     let less = settle_less p h in
     let q : Peer = peer_after p Settle in
     steps_more n p h
-    ∙ ap (answered_first (answer_settle p)) (enough n m q (is_quiet (answer_settle q)) refl (omega (arith, less, le)) (omega (arith, less, lf)))
+    ∙ ap (run_first (answer_settle p)) (enough n m q (is_quiet (answer_settle q)) refl (omega (arith, less, le)) (omega (arith, less, lf)))
     ∙ sym (steps_more m p h)
 
-pub settled_quiet : (p : Peer) → is_quiet (answer_settle p) ≡ true → settled p ≡ record { answers = []; peer = p }
-unfolding settled
+pub settled_quiet : (p : Peer) → is_quiet (answer_settle p) ≡ true → settle_all p ≡ record { answers = []; peer = p }
+unfolding settle_all
 settled_quiet p h = steps_quiet (length p.held) p h
 
-pub settled_more : (p : Peer) → is_quiet (answer_settle p) ≡ false → settled p ≡ answered_first (answer_settle p) (settled (peer_after p Settle))
-unfolding settled
+pub settled_more : (p : Peer) → is_quiet (answer_settle p) ≡ false → settle_all p ≡ run_first (answer_settle p) (settle_all (peer_after p Settle))
+unfolding settle_all
 settled_more p h =
     let less = settle_less p h in
     let q : Peer = peer_after p Settle in
     enough (length p.held) (suc (length p.held)) p false h (omega arith) (omega arith)
     ∙ steps_more (length p.held) p h
-    ∙ ap (answered_first (answer_settle p)) (enough (length p.held) (length q.held) q (is_quiet (answer_settle q)) refl (omega (arith, less)) (omega arith))
+    ∙ ap (run_first (answer_settle p)) (enough (length p.held) (length q.held) q (is_quiet (answer_settle q)) refl (omega (arith, less)) (omega arith))
 
 -- after them nothing is due
 steps_end : (n : ℕ) (p : Peer) (quiet : Bool) → is_quiet (answer_settle p) ≡ quiet → length p.held ≤ n → is_quiet (answer_settle (settle_steps n p).peer) ≡ true
-steps_end n p true h le = ap (λ (a : Answered). is_quiet (answer_settle a.peer)) (steps_quiet n p h) ∙ h
+steps_end n p true h le = ap (λ (a : SettleRun). is_quiet (answer_settle a.peer)) (steps_quiet n p h) ∙ h
 steps_end zero p false h le = absurd (none_left p h le)
 steps_end (suc n) p false h le =
     let q : Peer = peer_after p Settle in
-    ap (λ (a : Answered). is_quiet (answer_settle a.peer)) (steps_more n p h)
+    ap (λ (a : SettleRun). is_quiet (answer_settle a.peer)) (steps_more n p h)
     ∙ steps_end n q (is_quiet (answer_settle q)) refl (omega (arith, settle_less p h, le))
 
-pub settled_ends : (p : Peer) → answer_settle (settled p).peer ≡ Quiet
-unfolding settled
+pub settled_ends : (p : Peer) → answer_settle (settle_all p).peer ≡ Quiet
+unfolding settle_all
 settled_ends p = quiet_is _ (steps_end (length p.held) p (is_quiet (answer_settle p)) refl (omega arith))
 
 -- ---- the loop of steps, from the peer p with these lines so far to the peer q with those now
@@ -130,32 +130,32 @@ not_due_by due false e h = absurd (true≢false (sym e ∙ h))
 
 module _ (p q : Peer) (lines now : List ℕ) (told : now ≡ lines ++ settle_line (answer_settle p)) (after : q ≡ peer_after p Settle) where
   -- at the end all lines are written, and the peer is the last one
-  pub lines_end : (all : List ℕ) → is_quiet (answer_settle p) ≡ true → lines ++ answer_lines (settled p).answers ≡ all → now ≡ all
+  pub lines_end : (all : List ℕ) → is_quiet (answer_settle p) ≡ true → lines ++ answer_lines (settle_all p).answers ≡ all → now ≡ all
   lines_end all h so_far =
       told
       ∙ ap (λ (quiet : Bool). lines ++ cond quiet [] (answer_line None (answer_settle p))) h
-      ∙ ap (λ (a : Answered). lines ++ answer_lines a.answers) (sym (settled_quiet p h))
+      ∙ ap (λ (a : SettleRun). lines ++ answer_lines a.answers) (sym (settled_quiet p h))
       ∙ so_far
 
-  pub peer_end : (last : Peer) → is_quiet (answer_settle p) ≡ true → (settled p).peer ≡ last → q ≡ last
-  peer_end last h so_far = after ∙ quiet_stays p h ∙ ap (λ (a : Answered). a.peer) (sym (settled_quiet p h)) ∙ so_far
+  pub peer_end : (last : Peer) → is_quiet (answer_settle p) ≡ true → (settle_all p).peer ≡ last → q ≡ last
+  peer_end last h so_far = after ∙ quiet_stays p h ∙ ap (λ (a : SettleRun). a.peer) (sym (settled_quiet p h)) ∙ so_far
 
   -- before it the same is still to come
-  pub lines_more : (all : List ℕ) → is_quiet (answer_settle p) ≡ false → lines ++ answer_lines (settled p).answers ≡ all
-      → now ++ answer_lines (settled q).answers ≡ all
+  pub lines_more : (all : List ℕ) → is_quiet (answer_settle p) ≡ false → lines ++ answer_lines (settle_all p).answers ≡ all
+      → now ++ answer_lines (settle_all q).answers ≡ all
   lines_more all h so_far =
       let line : List ℕ = answer_line None (answer_settle p) in
-      let later : List ℕ = answer_lines (settled (peer_after p Settle)).answers in
-      let first : answer_lines (settled p).answers ≡ line ++ later
-      = ap (λ (a : Answered). answer_lines a.answers) (settled_more p h) ∙ flat_map-cons (answer_line None) (answer_settle p) (settled (peer_after p Settle)).answers in
-      ap (λ (r : Peer). now ++ answer_lines (settled r).answers) after
+      let later : List ℕ = answer_lines (settle_all (peer_after p Settle)).answers in
+      let first : answer_lines (settle_all p).answers ≡ line ++ later
+      = ap (λ (a : SettleRun). answer_lines a.answers) (settled_more p h) ∙ flat_map-cons (answer_line None) (answer_settle p) (settle_all (peer_after p Settle)).answers in
+      ap (λ (r : Peer). now ++ answer_lines (settle_all r).answers) after
       ∙ ap (λ (l : List ℕ). l ++ later) (told ∙ ap (λ (quiet : Bool). lines ++ cond quiet [] line) h)
       ∙ append_assoc lines line later
       ∙ ap (λ (l : List ℕ). lines ++ l) (sym first)
       ∙ so_far
 
-  pub peer_more : (last : Peer) → is_quiet (answer_settle p) ≡ false → (settled p).peer ≡ last → (settled q).peer ≡ last
-  peer_more last h so_far = ap (λ (r : Peer). (settled r).peer) after ∙ ap (λ (a : Answered). a.peer) (sym (settled_more p h)) ∙ so_far
+  pub peer_more : (last : Peer) → is_quiet (answer_settle p) ≡ false → (settle_all p).peer ≡ last → (settle_all q).peer ≡ last
+  peer_more last h so_far = ap (λ (r : Peer). (settle_all r).peer) after ∙ ap (λ (a : SettleRun). a.peer) (sym (settled_more p h)) ∙ so_far
 
   -- and there is less of it
   pub held_less : is_quiet (answer_settle p) ≡ false → length q.held < length p.held

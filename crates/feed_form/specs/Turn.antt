@@ -22,50 +22,50 @@ abbrev pub settle_line : Answer → List ℕ
 settle_line answer = if is_quiet answer then [] else answer_line None answer
 
 -- answers one after the other, and the peer after them
-pub record Answered : Type 0 where
+pub record SettleRun : Type 0 where
   pub answers : List Answer
   pub peer : Peer
 
 -- one more answer in front
-abbrev pub answered_first : Answer → Answered → Answered
-answered_first answer later = record { answers = answer ∷ later.answers; peer = later.peer }
+abbrev pub run_first : Answer → SettleRun → SettleRun
+run_first answer later = record { answers = answer ∷ later.answers; peer = later.peer }
 
 -- the settle steps before the one that is answered by Quiet, but at most n
-unfoldable pub settle_steps : ℕ → Peer → Answered
+unfoldable pub settle_steps : ℕ → Peer → SettleRun
 settle_steps zero p = record { answers = []; peer = p }
 settle_steps (suc n) p = elim (is_quiet (answer_settle p)) [
   | true ↦ record { answers = []; peer = p }
-  | false ↦ answered_first (answer_settle p) (settle_steps n (peer_after p Settle))
+  | false ↦ run_first (answer_settle p) (settle_steps n (peer_after p Settle))
 ]
 
 -- all of them: each takes a held message away
-unfoldable pub settled : Peer → Answered
-settled p = settle_steps (length p.held) p
+unfoldable pub settle_all : Peer → SettleRun
+settle_all p = settle_steps (length p.held) p
 
 -- the lines of answers, where no message is numbered
 abbrev pub answer_lines : List Answer → List ℕ
 answer_lines answers = flat_map (answer_line None) answers
 
 -- what is written of frames, and the peer after them
-pub record Turn : Type 0 where
+pub record FeedTurn : Type 0 where
   pub reply : List ℕ
   pub peer : Peer
 
 -- a message is received, and what is due then is settled
-abbrev pub message_turn : Peer → Message → Turn
-message_turn p m = let after = settled (peer_after p (Receive m)) in record {
+abbrev pub message_turn : Peer → Message → FeedTurn
+message_turn p m = let after = settle_all (peer_after p (Receive m)) in record {
   reply = answer_line None (answer_receive p m) ++ answer_lines after.answers;
   peer = after.peer;
 }
 
 -- one frame: of those that are no messages the peer isn't told
-unfoldable pub frame_turn : Peer → Frame → Turn
+unfoldable pub frame_turn : Peer → Frame → FeedTurn
 frame_turn p (frames.Item m) = message_turn p m
 frame_turn p frames.Turn = record { reply = turn_line; peer = p }
 frame_turn p frames.End = record { reply = end_line; peer = p }
 
 -- frames, one after the other
-abbrev pub frames_turn : Peer → List Frame → Turn
+abbrev pub frames_turn : Peer → List Frame → FeedTurn
 frames_turn p [] = record { reply = []; peer = p }
 frames_turn p (f ∷ fs) = let later = frames_turn (frame_turn p f).peer fs in record {
   reply = (frame_turn p f).reply ++ later.reply;

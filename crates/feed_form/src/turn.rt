@@ -3,7 +3,7 @@ ghost use Rattle.std.specs.Prelude.{◌≡◌, ◌++◌, not, None, OnOk, IfOk};
 ghost use Rattle.peer_core.specs.Answers.{answer_of, answer_settle};
 ghost use Rattle.peer_core.specs.After.{peer_after};
 ghost use Rattle.report_text.specs.Answer.{answer_line};
-ghost use Rattle.feed_form.specs.Turn.{is_quiet, settle_line, settled, answer_lines, message_turn, frame_turn};
+ghost use Rattle.feed_form.specs.Turn.{is_quiet, settle_line, settle_all, answer_lines, message_turn, frame_turn};
 
 use edit_frame::Frame;
 use edit_message::Message;
@@ -57,8 +57,8 @@ fn settle_first(alloc: Global, peer: &mut Peer, out: &mut Vec<u8>) -> Result<boo
 
 // Settles what is due, and appends the answers.
 fn settle(alloc: Global, peer: &mut Peer, out: &mut Vec<u8>) -> Result<(), NoMemory>
-    ensures reply { OnOk result (out.new.items ≡ out.old.items ++ answer_lines (settled peer.old).answers) }
-    ensures peer { OnOk result (peer.new ≡ (settled peer.old).peer) }
+    ensures reply { OnOk result (out.new.items ≡ out.old.items ++ answer_lines (settle_all peer.old).answers) }
+    ensures peer { OnOk result (peer.new ≡ (settle_all peer.old).peer) }
 {
     'steps: loop {
         let due = settle_first(alloc, peer, out)?;

@@ -8,7 +8,7 @@ ghost use Rattle.edit_message.specs.declared.message.Message.TheVariants.{Coop, 
 ghost use Rattle.edit_message.specs.Message.{find_key, requests_of, entries_of};
 ghost use Rattle.edit_message.specs.Missing.{missing_end};
 ghost use Rattle.admin_log.specs.Log.{entry_fault};
-ghost use Rattle.check_local.specs.Local.{verdict_at as local_verdict};
+ghost use Rattle.check_local.specs.Local.{with_version as local_verdict};
 ghost use Rattle.check_remote.specs.State.{verdict_at};
 ghost use Rattle.peer_core.specs.Peer.{state_in, cell_in, shown_in, text_in, missing_in, undone_between};
 ghost use Rattle.tomb_seq.specs.Slots.{names_in};

@@ -28,13 +28,13 @@ pub struct Policy {
 
 impl Model for Policy {
     ghost use Rattle.policy_book.specs.Policy as spec;
-    ghost use Rattle.policy_book.specs.Tables.{policy_of};
+    ghost use Rattle.policy_book.specs.Tables.{policy_in_tables};
 
     ghost Value = { spec.Policy };
 
-    ghost view = { λ p. policy_of p.tables };
+    ghost view = { λ p. policy_in_tables p.tables };
 
-    ghost invariant = { λ p. spec.IsWithinLimits (policy_of p.tables) };
+    ghost invariant = { λ p. spec.IsWithinLimits (policy_in_tables p.tables) };
 }
 
 impl Policy {

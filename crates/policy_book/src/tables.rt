@@ -2,7 +2,7 @@
 ghost use Rattle.std.specs.Prelude.{◌≡◌, true, length, map, position, ◌==◌, nat_lt, [], insert, remove, ◌<◌, ◌≤◌, IfOk, OnOk, OnErr};
 ghost use Rattle.element_name.specs.Numbered.{is_rising, put_by, without};
 ghost use Rattle.policy_book.specs.Policy.{IsWithinLimits, IsLegal, policy_after, with_members};
-ghost use Rattle.policy_book.specs.Tables.{policy_of};
+ghost use Rattle.policy_book.specs.Tables.{policy_in_tables};
 
 use crate::auth::{Auth, Extent};
 use crate::copied::copies;
@@ -23,10 +23,10 @@ pub struct Tables {
 impl Tables {
     /// Takes the memory that the operation wants, and then changes the one list that it speaks of.
     pub fn change(&mut self, version: u32, op: &AdminOp) -> Result<(), NoMemory>
-        requires limits { IsWithinLimits (policy_of self.old) }
-        requires legal { IsLegal (policy_of self.old) op.now }
-        ensures ok { OnOk result (policy_of self.new ≡ policy_after (policy_of self.old) version op.now) }
-        ensures err { OnErr result (policy_of self.new ≡ policy_of self.old) }
+        requires limits { IsWithinLimits (policy_in_tables self.old) }
+        requires legal { IsLegal (policy_in_tables self.old) op.now }
+        ensures ok { OnOk result (policy_in_tables self.new ≡ policy_after (policy_in_tables self.old) version op.now) }
+        ensures err { OnErr result (policy_in_tables self.new ≡ policy_in_tables self.old) }
     {
         match op {
             AdminOp::AddUser(u) => put(&mut self.users, *u)?,
@@ -47,7 +47,7 @@ impl Tables {
 
 impl Tables {
     pub fn copied(&self) -> Result<Tables, NoMemory>
-        ensures { IfOk result (λ t. policy_of t ≡ policy_of self.now) }
+        ensures { IfOk result (λ t. policy_in_tables t ≡ policy_in_tables self.now) }
     {
         Ok(Tables {
             users: Vec::from_slice(*self.users.allocator(), self.users.as_slice())?,

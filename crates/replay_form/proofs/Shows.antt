@@ -7,23 +7,23 @@ use Rattle.std.proofs.lemmas.List.Elements.{All-cons, All-append, All-map, All-w
 use Rattle.element_name.specs.Cases.{◌>>=◌}
 use Rattle.line_engine.specs.declared.limits.TheConstants.{MAX_LINE}
 use Rattle.line_engine.specs.Output.{Output, Begins, after_bytes, bad_line}
-use Rattle.line_engine.specs.Run.{Turn, turn_of_line, output_of_lines}
+use Rattle.line_engine.specs.Run.{LineTurn, turn_of_line, output_of_lines}
 use Rattle.peer_step.specs.declared.step.Step.TheVariants.{Edit, Administer, Receive, Settle, ValidateNext, Look, Show}
 use Rattle.peer_core.specs.Peer.{Peer}
 use Rattle.replay_net.specs.declared.line.Line.{Line}
 use Rattle.replay_net.specs.declared.line.Line.TheVariants.{Peers, Local, Give, Hand, StateOf}
 use Rattle.replay_net.specs.World.{World, peer_of}
 use Rattle.script_text.specs.Line.{script_line}
-use Rattle.replay_form.specs.Replay.{script_turn, script_closing, answered}
+use Rattle.replay_form.specs.Replay.{script_turn, script_closing, played_turn}
 use Rattle.replay_form.specs.Headline.{ShowLine, asked_peer, shown_peer, first_show, behind, show_lines, shown_line}
 
 -- a line that asks for a peer's text is answered by it
-reply_shows : (w : Option World) (line : List ℕ) (t : Turn (Option World)) (p : Peer)
+reply_shows : (w : Option World) (line : List ℕ) (t : LineTurn (Option World)) (p : Peer)
     → turn_of_line script_turn w line ≡ Some t → shown_peer w line ≡ Some p → t.reply ≡ shown_line p
 reply_shows None line t p e h = absurd cc
 reply_shows (Some w) line t p e h = by (nat_le (length line) MAX_LINE) (script_line false (length w.peers) line) e h
   where
-    by : (b : Bool) (o : Option Line) → (if b then option_map (answered w) o else None) ≡ Some t → (o >>= asked_peer w) ≡ Some p → t.reply ≡ shown_line p
+    by : (b : Bool) (o : Option Line) → (if b then option_map (played_turn w) o else None) ≡ Some t → (o >>= asked_peer w) ≡ Some p → t.reply ≡ shown_line p
     by false o e h = absurd cc
     by true None e h = absurd cc
     by true (Some (Peers n)) e h = absurd cc
@@ -37,9 +37,9 @@ reply_shows (Some w) line t p e h = by (nat_le (length line) MAX_LINE) (script_l
     by true (Some (Local i ValidateNext)) e h = absurd cc
     by true (Some (Local i (Look x))) e h = absurd cc
     by true (Some (Local i Show)) e h =
-        let turn : answered w (Local i Show) ≡ t = cc in
+        let turn : played_turn w (Local i Show) ≡ t = cc in
         let same : peer_of w i ≡ p = cc in
-        ap (λ (u : Turn (Option World)). u.reply) (sym turn) ∙ ap shown_line same
+        ap (λ (u : LineTurn (Option World)). u.reply) (sym turn) ∙ ap shown_line same
 
 -- no element, so anything holds of each
 all_none : (P : ShowLine → Type 0) → All P []
@@ -78,7 +78,7 @@ pub texts_of : (cut : Bool) (k : ℕ) (w : Option World) (lines : List (List ℕ
 texts_of cut k w [] = all_none (WritesIn (written_of cut k w []).written)
 texts_of cut k w (line ∷ lines) = by (turn_of_line script_turn w line) refl (λ (v : Option World). texts_of cut (k + 1) v lines)
   where
-    by : (o : Option (Turn (Option World))) → turn_of_line script_turn w line ≡ o
+    by : (o : Option (LineTurn (Option World))) → turn_of_line script_turn w line ≡ o
         → ((v : Option World) → All (WritesIn (written_of cut (k + 1) v lines).written) (show_lines v lines))
         → All (WritesIn (option_map_or (λ t. after_bytes t.reply (written_of cut (k + 1) t.world lines)) o (bad_line k)).written)
         (option_map_or (λ t. map first_show (option_to_list (shown_peer w line)) ++ map (behind t.reply) (show_lines t.world lines)) o [])

@@ -8,7 +8,7 @@ use Rattle.element_name.specs.Cases.{◌>>=◌, when}
 use Rattle.element_name.proofs.CaseLemmas.{when-Some}
 use Rattle.line_engine.specs.declared.limits.TheConstants.{MAX_LINE}
 use Rattle.line_engine.specs.Input.{is_cut, counted_bytes, lines_of}
-use Rattle.line_engine.specs.Run.{Turn, turn_of_line}
+use Rattle.line_engine.specs.Run.{LineTurn, turn_of_line}
 use Rattle.peer_step.specs.declared.step.Step.{Step}
 use Rattle.peer_step.specs.declared.step.Step.TheVariants.{Edit, Administer, Receive, Settle, ValidateNext, Look, Show}
 use Rattle.peer_step.specs.declared.answer.Answer.TheVariants.{Shown}
@@ -24,7 +24,7 @@ use Rattle.replay_net.specs.World.{World, fresh_world, peer_of, turn_of, IsSound
 use Rattle.script_text.specs.Line.{script_line}
 use Rattle.script_text.specs.Laws.{FormedLaw, OpeningLaw, TakenLaw}
 use Rattle.report_text.specs.Answer.{answer_line}
-use Rattle.replay_form.specs.Replay.{script_turn, opened, answered}
+use Rattle.replay_form.specs.Replay.{script_turn, opening_turn, played_turn}
 use Rattle.replay_form.specs.Headline.{ShowLine, is_show, asked_peer, shown_peer, first_show, behind, show_lines, shows_of, shown_line}
 
 -- the laws that this rests on
@@ -55,10 +55,10 @@ IsSoundShow s = IsSound s.peer
 
 module _ (laws : Laws) where
   -- the world that a first line begins
-  begins_sound : (line : List ℕ) (t : Turn (Option World)) → turn_of_line script_turn None line ≡ Some t → IsSoundScript t.world
+  begins_sound : (line : List ℕ) (t : LineTurn (Option World)) → turn_of_line script_turn None line ≡ Some t → IsSoundScript t.world
   begins_sound line t e = by (nat_le (length line) MAX_LINE) (script_line true 0 line) refl e
     where
-      by : (b : Bool) (o : Option Line) → script_line true 0 line ≡ o → (if b then (o >>= opened) else None) ≡ Some t → IsSoundScript t.world
+      by : (b : Bool) (o : Option Line) → script_line true 0 line ≡ o → (if b then (o >>= opening_turn) else None) ≡ Some t → IsSoundScript t.world
       by false o said h = absurd cc
       by true None said h = absurd cc
       by true (Some (Local i s)) said h = absurd cc
@@ -72,10 +72,10 @@ module _ (laws : Laws) where
           subst IsSoundScript world (sound_itself n (fresh_world n) is)
 
   -- the world after a later line
-  stays_sound : (w : World) (line : List ℕ) (t : Turn (Option World)) → IsSoundScript (Some w) → turn_of_line script_turn (Some w) line ≡ Some t → IsSoundScript t.world
+  stays_sound : (w : World) (line : List ℕ) (t : LineTurn (Option World)) → IsSoundScript (Some w) → turn_of_line script_turn (Some w) line ≡ Some t → IsSoundScript t.world
   stays_sound w line t is e = by (nat_le (length line) MAX_LINE) (script_line false (length w.peers) line) refl e
     where
-      by : (b : Bool) (o : Option Line) → script_line false (length w.peers) line ≡ o → (if b then option_map (answered w) o else None) ≡ Some t → IsSoundScript t.world
+      by : (b : Bool) (o : Option Line) → script_line false (length w.peers) line ≡ o → (if b then option_map (played_turn w) o else None) ≡ Some t → IsSoundScript t.world
       by false o said h = absurd cc
       by true None said h = absurd cc
       by true (Some l) said h =
@@ -85,7 +85,7 @@ module _ (laws : Laws) where
           let world : Some (turn_of w l).after ≡ t.world = cc in
           subst IsSoundScript world (sound_itself (length w.peers) (turn_of w l).after after)
 
-  line_sound : (w : Option World) (line : List ℕ) (t : Turn (Option World)) → IsSoundScript w → turn_of_line script_turn w line ≡ Some t → IsSoundScript t.world
+  line_sound : (w : Option World) (line : List ℕ) (t : LineTurn (Option World)) → IsSoundScript w → turn_of_line script_turn w line ≡ Some t → IsSoundScript t.world
   line_sound None line t is e = begins_sound line t e
   line_sound (Some w) line t is e = stays_sound w line t is e
 
@@ -118,7 +118,7 @@ module _ (laws : Laws) where
   shows_sound w [] is = all_none IsSoundShow
   shows_sound w (line ∷ lines) is = by (turn_of_line script_turn w line) refl (λ (v : Option World) sound. shows_sound v lines sound)
     where
-      by : (o : Option (Turn (Option World))) → turn_of_line script_turn w line ≡ o → ((v : Option World) → IsSoundScript v → All IsSoundShow (show_lines v lines))
+      by : (o : Option (LineTurn (Option World))) → turn_of_line script_turn w line ≡ o → ((v : Option World) → IsSoundScript v → All IsSoundShow (show_lines v lines))
           → All IsSoundShow (option_map_or (λ t. map first_show (option_to_list (shown_peer w line)) ++ map (behind t.reply) (show_lines t.world lines)) o [])
       by None e rest = all_none IsSoundShow
       by (Some t) e rest =

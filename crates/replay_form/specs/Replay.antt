@@ -3,7 +3,7 @@ use Rattle.std.specs.Prelude.{ℕ, true, false, List, [], Option, Some, None, le
 use Rattle.element_name.specs.Cases.{◌>>=◌}
 use Rattle.line_engine.specs.declared.status.Status.{Status}
 use Rattle.line_engine.specs.Output.{Output}
-use Rattle.line_engine.specs.Run.{Turn, output_of, part_of}
+use Rattle.line_engine.specs.Run.{LineTurn, output_of, part_of}
 use Rattle.line_engine.specs.Engine.{Ran}
 use Rattle.replay_net.specs.declared.line.Line.{Line}
 use Rattle.replay_net.specs.declared.line.Line.TheVariants.{Peers, Local, Give, Hand, StateOf}
@@ -12,21 +12,21 @@ use Rattle.script_text.specs.Line.{script_line}
 use Rattle.report_text.specs.Answer.{reply_line}
 
 -- the line that begins a world writes nothing; no other line does
-abbrev pub opened : Line → Option (Turn (Option World))
-opened (Peers count) = Some (record { reply = []; world = Some (fresh_world count) })
-opened (Local peer step) = None
-opened (Give message peer) = None
-opened (Hand peer message) = None
-opened (StateOf peer name) = None
+abbrev pub opening_turn : Line → Option (LineTurn (Option World))
+opening_turn (Peers count) = Some (record { reply = []; world = Some (fresh_world count) })
+opening_turn (Local peer step) = None
+opening_turn (Give message peer) = None
+opening_turn (Hand peer message) = None
+opening_turn (StateOf peer name) = None
 
 -- a line of the world writes its reply
-abbrev pub answered : World → Line → Turn (Option World)
-answered w line = record { reply = reply_line (turn_of w line).reply; world = Some (turn_of w line).after }
+abbrev pub played_turn : World → Line → LineTurn (Option World)
+played_turn w line = record { reply = reply_line (turn_of w line).reply; world = Some (turn_of w line).after }
 
 -- what a line of a script writes, and the world after it; none where it is no line there
-abbrev pub script_turn : Option World → List ℕ → Option (Turn (Option World))
-script_turn None line = script_line true 0 line >>= opened
-script_turn (Some w) line = option_map (answered w) (script_line false (length w.peers) line)
+abbrev pub script_turn : Option World → List ℕ → Option (LineTurn (Option World))
+script_turn None line = script_line true 0 line >>= opening_turn
+script_turn (Some w) line = option_map (played_turn w) (script_line false (length w.peers) line)
 
 -- nothing more is written at the end, but the first line has to have come
 abbrev pub script_closing : Option World → Option (List ℕ)

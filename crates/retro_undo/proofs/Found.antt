@@ -15,7 +15,7 @@ use Rattle.coop_request.specs.Edit.{anchor_or_target, targets_start}
 use Rattle.coop_request.specs.declared.request.RequestFault.TheVariants.{BadVersion, StartTarget, StampOrder}
 use Rattle.coop_request.specs.Request.{Request, IsAccepted}
 use Rattle.request_state.specs.declared.kept.Kept.{Kept}
-use Rattle.request_state.specs.Table.{kept_of, request_in, is_in_order}
+use Rattle.request_state.specs.Table.{kept_of, kept_request, is_in_order}
 use Rattle.retro_undo.proofs.Parts.{all_by}
 
 abbrev pub IsAbove : Name → Kept → Type 0
@@ -113,11 +113,11 @@ all_above_start table absent = all_by (λ k. name_eq k.request.id start ≡ fals
 
 -- ---- no request has the start's name
 
-pub request_named : (table : List Kept) (n : Name) (q : Request) → request_in table n ≡ Some q → q.id ≡ n
+pub request_named : (table : List Kept) (n : Name) (q : Request) → kept_request table n ≡ Some q → q.id ≡ n
 request_named [] n q found = absurd cc
 request_named (k ∷ table) n q found = by (name_eq k.request.id n) refl found (request_named table n q)
   where
-    by : (b : Bool) → name_eq k.request.id n ≡ b → option_map (λ (x : Kept). x.request) (cond b (Some k) (kept_of table n)) ≡ Some q → (request_in table n ≡ Some q → q.id ≡ n) → q.id ≡ n
+    by : (b : Bool) → name_eq k.request.id n ≡ b → option_map (λ (x : Kept). x.request) (cond b (Some k) (kept_of table n)) ≡ Some q → (kept_request table n ≡ Some q → q.id ≡ n) → q.id ≡ n
     by true same found rest =
         let is : k.request ≡ q = cc in
         ap (λ r. r.id) (sym is) ∙ same_name k.request.id n same
@@ -139,7 +139,7 @@ never_start q accepted is =
     by a b zero rising = grind (arith, nat_tests)
 
 -- where no request is found, none is kept
-pub none_kept : (table : List Kept) (n : Name) → request_in table n ≡ None → kept_of table n ≡ None
+pub none_kept : (table : List Kept) (n : Name) → kept_request table n ≡ None → kept_of table n ≡ None
 none_kept table n none = by (kept_of table n) none
   where
     by : (x : Option Kept) → option_map (λ k. k.request) x ≡ None → x ≡ None

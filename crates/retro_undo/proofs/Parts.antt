@@ -15,24 +15,24 @@ use Rattle.request_state.specs.declared.state.State.{State}
 use Rattle.request_state.specs.declared.state.State.TheVariants.{Tentative, Valid, Invalid}
 use Rattle.request_state.specs.declared.kept.Kept.{Kept}
 use Rattle.request_state.specs.State.{is_tentative}
-use Rattle.retro_undo.specs.Undo.{state_after, kept_after, is_denied, is_undone, have_elements, are_reached}
+use Rattle.retro_undo.specs.Undo.{state_after_verdict, kept_after, is_denied, is_undone, have_elements, are_reached}
 use Rattle.retro_undo.specs.Part.{states_after_in, undone_in}
 
 -- ---- of one state
 
-stays_by : (s : State) (version : ℕ) (w : Verdict) → (is_tentative s && is_denied w) ≡ false → state_after s version w ≡ s
+stays_by : (s : State) (version : ℕ) (w : Verdict) → (is_tentative s && is_denied w) ≡ false → state_after_verdict s version w ≡ s
 stays_by Tentative version Granted h = refl
 stays_by Tentative version (Denied a) h = absurd cc
 stays_by (Valid at) version w h = refl
 stays_by (Invalid at a) version w h = refl
 
-again_by : (s : State) (version : ℕ) (w : Verdict) → state_after (state_after s version w) version w ≡ state_after s version w
+again_by : (s : State) (version : ℕ) (w : Verdict) → state_after_verdict (state_after_verdict s version w) version w ≡ state_after_verdict s version w
 again_by Tentative version Granted = refl
 again_by Tentative version (Denied a) = refl
 again_by (Valid at) version w = refl
 again_by (Invalid at a) version w = refl
 
-done_by : (s : State) (version : ℕ) (w : Verdict) → (is_tentative (state_after s version w) && is_denied w) ≡ false
+done_by : (s : State) (version : ℕ) (w : Verdict) → (is_tentative (state_after_verdict s version w) && is_denied w) ≡ false
 done_by Tentative version Granted = refl
 done_by Tentative version (Denied a) = refl
 done_by (Valid at) version w = refl

@@ -15,7 +15,7 @@ use Rattle.request_state.specs.State.{is_invalid}
 use Rattle.request_state.specs.Table.{kept_of, with_state, is_in_order}
 use Rattle.elem_show.specs.Cell.{Cell}
 use Rattle.elem_show.specs.Table.{except, IsCounted}
-use Rattle.retro_undo.specs.Undo.{state_after, kept_after, is_denied, is_undone, counted_of, ShowsCounted}
+use Rattle.retro_undo.specs.Undo.{state_after_verdict, kept_after, is_denied, is_undone, counted_of, ShowsCounted}
 use Rattle.retro_undo.specs.Part.{is_named, states_after_in}
 use Rattle.retro_undo.proofs.Parts.{all_by, states_same, states_of_none, IsSameFor}
 use Rattle.retro_undo.proofs.Found.{found_at, alone}
@@ -88,7 +88,7 @@ module _ (names : List Name) (p : Policy) (version : ℕ) (q : Request) (table :
           → cond b (kept_after names p version x) x ≡ cond b (record { request = x.request; state = Invalid version a }) x
       here x is true e =
           ap (kept_after names p version) (is e)
-          ∙ ap (λ w. record { request = q; state = state_after Tentative version w }) denied
+          ∙ ap (λ w. record { request = q; state = state_after_verdict Tentative version w }) denied
           ∙ sym (ap (λ (y : Kept). record { request = y.request; state = Invalid version a }) (is e))
       here x is false e = refl
 

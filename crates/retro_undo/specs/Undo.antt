@@ -17,15 +17,15 @@ use Rattle.elem_show.specs.Table.{IsTableOf}
 use Rattle.elem_show.specs.Cell.{Cell}
 
 -- the state after the version, by the verdict of its policy: a Tentative request that is denied becomes Invalid, and every other state stays
-abbrev pub state_after : State → ℕ → Verdict → State
-state_after Tentative version (Denied by) = Invalid version by
-state_after Tentative version Granted = Tentative
-state_after (Valid at) version verdict = Valid at
-state_after (Invalid at by) version verdict = Invalid at by
+abbrev pub state_after_verdict : State → ℕ → Verdict → State
+state_after_verdict Tentative version (Denied by) = Invalid version by
+state_after_verdict Tentative version Granted = Tentative
+state_after_verdict (Valid at) version verdict = Valid at
+state_after_verdict (Invalid at by) version verdict = Invalid at by
 
 -- what is kept of a request after the version
 abbrev pub kept_after : List Name → Policy → ℕ → Kept → Kept
-kept_after names p version k = record { request = k.request; state = state_after k.state version (request_verdict names p k.request) }
+kept_after names p version k = record { request = k.request; state = state_after_verdict k.state version (request_verdict names p k.request) }
 
 -- what is kept after the version, over the names in text order
 abbrev pub states_after : List Name → Policy → ℕ → List Kept → List Kept

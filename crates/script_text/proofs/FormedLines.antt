@@ -26,7 +26,7 @@ use Rattle.script_text.specs.declared.numbers.TheConstants.{MAX_SHORT}
 use Rattle.script_text.specs.Words.{is_line, words, parts, each_some, are_none}
 use Rattle.script_text.specs.Numbers.{read_number, read_short, read_wide, read_name, one_short, two_shorts, one_wide, one_name, two_names}
 use Rattle.script_text.specs.Pieces.{unescaped, read_piece}
-use Rattle.script_text.specs.Sets.{read_numbers, read_names, read_listed, read_users, rights_of, read_rights}
+use Rattle.script_text.specs.Sets.{read_numbers, read_names, read_listed, read_users, rights_of_flags, read_rights}
 use Rattle.script_text.specs.Operation.{one_name_list, read_extent, read_object, read_auth, read_operation_by, read_operation}
 use Rattle.script_text.specs.Message.{name_and_piece, read_edit, read_request, read_entry, read_message}
 use Rattle.script_text.specs.Line.{place_and_piece, read_local_edit, read_plain, read_step}
@@ -101,7 +101,7 @@ unfolding read_users
 user_set word = either is_user_set _ _ _ (some is_user_set users.All refl) (listed word)
 
 -- three letters of which one is there are rights
-some_rights : (insert delete update : Bool) → (insert || (delete || update)) ≡ true → Passes has_any (rights_of insert delete update)
+some_rights : (insert delete update : Bool) → (insert || (delete || update)) ≡ true → Passes has_any (rights_of_flags insert delete update)
 some_rights insert delete update h = some has_any (record { insert = insert; delete = delete; update = update }) h
 
 -- RIGHTS has at least one right

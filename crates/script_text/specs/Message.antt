@@ -32,8 +32,8 @@ read_edit word args = beside word (
     None
 
 -- a request that is accepted
-abbrev pub accepted : Request → Option Message
-accepted q = when (is_none (request_fault q)) (Coop q)
+abbrev pub accepted_message : Request → Option Message
+accepted_message q = when (is_none (request_fault q)) (Coop q)
 
 -- NAME VERSION and the edit
 unfoldable pub read_request : List (List ℕ) → Option Message
@@ -41,7 +41,7 @@ read_request (name ∷ number ∷ word ∷ args) = do
   id ← read_name name
   version ← read_number MAX_VERSION number
   edit ← read_edit word args
-  accepted (record { id = id; version = version; edit = edit })
+  accepted_message (record { id = id; version = version; edit = edit })
 read_request args = None
 
 -- VERSION OP, the version from 1

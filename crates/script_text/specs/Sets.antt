@@ -31,19 +31,19 @@ read_listed (b ∷ bs) = if b == 64 then option_map Groups (read_numbers bs) els
 unfoldable pub read_users : List ℕ → Option UserSet
 read_users word = if bytes_eq word (codes "all") then Some All else read_listed word
 
-abbrev pub rights_of : Bool → Bool → Bool → Option Rights
-rights_of insert delete update = Some (record { insert = insert; delete = delete; update = update })
+abbrev pub rights_of_flags : Bool → Bool → Bool → Option Rights
+rights_of_flags insert delete update = Some (record { insert = insert; delete = delete; update = update })
 
 -- RIGHTS: one to three of the letters `i`, `d`, `u`, each once, in this order
 unfoldable pub read_rights : List ℕ → Option Rights
 read_rights word = beside word (
-    (codes "i", rights_of true false false)
-    ∷ (codes "d", rights_of false true false)
-    ∷ (codes "u", rights_of false false true)
-    ∷ (codes "id", rights_of true true false)
-    ∷ (codes "iu", rights_of true false true)
-    ∷ (codes "du", rights_of false true true)
-    ∷ (codes "idu", rights_of true true true)
+    (codes "i", rights_of_flags true false false)
+    ∷ (codes "d", rights_of_flags false true false)
+    ∷ (codes "u", rights_of_flags false false true)
+    ∷ (codes "id", rights_of_flags true true false)
+    ∷ (codes "iu", rights_of_flags true false true)
+    ∷ (codes "du", rights_of_flags false true true)
+    ∷ (codes "idu", rights_of_flags true true true)
     ∷ [])
     None
 

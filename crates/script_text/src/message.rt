@@ -3,7 +3,7 @@ ghost use Rattle.std.specs.Prelude.{◌≡◌, IfOk};
 ghost use Rattle.element_name.specs.Cases.{when};
 ghost use Rattle.policy_book.specs.Entry.{is_entry_version};
 ghost use Rattle.script_text.specs.Words.{bytes_of};
-ghost use Rattle.script_text.specs.Message.{name_and_piece, read_edit, accepted, read_request, read_entry, read_message};
+ghost use Rattle.script_text.specs.Message.{name_and_piece, read_edit, accepted_message, read_request, read_entry, read_message};
 
 use crate::numbers::{one_name, read_name, read_up_to};
 use crate::operation::read_operation;
@@ -50,7 +50,7 @@ fn read_edit(alloc: Global, word: &[u8], args: &[&[u8]]) -> Result<Option<Edit>,
 
 // The message of a request that is accepted.
 fn accepted(id: Name, version: u32, edit: Edit) -> Option<Message>
-    ensures { result ≡ accepted (record { id = id; version = version; edit = edit }) }
+    ensures { result ≡ accepted_message (record { id = id; version = version; edit = edit }) }
 {
     match Request::checked(id, version, edit) {
         Ok(request) => Some(Message::Coop(request)),

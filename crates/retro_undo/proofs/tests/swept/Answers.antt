@@ -11,7 +11,7 @@ use Rattle.request_state.specs.declared.kept.Kept.{Kept}
 use Rattle.request_state.specs.declared.state.State.TheVariants.{Tentative}
 use Rattle.request_state.specs.Table.{with_request}
 use Rattle.elem_show.specs.Cell.{Cell, cell_of}
-use Rattle.elem_show.specs.Table.{cell_in, IsTableOf}
+use Rattle.elem_show.specs.Table.{cell_named, IsTableOf}
 use Rattle.retro_undo.specs.Undo.{counted_of}
 use Rattle.retro_undo.proofs.tests.swept.Goals as goal
 
@@ -30,7 +30,7 @@ grant-requires g c =
         requests = q ∷ [];
         counted = [];
         table = c.in_ok-add-2.ensures.shows [] [] c.new-table.ensures.shows;
-        element = ap is_some (c.in_ok-add-2.ensures.cells (element_of q)) ∙ made q.id q.version q.edit (cell_in c.new-table.result (element_of q)) c.requires;
+        element = ap is_some (c.in_ok-add-2.ensures.cells (element_of q)) ∙ made q.id q.version q.edit (cell_named c.new-table.result (element_of q)) c.requires;
         new = refl;
         few = omega arith;
       };
