@@ -6,16 +6,17 @@ use Rattle.line_engine.specs.declared.status.Status.TheVariants.{Done, Usage, Re
 use Rattle.line_engine.specs.Output.{Output, Ends, line_of}
 use Rattle.line_engine.specs.Engine.{Told}
 use Rattle.replay_form.specs.Replay.{replay_output, replay_part}
+use Rattle.replay_form.specs.Headline.{Headline}
 use Rattle.feed_form.specs.Feed.{feed_output, feed_part}
 use Rattle.edit_make.specs.Schedule.{made_world}
 use Rattle.edit_make.specs.Summary.{summary_text}
-use Rattle.editor_main.specs.declared.form.Form.{Form}
-use Rattle.editor_main.specs.declared.form.Form.TheVariants.{Replay, Feed, Make}
+use Rattle.editor_main.specs.declared.command.Command.{Command}
+use Rattle.editor_main.specs.declared.command.Command.TheVariants.{Replay, Feed, Make}
 
 abbrev pub usage_line : List ℕ
 usage_line = line_of (codes "usage: replay | feed SITE | make SEED EDITS | race SITE | serve SITE PORT LINKS | dial SITE PORT ROUNDS")
 
--- what is written where the words name no form, and the status
+-- what is written where the words name no command, and the status
 abbrev pub usage_output : Output
 usage_output = record { written = usage_line; status = Usage }
 
@@ -23,22 +24,22 @@ usage_output = record { written = usage_line; status = Usage }
 abbrev pub make_output : ℕ → ℕ → Output
 make_output seed edits = record { written = summary_text seed edits (made_world seed edits); status = Done }
 
--- what a form writes of an input, and the status; where there is none, the usage line
-abbrev pub plain_output : Option Form → List ℕ → Output
+-- what a command writes of an input, and the status; where there is none, the usage line
+abbrev pub plain_output : Option Command → List ℕ → Output
 plain_output (Some Replay) input = replay_output input
 plain_output (Some (Feed site)) input = feed_output site input
 plain_output (Some (Make seed edits)) input = make_output seed edits
 plain_output None input = usage_output
 
--- what a form writes of bytes after which reading fails; none where it reads nothing or they have a fault
-abbrev pub plain_part : Option Form → List ℕ → Option (List ℕ)
+-- what a command writes of bytes after which reading fails; none where it reads nothing or they have a fault
+abbrev pub plain_part : Option Command → List ℕ → Option (List ℕ)
 plain_part (Some Replay) bytes = replay_part bytes
 plain_part (Some (Feed site)) bytes = feed_part site bytes
 plain_part (Some (Make seed edits)) bytes = None
 plain_part None bytes = None
 
--- whether a form reads its input
-abbrev pub is_reader : Option Form → Bool
+-- whether a command reads its input
+abbrev pub is_reader : Option Command → Bool
 is_reader (Some Replay) = true
 is_reader (Some (Feed site)) = true
 is_reader (Some (Make seed edits)) = false
@@ -46,14 +47,16 @@ is_reader None = false
 
 -- A top call over a source that had this input and a sink that was given these bytes.
 -- Of a source that doesn't tell its bytes there are some of which this holds, and of a sink likewise.
-pub record RanPlain (form : Option Form) (left_old left_new sink_old sink_new : Option (List ℕ)) (status : Status) (input written : List ℕ) : Type 0 where
+pub record RanPlain (command : Option Command) (left_old left_new sink_old sink_new : Option (List ℕ)) (status : Status) (input written : List ℕ) : Type 0 where
   pub told : Told left_old input
   pub appends : Appends sink_old sink_new written
   -- with a whole status the bytes and the status are the output, else the bytes begin it
-  pub ends : Ends status written (plain_output form input)
-  -- with Done a form that reads has read its input to the end
-  pub at_end : is_reader form ≡ true → status ≡ Done → IsAtEnd left_new
+  pub ends : Ends status written (plain_output command input)
+  -- with Done a command that reads has read its input to the end
+  pub at_end : is_reader command ≡ true → status ≡ Done → IsAtEnd left_new
   -- where reading failed, the bytes are the part of what was read, and nothing in that is bad
-  pub read_fault : status ≡ ReadFault → (read : List ℕ) × Consumes left_old left_new read × (plain_part form read ≡ Some written)
-  -- a form that reads nothing leaves the source as it is
-  pub kept : is_reader form ≡ false → Keeps left_old left_new
+  pub read_fault : status ≡ ReadFault → (read : List ℕ) × Consumes left_old left_new read × (plain_part command read ≡ Some written)
+  -- a command that reads nothing leaves the source as it is
+  pub kept : is_reader command ≡ false → Keeps left_old left_new
+  -- what the output of `replay` says of the texts that are shown
+  pub headline : command ≡ Some Replay → Headline input

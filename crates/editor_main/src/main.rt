@@ -1,7 +1,7 @@
 //! The shared editor's program: the top call over standard input and standard output.
 #![tactic(auto)]
 
-mod form;
+mod command;
 mod plain_call;
 mod word;
 

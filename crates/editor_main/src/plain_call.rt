@@ -1,12 +1,11 @@
 //! The top call.
-ghost use Rattle.std.specs.Prelude.{◌≡◌, ◌≤◌, ℕ, List, Some};
+ghost use Rattle.std.specs.Prelude.{◌≤◌, ℕ, List};
 ghost use Rattle.line_engine.specs.Engine.{Reads, StatusCause, Says};
 ghost use Rattle.edit_make.specs.declared.limits.TheConstants.{MAX_EDITS};
-ghost use Rattle.replay_form.specs.Headline.{Headline};
-ghost use Rattle.editor_main.specs.Form.{form_of};
+ghost use Rattle.editor_main.specs.Command.{command_of};
 ghost use Rattle.editor_main.specs.Plain.{RanPlain, make_output};
 
-use crate::form::{Form, form_of};
+use crate::command::{Command, command_of};
 use crate::word::Word;
 use edit_io::{Sink, Source};
 use edit_make::summary;
@@ -15,7 +14,7 @@ use line_engine::{Status, say};
 use replay_form::replay;
 use std::alloc::Global;
 
-// What is written where the words name no form.
+// What is written where the words name no command.
 const USAGE: &[u8; 104] =
     b"usage: replay | feed SITE | make SEED EDITS | race SITE | serve SITE PORT LINKS | dial SITE PORT ROUNDS\n";
 
@@ -31,7 +30,7 @@ fn make<K: Sink>(alloc: Global, seed: u32, edits: u32, sink: &mut K) -> Status
     }
 }
 
-/// Runs the form that the words name over a source and a sink, and waits for nobody else.
+/// Runs the command that the words name over a source and a sink, and waits for nobody else.
 ///
 /// A line is answered as soon as its line end was read. Reading is in pieces of at most 64 KiB.
 pub fn plain<S: Source, K: Sink>(
@@ -41,21 +40,18 @@ pub fn plain<S: Source, K: Sink>(
     sink: &mut K,
 ) -> Status
     ensures ran { (input : List ℕ) × (written : List ℕ) ×
-        RanPlain (form_of words.now) (S.left source.old) (S.left source.new) (K.written sink.old) (K.written sink.new) result input written }
+        RanPlain (command_of words.now) (S.left source.old) (S.left source.new) (K.written sink.old) (K.written sink.new) result input written }
     ensures reads { Reads (S.left source.old) (S.left source.new) }
     ensures read_cause { StatusCause (S.faults source.old) (S.faults source.new) result Status.ReadFault }
     ensures write_cause { StatusCause (K.faults sink.old) (K.faults sink.new) result Status.WriteFault }
-
-    // What the output of `replay` says of the texts that are shown.
-    ensures headline { form_of words.now ≡ Some Form.Replay → (input : List ℕ) → Headline input }
 {
-    match form_of(words) {
-        Some(Form::Replay) => {
+    match command_of(words) {
+        Some(Command::Replay) => {
             replay_form::laws::headline();
             replay(alloc, source, sink)
         }
-        Some(Form::Feed(site)) => feed(alloc, site, source, sink),
-        Some(Form::Make { seed, edits }) => make(alloc, seed, edits, sink),
+        Some(Command::Feed(site)) => feed(alloc, site, source, sink),
+        Some(Command::Make { seed, edits }) => make(alloc, seed, edits, sink),
         None => say(sink, USAGE, Status::Usage),
     }
 }

@@ -1,5 +1,5 @@
 use Rattle.std.proofs.Common.{◌∙◌}
-use Rattle.editor_main.proofs.Forms.{said_made}
+use Rattle.editor_main.proofs.Commands.{said_made}
 use Rattle.editor_main.proofs.plain_call.make.Goals as goal
 
 pub returns-in-Ok-clause-says : goal.returns-in-Ok-clause-says

@@ -3,38 +3,40 @@ use Rattle.std.specs.Bool.{⊤}
 use Rattle.std.specs.declared.option.Option.{Option}
 use Rattle.replay_form.specs.Replay.{replay_output, replay_part}
 use Rattle.feed_form.specs.Feed.{feed_output, feed_part}
-use Rattle.editor_main.specs.declared.form.Form.{Form}
-use Rattle.editor_main.specs.declared.form.Form.TheVariants.{Replay, Feed, Make}
-use Rattle.editor_main.specs.Form.{form_of}
+use Rattle.editor_main.specs.declared.command.Command.{Command}
+use Rattle.editor_main.specs.declared.command.Command.TheVariants.{Replay, Feed, Make}
+use Rattle.editor_main.specs.Command.{command_of}
 use Rattle.editor_main.specs.Plain.{plain_output, plain_part, is_reader, make_output, usage_output}
-use Rattle.editor_main.proofs.Forms.{named, ran_read, ran_said}
+use Rattle.editor_main.proofs.Commands.{named, ran_read, ran_said}
 use Rattle.editor_main.proofs.plain_call.plain.Goals as goal
 
 pub returns-in-Some-Replay-clause-ran : goal.returns-in-Some-Replay-clause-ran
 returns-in-Some-Replay-clause-ran g c =
-    let is : form_of c.args.words.now ≡ Some Replay = named (form_of c.args.words.now) c.in-Some-Replay.field-0 Replay c.in-Some-Replay.ensures.form c.in-Some-Replay.field-0-is in
-    ran_read (form_of c.args.words.now) replay_output replay_part (λ cut bytes. ⊤) _ _ _ _ _
-    (ap is_reader is) (λ (input : List ℕ). ap (λ (f : Option Form). plain_output f input) is) (λ (bytes : List ℕ). ap (λ (f : Option Form). plain_part f bytes) is)
+    let is : command_of c.args.words.now ≡ Some Replay = named (command_of c.args.words.now) c.in-Some-Replay.field-0 Replay c.in-Some-Replay.ensures.command c.in-Some-Replay.field-0-is in
+    ran_read (command_of c.args.words.now) replay_output replay_part (λ cut bytes. ⊤) _ _ _ _ _
+    (ap is_reader is) (λ (input : List ℕ). ap (λ (f : Option Command). plain_output f input) is) (λ (bytes : List ℕ). ap (λ (f : Option Command). plain_part f bytes) is)
+    (λ input named. c.headline.ensures input)
     c.replay.ensures.ran
 
 pub returns-in-Some-Feed-clause-ran : goal.returns-in-Some-Feed-clause-ran
 returns-in-Some-Feed-clause-ran g c =
     let site = c.in-Some-Feed.site in
-    let is : form_of c.args.words.now ≡ Some (Feed site) = named (form_of c.args.words.now) c.in-Some-Feed.field-0 (Feed site) c.in-Some-Feed.ensures.form c.in-Some-Feed.field-0-is in
-    ran_read (form_of c.args.words.now) (feed_output site) (feed_part site) (λ cut bytes. ⊤) _ _ _ _ _
-    (ap is_reader is) (λ (input : List ℕ). ap (λ (f : Option Form). plain_output f input) is) (λ (bytes : List ℕ). ap (λ (f : Option Form). plain_part f bytes) is)
+    let is : command_of c.args.words.now ≡ Some (Feed site) = named (command_of c.args.words.now) c.in-Some-Feed.field-0 (Feed site) c.in-Some-Feed.ensures.command c.in-Some-Feed.field-0-is in
+    ran_read (command_of c.args.words.now) (feed_output site) (feed_part site) (λ cut bytes. ⊤) _ _ _ _ _
+    (ap is_reader is) (λ (input : List ℕ). ap (λ (f : Option Command). plain_output f input) is) (λ (bytes : List ℕ). ap (λ (f : Option Command). plain_part f bytes) is)
+    (λ input other. let clash : Some (Feed site) ≡ Some Replay = sym is ∙ other in let none : ⊥ = cc in absurd none)
     c.feed.ensures.ran
 
 pub returns-in-Some-Make-clause-ran : goal.returns-in-Some-Make-clause-ran
 returns-in-Some-Make-clause-ran g c =
     let seed = c.in-Some-Make.seed in
     let edits = c.in-Some-Make.edits in
-    let is : form_of c.args.words.now ≡ Some (Make seed edits) = named (form_of c.args.words.now) c.in-Some-Make.field-0 (Make seed edits) c.in-Some-Make.ensures.form c.in-Some-Make.field-0-is in
-    ran_said (form_of c.args.words.now) _ (make_output seed edits) _ _ _ _
-    (ap is_reader is) (λ (input : List ℕ). ap (λ (f : Option Form). plain_output f input) is) (λ e. cc) c.make.ensures.says.1
+    let is : command_of c.args.words.now ≡ Some (Make seed edits) = named (command_of c.args.words.now) c.in-Some-Make.field-0 (Make seed edits) c.in-Some-Make.ensures.command c.in-Some-Make.field-0-is in
+    ran_said (command_of c.args.words.now) _ (make_output seed edits) _ _ _ _
+    (ap is_reader is) (λ (input : List ℕ). ap (λ (f : Option Command). plain_output f input) is) (λ e. cc) c.make.ensures.says.1
 
 pub returns-in-None-clause-ran : goal.returns-in-None-clause-ran
 returns-in-None-clause-ran g c =
-    let is : form_of c.args.words.now ≡ None = sym c.in-None.ensures.form in
-    ran_said (form_of c.args.words.now) _ usage_output _ _ _ _
-    (ap is_reader is) (λ (input : List ℕ). ap (λ (f : Option Form). plain_output f input) is) (λ e. cc) c.say.ensures.says.1
+    let is : command_of c.args.words.now ≡ None = sym c.in-None.ensures.command in
+    ran_said (command_of c.args.words.now) _ usage_output _ _ _ _
+    (ap is_reader is) (λ (input : List ℕ). ap (λ (f : Option Command). plain_output f input) is) (λ e. cc) c.say.ensures.says.1

@@ -1,7 +1,7 @@
-//! The forms of the command.
+//! The commands, by their words.
 ghost use Rattle.std.specs.Prelude.{◌≡◌, ◌≤◌, ℕ, Some};
 ghost use Rattle.edit_make.specs.declared.limits.TheConstants.{MAX_EDITS};
-ghost use Rattle.editor_main.specs.Form.{form_of, replay_by, feed_by, make_by};
+ghost use Rattle.editor_main.specs.Command.{command_of, replay_by, feed_by, make_by};
 
 use crate::word::Word;
 use edit_make::MAX_EDITS;
@@ -13,9 +13,9 @@ pub(crate) const MAX_SITE: u64 = u16::MAX as u64;
 /// The greatest seed.
 pub(crate) const MAX_SEED: u64 = u32::MAX as u64;
 
-/// What the words of a command ask for.
+/// What words ask for: the form that is to run, and what it is run with.
 #[derive(Clone, Copy)]
-pub(crate) enum Form {
+pub(crate) enum Command {
     /// The script that the source gives is played.
     Replay,
     /// The frames that the source gives are fed to the peer of this site.
@@ -24,45 +24,45 @@ pub(crate) enum Form {
     Make { seed: u32, edits: u32 },
 }
 
-fn replay_by(name: &[u8]) -> Option<Form>
+fn replay_by(name: &[u8]) -> Option<Command>
     ensures { result ≡ replay_by name.now }
 {
     if name == b"replay".as_slice() {
-        Some(Form::Replay)
+        Some(Command::Replay)
     } else {
         None
     }
 }
 
-fn feed_by(name: &[u8], site: &[u8]) -> Option<Form>
+fn feed_by(name: &[u8], site: &[u8]) -> Option<Command>
     ensures { result ≡ feed_by name.now site.now }
 {
     if name != b"feed".as_slice() {
         return None;
     }
     let site = read_number(MAX_SITE, site)?;
-    Some(Form::Feed(site as u16))
+    Some(Command::Feed(site as u16))
 }
 
-fn make_by(name: &[u8], seed: &[u8], edits: &[u8]) -> Option<Form>
-    ensures form { result ≡ make_by name.now seed.now edits.now }
-    ensures few { (s e : ℕ) → result ≡ Some (Form.Make s e) → e ≤ MAX_EDITS }
+fn make_by(name: &[u8], seed: &[u8], edits: &[u8]) -> Option<Command>
+    ensures command { result ≡ make_by name.now seed.now edits.now }
+    ensures few { (s e : ℕ) → result ≡ Some (Command.Make s e) → e ≤ MAX_EDITS }
 {
     if name != b"make".as_slice() {
         return None;
     }
     let seed = read_number(MAX_SEED, seed)?;
     let edits = read_number(u64::from(MAX_EDITS), edits)?;
-    Some(Form::Make {
+    Some(Command::Make {
         seed: seed as u32,
         edits: edits as u32,
     })
 }
 
-/// The form that words name, if they name one.
-pub(crate) fn form_of(words: &[Word]) -> Option<Form>
-    ensures form { result ≡ form_of words.now }
-    ensures few { (seed edits : ℕ) → result ≡ Some (Form.Make seed edits) → edits ≤ MAX_EDITS }
+/// The command that words name, if they name one.
+pub(crate) fn command_of(words: &[Word]) -> Option<Command>
+    ensures command { result ≡ command_of words.now }
+    ensures few { (seed edits : ℕ) → result ≡ Some (Command.Make seed edits) → edits ≤ MAX_EDITS }
 {
     match words {
         [name] => replay_by(name.bytes()),

@@ -1,4 +1,4 @@
--- The calls of the forms.
+-- The calls of the commands.
 use Rattle.std.proofs.Common.{◌≡◌, ℕ, Bool, true, false, List, [], None, Some, ◌⊎◌, inl, inr, refl, sym, ap, subst, ◌∙◌}
 use Rattle.std.specs.declared.option.Option.{Option}
 use Rattle.std.specs.Io.KnownBytes.{Keeps}
@@ -10,19 +10,22 @@ use Rattle.line_engine.specs.Output.{Output, Ends}
 use Rattle.line_engine.specs.Engine.{Told, Says, Ran}
 use Rattle.edit_make.specs.Schedule.{made_world}
 use Rattle.edit_make.specs.Summary.{summary_text}
-use Rattle.editor_main.specs.declared.form.Form.{Form}
+use Rattle.editor_main.specs.declared.command.Command.{Command}
+use Rattle.editor_main.specs.declared.command.Command.TheVariants.{Replay}
+use Rattle.replay_form.specs.Headline.{Headline}
 use Rattle.editor_main.specs.Plain.{RanPlain, plain_output, plain_part, is_reader, make_output}
 
 -- what words name, by the name of what was found
-pub named : (found : Option Form) (f g : Form) → Some f ≡ found → f ≡ g → found ≡ Some g
-named found f g e h = sym e ∙ ap (λ (x : Form). Some x) h
+pub named : (found : Option Command) (f g : Command) → Some f ≡ found → f ≡ g → found ≡ Some g
+named found f g e h = sym e ∙ ap (λ (x : Command). Some x) h
 
--- the run of a form that reads
-pub ran_read : (form : Option Form) (output : List ℕ → Output) (part : List ℕ → Option (List ℕ)) (Leaves : Bool → List ℕ → Type 0) (l r a b : Option (List ℕ)) (status : Status)
-    → is_reader form ≡ true → ((input : List ℕ) → plain_output form input ≡ output input) → ((bytes : List ℕ) → plain_part form bytes ≡ part bytes)
+-- the run of a command that reads
+pub ran_read : (command : Option Command) (output : List ℕ → Output) (part : List ℕ → Option (List ℕ)) (Leaves : Bool → List ℕ → Type 0) (l r a b : Option (List ℕ)) (status : Status)
+    → is_reader command ≡ true → ((input : List ℕ) → plain_output command input ≡ output input) → ((bytes : List ℕ) → plain_part command bytes ≡ part bytes)
+    → ((input : List ℕ) → command ≡ Some Replay → Headline input)
     → (input : List ℕ) × (written : List ℕ) × Ran output part Leaves l r a b status input written
-    → (input : List ℕ) × (written : List ℕ) × RanPlain form l r a b status input written
-ran_read form output part Leaves l r a b status reads outputs parts (input, written, ran) = (
+    → (input : List ℕ) × (written : List ℕ) × RanPlain command l r a b status input written
+ran_read command output part Leaves l r a b status reads outputs parts heads (input, written, ran) = (
   input,
   written,
   record {
@@ -32,6 +35,7 @@ ran_read form output part Leaves l r a b status reads outputs parts (input, writ
     at_end = λ reader done. ran.at_end done;
     read_fault = λ fault. let f = ran.read_fault fault in (f.0, f.1, parts f.0 ∙ f.2);
     kept = λ silent. absurd (true≢false (sym reads ∙ silent));
+    headline = heads input;
   },
 )
 
@@ -50,11 +54,11 @@ not_read status written out other (inl e) read = other (ap (λ (o : Output). o.s
 not_read status written out other (inr (inl e)) read = cc
 not_read status written out other (inr (inr e)) read = cc
 
--- the lines of a form that reads nothing, or of none
-pub ran_said : (form : Option Form) (status : Status) (out : Output) (left a b : Option (List ℕ)) (written : List ℕ)
-    → is_reader form ≡ false → ((input : List ℕ) → plain_output form input ≡ out) → (out.status ≡ ReadFault → ⊥) → Says a b status out written
-    → (input : List ℕ) × (ws : List ℕ) × RanPlain form left left a b status input ws
-ran_said form status out left a b written silent is other says =
+-- the lines of a command that reads nothing, or of none
+pub ran_said : (command : Option Command) (status : Status) (out : Output) (left a b : Option (List ℕ)) (written : List ℕ)
+    → is_reader command ≡ false → ((input : List ℕ) → plain_output command input ≡ out) → (out.status ≡ ReadFault → ⊥) → Says a b status out written
+    → (input : List ℕ) × (ws : List ℕ) × RanPlain command left left a b status input ws
+ran_said command status out left a b written silent is other says =
     let input = some_told left in (
       input.0,
       written,
@@ -65,6 +69,7 @@ ran_said form status out left a b written silent is other says =
         at_end = λ reader done. absurd (true≢false (sym reader ∙ silent));
         read_fault = λ read. absurd (not_read status written out other says.given read);
         kept = λ none. keeps_itself left;
+        headline = λ named. absurd (true≢false (sym (ap is_reader named) ∙ silent));
       },
     )
 
