@@ -1,16 +1,11 @@
--- Names are totally ordered, as `cmp` says.
-use Rattle.std.proofs.Common.{◌≡◌, ℕ, true, false, refl, ◌∙◌, ap, arith}
+-- Names are totally ordered.
+use Rattle.std.proofs.Common.{◌≡◌, ℕ, true, false, ◌∙◌, ap, arith}
 use Rattle.std.specs.Ordering.{is_eq, is_lt}
 use Rattle.std.specs.Cmp.{IsTotalOrder}
 use Rattle.std.proofs.lemmas.Cmp.{then_total, on_total, nat_cmp_total}
 use Rattle.std.proofs.lemmas.Bool.Decides.{nat_tests}
 use Rattle.element_name.specs.Name.{Name, name_eq, name_lt}
 use Rattle.element_name.specs.Named.{name_cmp}
-use Rattle.element_name.specs.contracts.name.NameOrd.TheImpl as name_ord
-
--- it is what `cmp` answers
-pub cmp_is : (a b : Name) → (name_ord.ghosts).cmp a b ≡ name_cmp a b
-cmp_is a b = refl
 
 pub name_cmp_total : IsTotalOrder name_cmp
 name_cmp_total = then_total (on_total (λ (n : Name). n.stamp) nat_cmp_total) (on_total (λ (n : Name). n.site) nat_cmp_total)

@@ -6,3 +6,4 @@ pub mod Name
 pub mod Named
 pub mod Tree
 pub mod Places
+pub mod Laws

@@ -1,6 +1,7 @@
 //! Names of requests and elements, and the places of elements in text order.
 #![tactic(auto)]
 
+pub mod laws;
 mod limits;
 mod name;
 mod no_memory;

@@ -1,6 +1,5 @@
-//! What no clause says: that names come in the order of the field, and what `read` takes.
+//! Rows of what `read` takes, worked out by hand.
 use crate::{MAX_STAMP, Name};
-use std::test::Fail;
 
 #[test]
 fn names_in_their_range(rt: HostRuntime) {
@@ -20,21 +19,4 @@ fn names_in_their_range(rt: HostRuntime) {
         );
     }
     assert_eq!(rt; Name::read(0, 0), Some(Name::start()));
-}
-
-#[test]
-fn names_in_order(rt: HostRuntime) -> Result<(), Fail> {
-    let name = Name::read(2, 7).ok_or("2.7")?;
-    let rows = [
-        (1, 9, false),
-        (2, 6, false),
-        (2, 7, false),
-        (2, 8, true),
-        (3, 0, true),
-    ];
-    for (stamp, site, greater) in rows {
-        let other = Name::read(stamp, site).ok_or("a name")?;
-        assert_eq!(rt; other > name, greater, "at {stamp}.{site}");
-    }
-    Ok(())
 }
