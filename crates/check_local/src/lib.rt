@@ -4,6 +4,3 @@
 mod check;
 
 pub use check::{LocalVerdict, check_local};
-
-#[cfg(test)]
-mod tests;

@@ -6,6 +6,3 @@ mod sweep;
 mod walk;
 
 pub use sweep::sweep_reach;
-
-#[cfg(test)]
-mod tests;
