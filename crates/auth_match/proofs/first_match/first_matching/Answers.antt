@@ -1,0 +1,12 @@
+use Rattle.std.proofs.Common.{refl}
+use Rattle.policy_book.specs.Policy.{is_member}
+use Rattle.auth_match.specs.Coverage.{names_with, judged_name}
+use Rattle.auth_match.specs.Verdict.{object_covers}
+use Rattle.auth_match.proofs.first_match.first_matching.Goals as goal
+
+pub loop-a-init : goal.loop-a-init
+loop-a-init g c = record {
+  members = c.new-members.ensures (λ group. is_member c.args.policy.now group c.args.user);
+  right = c.new-covered.ensures (object_covers (names_with (g.P.Places.names c.args.places.now) c.args.judged.now) c.args.policy.now (judged_name c.args.judged.now));
+  left = refl;
+}
