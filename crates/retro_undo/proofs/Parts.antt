@@ -15,8 +15,7 @@ use Rattle.request_state.specs.declared.state.State.{State}
 use Rattle.request_state.specs.declared.state.State.TheVariants.{Tentative, Valid, Invalid}
 use Rattle.request_state.specs.declared.kept.Kept.{Kept}
 use Rattle.request_state.specs.State.{is_tentative}
-use Rattle.retro_undo.specs.Undo.{state_after_verdict, kept_after, is_denied, is_undone, have_elements, are_reached}
-use Rattle.retro_undo.specs.Part.{states_after_in, undone_in}
+use Rattle.retro_undo.specs.Undo.{state_after_verdict, kept_after, is_denied, is_undone, have_elements, are_reached, states_after_in, undone_in}
 
 -- ---- of one state
 

@@ -23,8 +23,8 @@ use Rattle.request_state.specs.declared.state.State.TheVariants.{Tentative, Vali
 use Rattle.request_state.specs.declared.kept.Kept.{Kept}
 use Rattle.request_state.specs.State.{is_tentative}
 use Rattle.request_state.specs.Table.{kept_of, is_in_order}
-use Rattle.retro_undo.specs.Undo.{kept_after, states_after, is_denied, is_undone, undone_count, have_elements, are_reached}
-use Rattle.retro_undo.specs.Part.{states_after_in, undone_in, is_named, is_in, is_above, next_of}
+use Rattle.retro_undo.specs.Undo.{kept_after, states_after, is_denied, is_undone, undone_count, have_elements, are_reached, states_after_in, undone_in}
+use Rattle.retro_undo.specs.Part.{is_named, is_in, is_above, next_of}
 use Rattle.retro_undo.specs.declared.walk.Line.{Line}
 use Rattle.retro_undo.specs.declared.walk.Line.TheVariants.{Of}
 use Rattle.retro_undo.proofs.Parts.{all_by, each_by, within_reach, count_cons, states_same, undone_same, states_twice, undone_twice, states_of_none, undone_of_none, IsSameFor}

@@ -15,8 +15,8 @@ use Rattle.request_state.specs.State.{is_invalid}
 use Rattle.request_state.specs.Table.{kept_of, with_state, is_in_order}
 use Rattle.elem_show.specs.Cell.{Cell}
 use Rattle.elem_show.specs.Table.{except, IsCounted}
-use Rattle.retro_undo.specs.Undo.{state_after_verdict, kept_after, is_denied, is_undone, counted_of, ShowsCounted}
-use Rattle.retro_undo.specs.Part.{is_named, states_after_in}
+use Rattle.retro_undo.specs.Undo.{state_after_verdict, kept_after, is_denied, is_undone, counted_of, ShowsCounted, states_after_in}
+use Rattle.retro_undo.specs.Part.{is_named}
 use Rattle.retro_undo.proofs.Parts.{all_by, states_same, states_of_none, IsSameFor}
 use Rattle.retro_undo.proofs.Found.{found_at, alone}
 

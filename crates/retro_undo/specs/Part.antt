@@ -1,21 +1,11 @@
--- A sweep of a part of the requests.
-use Rattle.std.specs.Prelude.{ℕ, Bool, true, ◌&&◌, ◌==◌, List, Option, map, find, count_by, option_map, if◌then◌else◌}
+-- The parts of the requests that walks visit.
+use Rattle.std.specs.Prelude.{Bool, true, ◌&&◌, ◌==◌, List, Option, find, option_map}
 use Rattle.element_name.specs.Name.{Name, name_eq, name_lt}
 use Rattle.coop_request.specs.Request.{Request, user_of}
-use Rattle.policy_book.specs.Policy.{Policy}
 use Rattle.request_state.specs.declared.kept.Kept.{Kept}
 use Rattle.request_state.specs.State.{is_tentative}
 use Rattle.retro_undo.specs.declared.walk.Line.{Line}
 use Rattle.retro_undo.specs.declared.walk.Line.TheVariants.{Everyone, Of}
-use Rattle.retro_undo.specs.Undo.{kept_after, is_undone}
-
--- what is kept after the requests of the part were judged
-abbrev pub states_after_in : (Request → Bool) → List Name → Policy → ℕ → List Kept → List Kept
-states_after_in part names p version table = map (λ k. if part k.request then kept_after names p version k else k) table
-
--- how many of the part are undone
-abbrev pub undone_in : (Request → Bool) → List Name → Policy → List Kept → ℕ
-undone_in part names p table = count_by (λ k. part k.request && is_undone names p k) table
 
 -- the request of a name
 abbrev pub is_named : Name → Request → Bool

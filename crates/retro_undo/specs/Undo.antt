@@ -1,5 +1,5 @@
 -- What one new version makes of states and of what counts.
-use Rattle.std.specs.Prelude.{ℕ, Bool, true, false, not, ◌&&◌, ◌||◌, List, map, filter, count_by}
+use Rattle.std.specs.Prelude.{ℕ, Bool, true, false, not, ◌&&◌, ◌||◌, List, map, filter, count_by, if◌then◌else◌}
 use Rattle.std.specs.List.{list_all}
 use Rattle.element_name.specs.Name.{Name, has_name}
 use Rattle.coop_request.specs.Request.{Request, user_of, element_of}
@@ -42,6 +42,18 @@ is_undone names p k = is_tentative k.state && is_denied (request_verdict names p
 -- how many such there are
 abbrev pub undone_count : List Name → Policy → List Kept → ℕ
 undone_count names p table = count_by (is_undone names p) table
+
+-- ---- of a part of the requests
+
+-- what is kept after the requests of the part were judged
+abbrev pub states_after_in : (Request → Bool) → List Name → Policy → ℕ → List Kept → List Kept
+states_after_in part names p version table = map (λ k. if part k.request then kept_after names p version k else k) table
+
+-- how many of the part are undone
+abbrev pub undone_in : (Request → Bool) → List Name → Policy → List Kept → ℕ
+undone_in part names p table = count_by (λ k. part k.request && is_undone names p k) table
+
+-- ---- what counts
 
 -- the requests that count: those that aren't Invalid
 abbrev pub counted_of : List Kept → List Request

@@ -5,8 +5,8 @@ ghost use Rattle.coop_request.specs.Request.{element_of};
 ghost use Rattle.auth_match.specs.Requests.{request_verdict};
 ghost use Rattle.request_state.specs.declared.state.State.TheVariants.{Tentative, Invalid};
 ghost use Rattle.request_state.specs.Table.{kept_of, is_in_order, with_state};
-ghost use Rattle.retro_undo.specs.Undo.{is_denied, ShowsCounted, IsShownAfter};
-ghost use Rattle.retro_undo.specs.Part.{is_named, states_after_in};
+ghost use Rattle.retro_undo.specs.Undo.{is_denied, ShowsCounted, IsShownAfter, states_after_in};
+ghost use Rattle.retro_undo.specs.Part.{is_named};
 
 use auth_match::{Judged, Verdict, decide};
 use coop_request::Request;

@@ -1,9 +1,9 @@
 //! The sweep.
-ghost use Rattle.std.specs.Prelude.{◌≡◌, ◌<◌, ◌^◌, true, length};
+ghost use Rattle.std.specs.Prelude.{◌≡◌, true};
 ghost use Rattle.coop_request.specs.Request.{user_of};
 ghost use Rattle.policy_book.specs.Lists.{has_number};
-ghost use Rattle.retro_undo.specs.Undo.{have_elements, are_reached, states_after, undone_count, ShowsCounted, IsShownAfter};
-ghost use Rattle.retro_undo.specs.Part.{states_after_in, undone_in};
+ghost use Rattle.retro_undo.specs.Undo.{are_reached};
+ghost use Rattle.retro_undo.specs.Sweep.{every_request, MaySweep, IsSwept};
 
 use crate::walk::{Line, sweep_line};
 use elem_show::ElemTable;
@@ -20,12 +20,8 @@ fn sweep_users<P: Places>(
     table: &mut ElemTable,
     places: &P,
 ) -> u32
-    requires elements { have_elements (P.names places.now) states.old ≡ true }
-    requires counted { ShowsCounted table.old states.old }
-    requires few { length states.old < 2 ^ 32 }
-    ensures states { states.new ≡ states_after_in (λ q. has_number users (user_of q)) (P.names places.now) policy.now version states.old }
-    ensures cells { IsShownAfter table.old states.old table.new states.new }
-    ensures count { result ≡ undone_in (λ q. has_number users (user_of q)) (P.names places.now) policy.now states.old }
+    requires { MaySweep (P.names places.now) states.old table.old }
+    ensures { IsSwept (λ q. has_number users (user_of q)) (P.names places.now) policy.now version states.old table.old states.new table.new result }
 {
     let mut count = 0;
     for i in 0..users.len() {
@@ -49,13 +45,9 @@ pub fn sweep_reach<P: Places>(
     table: &mut ElemTable,
     places: &P,
 ) -> Undone
-    requires elements { have_elements (P.names places.now) states.old ≡ true }
-    requires counted { ShowsCounted table.old states.old }
+    requires tables { MaySweep (P.names places.now) states.old table.old }
     requires outside { are_reached reach (P.names places.now) policy.now states.old ≡ true }
-    requires few { length states.old < 2 ^ 32 }
-    ensures states { states.new ≡ states_after (P.names places.now) policy.now version states.old }
-    ensures cells { IsShownAfter table.old states.old table.new states.new }
-    ensures count { result.count ≡ undone_count (P.names places.now) policy.now states.old }
+    ensures { IsSwept every_request (P.names places.now) policy.now version states.old table.old states.new table.new result.count }
 {
     match reach {
         Reach::Nobody => Undone { count: 0 },

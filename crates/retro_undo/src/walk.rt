@@ -1,9 +1,9 @@
 //! The walk along the Tentative requests of a line.
-ghost use Rattle.std.specs.Prelude.{◌≡◌, ◌<◌, ◌^◌, true, None, IsTrue, length};
+ghost use Rattle.std.specs.Prelude.{◌≡◌, None, IsTrue};
 ghost use Rattle.element_name.specs.Name.{start};
 ghost use Rattle.request_state.specs.Table.{kept_of, is_in_order};
-ghost use Rattle.retro_undo.specs.Undo.{have_elements, ShowsCounted, IsShownAfter};
-ghost use Rattle.retro_undo.specs.Part.{is_in, states_after_in, undone_in, next_of};
+ghost use Rattle.retro_undo.specs.Part.{is_in, next_of};
+ghost use Rattle.retro_undo.specs.Sweep.{MaySweep, IsSwept};
 
 use crate::judge::judge;
 use coop_request::Request;
@@ -55,12 +55,8 @@ pub(crate) fn sweep_line<P: Places>(
     table: &mut ElemTable,
     places: &P,
 ) -> u32
-    requires elements { have_elements (P.names places.now) states.old ≡ true }
-    requires counted { ShowsCounted table.old states.old }
-    requires few { length states.old < 2 ^ 32 }
-    ensures states { states.new ≡ states_after_in (is_in line) (P.names places.now) policy.now version states.old }
-    ensures cells { IsShownAfter table.old states.old table.new states.new }
-    ensures count { result ≡ undone_in (is_in line) (P.names places.now) policy.now states.old }
+    requires { MaySweep (P.names places.now) states.old table.old }
+    ensures { IsSwept (is_in line) (P.names places.now) policy.now version states.old table.old states.new table.new result }
 {
     let mut count = 0;
     let mut above = below_all(states);

@@ -4,26 +4,34 @@ use Rattle.retro_undo.proofs.Parts.{states_of_none, undone_of_none}
 use Rattle.retro_undo.proofs.Steps.{states_reached, undone_reached}
 use Rattle.retro_undo.proofs.sweep.sweep_reach.Goals as goal
 
-pub returns-in-Nobody-clause-states : goal.returns-in-Nobody-clause-states
-returns-in-Nobody-clause-states g c =
+pub returns-in-Nobody : goal.returns-in-Nobody
+returns-in-Nobody g c =
     let names = g.P.Places.names c.args.places.now in
-    sym (states_of_none names c.args.policy.now c.args.version c.args.states.now)
-    ∙ states_reached names c.args.policy.now c.args.version c.args.reach Nobody c.args.states.now c.in-Nobody.is c.requires.outside
+    let p = c.args.policy.now in
+    record {
+      states = sym (states_of_none names p c.args.version c.args.states.now)
+          ∙ states_reached names p c.args.version c.args.reach Nobody c.args.states.now c.in-Nobody.is c.requires.outside;
+      cells = λ requests shown. shown;
+      count = sym (undone_of_none names p c.args.version c.args.states.now)
+          ∙ undone_reached names p c.args.version c.args.reach Nobody c.args.states.now c.in-Nobody.is c.requires.outside;
+    }
 
-pub returns-in-Nobody-clause-count : goal.returns-in-Nobody-clause-count
-returns-in-Nobody-clause-count g c =
+pub returns-in-Users : goal.returns-in-Users
+returns-in-Users g c =
     let names = g.P.Places.names c.args.places.now in
-    sym (undone_of_none names c.args.policy.now c.args.version c.args.states.now)
-    ∙ undone_reached names c.args.policy.now c.args.version c.args.reach Nobody c.args.states.now c.in-Nobody.is c.requires.outside
+    let p = c.args.policy.now in
+    let users = c.in-Users.users in
+    record {
+      states = c.sweep_users.ensures.states
+          ∙ states_reached names p c.args.version c.args.reach (Users users) c.args.states.now c.in-Users.is c.requires.outside;
+      cells = c.sweep_users.ensures.cells;
+      count = c.sweep_users.ensures.count
+          ∙ undone_reached names p c.args.version c.args.reach (Users users) c.args.states.now c.in-Users.is c.requires.outside;
+    }
 
-pub returns-in-Users-clause-states : goal.returns-in-Users-clause-states
-returns-in-Users-clause-states g c =
-    let names = g.P.Places.names c.args.places.now in
-    c.sweep_users.ensures.states
-    ∙ states_reached names c.args.policy.now c.args.version c.args.reach (Users c.in-Users.users) c.args.states.now c.in-Users.is c.requires.outside
-
-pub returns-in-Users-clause-count : goal.returns-in-Users-clause-count
-returns-in-Users-clause-count g c =
-    let names = g.P.Places.names c.args.places.now in
-    c.sweep_users.ensures.count
-    ∙ undone_reached names c.args.policy.now c.args.version c.args.reach (Users c.in-Users.users) c.args.states.now c.in-Users.is c.requires.outside
+pub returns-in-Everyone : goal.returns-in-Everyone
+returns-in-Everyone g c = record {
+  states = c.sweep_line.ensures.states;
+  cells = c.sweep_line.ensures.cells;
+  count = c.sweep_line.ensures.count;
+}

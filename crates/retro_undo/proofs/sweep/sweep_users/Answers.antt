@@ -1,8 +1,8 @@
 use Rattle.std.proofs.Common.{◌≡◌, ℕ, ◌+◌, ◌<◌, List, length, sym, ap, ◌∙◌, arith}
+use Rattle.std.proofs.lemmas.List.{length-map}
 use Rattle.std.proofs.lemmas.Option.{slice_get-get_or}
 use Rattle.request_state.specs.declared.kept.Kept.{Kept}
-use Rattle.retro_undo.specs.Undo.{have_elements}
-use Rattle.retro_undo.specs.Part.{states_after_in, undone_in}
+use Rattle.retro_undo.specs.Undo.{have_elements, states_after_in, undone_in}
 use Rattle.retro_undo.proofs.Parts.{states_of_none, undone_of_none, few_undone, elements_after}
 use Rattle.retro_undo.proofs.Steps.{is_of_first, states_more, undone_more, states_of_all, undone_of_all}
 use Rattle.retro_undo.proofs.sweep.sweep_users.Goals as goal
@@ -15,14 +15,16 @@ loop-i-init g c = record {
   cells = λ requests shown. shown;
 }
 
-pub sweep_line-count-requires-clause-elements : goal.sweep_line-count-requires-clause-elements
-sweep_line-count-requires-clause-elements g c =
+pub sweep_line-count-requires : goal.sweep_line-count-requires
+sweep_line-count-requires g c =
     let names = g.P.Places.names c.args.places.now in
-    ap (λ (t : List Kept). have_elements names t) c.loop-i.invariant.states
-    ∙ elements_after names c.args.policy.now c.args.version (is_of_first c.args.users c.loop-i.i) c.args.states.now ∙ c.requires.elements
-
-pub sweep_line-count-requires-clause-counted : goal.sweep_line-count-requires-clause-counted
-sweep_line-count-requires-clause-counted g c = (c.requires.counted.0, c.loop-i.invariant.cells c.requires.counted.0 c.requires.counted.1)
+    let same : length c.loop-i.states ≡ length c.args.states.now = ap (λ (t : List Kept). length t) c.loop-i.invariant.states ∙ length-map _ _ in
+    record {
+      elements = ap (λ (t : List Kept). have_elements names t) c.loop-i.invariant.states
+          ∙ elements_after names c.args.policy.now c.args.version (is_of_first c.args.users c.loop-i.i) c.args.states.now ∙ c.requires.elements;
+      counted = (c.requires.counted.0, c.loop-i.invariant.cells c.requires.counted.0 c.requires.counted.1);
+      few = omega (arith, same, c.requires.few);
+    }
 
 pub overflow_add-count : goal.overflow_add-count
 overflow_add-count g c =
@@ -51,18 +53,17 @@ loop-i-preserved g c =
           absurd (cc (some, c.at.ensures, w.in_default.is))
     ]
 
-pub returns-clause-states : goal.returns-clause-states
-returns-clause-states g c =
+pub returns : goal.returns
+returns g c =
     let names = g.P.Places.names c.args.places.now in
+    let p = c.args.policy.now in
     let end : c.loop-i.i ≡ length c.args.users = omega (arith, c.len-i-end.ensures, c.loop-i-test.false) in
-    c.loop-i.invariant.states
-    ∙ ap (λ (i : ℕ). states_after_in (is_of_first c.args.users i) names c.args.policy.now c.args.version c.args.states.now) end
-    ∙ states_of_all names c.args.policy.now c.args.version c.args.users c.args.states.now
-
-pub returns-clause-count : goal.returns-clause-count
-returns-clause-count g c =
-    let names = g.P.Places.names c.args.places.now in
-    let end : c.loop-i.i ≡ length c.args.users = omega (arith, c.len-i-end.ensures, c.loop-i-test.false) in
-    c.loop-i.invariant.count
-    ∙ ap (λ (i : ℕ). undone_in (is_of_first c.args.users i) names c.args.policy.now c.args.states.now) end
-    ∙ undone_of_all names c.args.policy.now c.args.version c.args.users c.args.states.now
+    record {
+      states = c.loop-i.invariant.states
+          ∙ ap (λ (i : ℕ). states_after_in (is_of_first c.args.users i) names p c.args.version c.args.states.now) end
+          ∙ states_of_all names p c.args.version c.args.users c.args.states.now;
+      cells = c.loop-i.invariant.cells;
+      count = c.loop-i.invariant.count
+          ∙ ap (λ (i : ℕ). undone_in (is_of_first c.args.users i) names p c.args.states.now) end
+          ∙ undone_of_all names p c.args.version c.args.users c.args.states.now;
+    }

@@ -1,6 +1,5 @@
 use Rattle.std.proofs.Common.{◌≡◌}
-use Rattle.retro_undo.specs.Undo.{IsShownAfter}
-use Rattle.retro_undo.specs.Part.{states_after_in, undone_in}
+use Rattle.retro_undo.specs.Undo.{IsShownAfter, states_after_in, undone_in}
 use Rattle.retro_undo.proofs.Steps.{is_of_first}
 use Rattle.retro_undo.proofs.sweep.sweep_users.Given as goal
 

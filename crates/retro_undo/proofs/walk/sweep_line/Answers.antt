@@ -1,8 +1,8 @@
 use Rattle.std.proofs.Common.{List, sym, ap, ◌∙◌, arith}
 use Rattle.element_name.specs.Name.{Name}
 use Rattle.request_state.specs.declared.kept.Kept.{Kept}
-use Rattle.retro_undo.specs.Undo.{have_elements}
-use Rattle.retro_undo.specs.Part.{is_in, is_above, is_named, states_after_in, undone_in}
+use Rattle.retro_undo.specs.Undo.{have_elements, states_after_in, undone_in}
+use Rattle.retro_undo.specs.Part.{is_in, is_above, is_named}
 use Rattle.retro_undo.proofs.Parts.{few_undone, elements_after}
 use Rattle.retro_undo.proofs.Steps.{one_counted, next_kept, kept_element, states_at_start, undone_at_start, states_at_end, undone_at_end, walk_smaller, walk_states, walk_count}
 use Rattle.retro_undo.proofs.walk.sweep_line.Goals as goal
@@ -67,12 +67,13 @@ loop-request-preserved g c =
           ∙ elements_after names p c.args.version (is_named c.in-Some.request.id) c.loop-request.states ∙ c.loop-request.invariant.elements;
     }
 
-pub returns-clause-states : goal.returns-clause-states
-returns-clause-states g c =
-    sym (c.loop-request.invariant.states
-    ∙ states_at_end (g.P.Places.names c.args.places.now) c.args.policy.now c.args.version c.loop-request.states c.args.line c.loop-request.above (sym c.next.ensures.found ∙ c.in_default.is))
-
-pub returns-clause-count : goal.returns-clause-count
-returns-clause-count g c =
-    let none = undone_at_end (g.P.Places.names c.args.places.now) c.args.policy.now c.args.version c.loop-request.states c.args.line c.loop-request.above (sym c.next.ensures.found ∙ c.in_default.is) in
-    omega (arith, none, c.loop-request.invariant.count)
+pub returns : goal.returns
+returns g c =
+    let names = g.P.Places.names c.args.places.now in
+    let end = sym c.next.ensures.found ∙ c.in_default.is in
+    let none = undone_at_end names c.args.policy.now c.args.version c.loop-request.states c.args.line c.loop-request.above end in
+    record {
+      states = sym (c.loop-request.invariant.states ∙ states_at_end names c.args.policy.now c.args.version c.loop-request.states c.args.line c.loop-request.above end);
+      cells = c.loop-request.invariant.cells;
+      count = omega (arith, none, c.loop-request.invariant.count);
+    }

@@ -1,6 +1,6 @@
 use Rattle.std.proofs.Common.{◌≡◌, ◌+◌, true}
-use Rattle.retro_undo.specs.Undo.{have_elements, IsShownAfter}
-use Rattle.retro_undo.specs.Part.{is_in, is_above, states_after_in, undone_in}
+use Rattle.retro_undo.specs.Undo.{have_elements, IsShownAfter, states_after_in, undone_in}
+use Rattle.retro_undo.specs.Part.{is_in, is_above}
 use Rattle.retro_undo.proofs.Steps.{waiting_count}
 use Rattle.retro_undo.proofs.walk.sweep_line.Given as goal
 
