@@ -1,5 +1,5 @@
 //! One request, judged on the new policy.
-ghost use Rattle.std.specs.Prelude.{◌≡◌, ℕ, true, Some, IsTrue};
+ghost use Rattle.std.specs.Prelude.{◌≡◌, true, Some, IsTrue};
 ghost use Rattle.element_name.specs.Name.{has_name};
 ghost use Rattle.coop_request.specs.Request.{element_of};
 ghost use Rattle.auth_match.specs.Requests.{request_verdict};

@@ -1,4 +1,4 @@
-use Rattle.std.proofs.Common.{◌≡◌, ℕ, Bool, false, List, sym, ap, ◌∙◌}
+use Rattle.std.proofs.Common.{◌≡◌, false, List, sym, ap, ◌∙◌}
 use Rattle.std.specs.Option.{option_copied, option_map_or}
 use Rattle.element_name.specs.Name.{Name}
 use Rattle.auth_match.specs.Coverage.{covers, names_with, judged_name}
