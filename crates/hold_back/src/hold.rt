@@ -10,6 +10,7 @@ ghost use Rattle.hold_back.specs.Hold.{find_held, keep_fault, woken_by, waiting_
 use crate::fault::HoldFault;
 use crate::held::Held;
 use crate::need::Need;
+use crate::parcel::Parcel;
 use edit_message::{Key, Message};
 use std::alloc::Global;
 use std::marker::Model;
@@ -30,10 +31,12 @@ pub trait Due {
         ensures { result ≡ is_due self.now message.now };
 }
 
-/// Held messages in order of arrival, each waiting under its need, or woken.
+/// Held messages in order of arrival, each waiting under its need, or woken. Each lies behind a pointer,
+/// so that little moves where one is taken out; it takes about 360 bytes.
 #[derive(Drop)]
 pub struct HoldBack {
-    held: Vec<Held>,
+    alloc: Global,
+    held: Vec<Parcel>,
 }
 
 impl Model for HoldBack {
@@ -54,6 +57,7 @@ impl HoldBack {
         ensures { result ≡ [] }
     {
         HoldBack {
+            alloc,
             held: Vec::new(alloc),
         }
     }
@@ -72,7 +76,7 @@ impl HoldBack {
         ensures { option_copied result ≡ option_map (λ h. h.message) (slice_get self.now i) }
     {
         let held = self.held.get(i as usize)?;
-        Some(&held.message)
+        Some(held.message())
     }
 
     /// The message of a key. Takes time in the number of held messages.
@@ -80,7 +84,7 @@ impl HoldBack {
         ensures { option_copied result ≡ find_held key self.now }
     {
         let held = find_in(&self.held, key)?;
-        Some(&held.message)
+        Some(held.message())
     }
 
     /// Puts a message last, waiting under its need, in constant time but for the times when room is doubled.
@@ -95,7 +99,7 @@ impl HoldBack {
             return Err(HoldFault::Full);
         }
         let need = Some(need);
-        put(&mut self.held, Held { message, need })?;
+        put(&mut self.held, self.alloc, Held { message, need })?;
         Ok(())
     }
 
@@ -132,7 +136,8 @@ impl HoldBack {
         Some(place as u32)
     }
 
-    /// Takes a message out; the others keep their order. Takes no memory, and time in the number of held messages.
+    /// Takes a message out; the others keep their order. Takes no memory, and moves a pointer for each message
+    /// behind it.
     pub fn take(&mut self, i: u32) -> Message
         requires { i < length self.old }
         ensures taken { option_map (λ h. h.message) (slice_get self.old i) ≡ Some result }
@@ -142,39 +147,57 @@ impl HoldBack {
     }
 }
 
-fn find_in(held: &[Held], key: Key) -> Option<&Held>
+fn find_in(held: &[Parcel], key: Key) -> Option<&Parcel>
     ensures { option_copied result ≡ find (λ h. key_eq (key_of h.message) key) held.now }
 {
     held.iter().find(|h| h.has_key(key))
 }
 
-fn put(held: &mut Vec<Held>, h: Held) -> Result<(), HoldFault>
-    ensures ok { OnOk result (held.new.items ≡ held.old.items ++ h ∷ []) }
+fn wrap(alloc: Global, held: Held) -> Result<Parcel, HoldFault>
+    ensures ok { IfOk result (λ parcel. parcel ≡ held) }
+    ensures err { IfErr result (λ fault. fault ≡ no_memory) }
+{
+    match Parcel::new(alloc, held) {
+        Ok(parcel) => Ok(parcel),
+        Err(_) => Err(HoldFault::NoMemory),
+    }
+}
+
+fn push(held: &mut Vec<Parcel>, parcel: Parcel) -> Result<(), HoldFault>
+    ensures ok { OnOk result (held.new.items ≡ held.old.items ++ parcel ∷ []) }
     ensures err { IfErr result (λ fault. (fault ≡ no_memory) × (held.new.items ≡ held.old.items)) }
 {
-    match held.push(h) {
+    match held.push(parcel) {
         Ok(()) => Ok(()),
         Err(_) => Err(HoldFault::NoMemory),
     }
 }
 
-fn set_need(held: &mut Vec<Held>, i: usize, need: Need)
+fn put(held: &mut Vec<Parcel>, alloc: Global, h: Held) -> Result<(), HoldFault>
+    ensures ok { OnOk result (held.new.items ≡ held.old.items ++ h ∷ []) }
+    ensures err { IfErr result (λ fault. (fault ≡ no_memory) × (held.new.items ≡ held.old.items)) }
+{
+    let parcel = wrap(alloc, h)?;
+    push(held, parcel)
+}
+
+fn set_need(held: &mut Vec<Parcel>, i: usize, need: Need)
     requires { i < length held.old.items }
     ensures { held.new.items ≡ waiting_at i need held.old.items }
 {
-    held[i].need = Some(need);
+    held[i].wait(need);
 }
 
-fn take_out(held: &mut Vec<Held>, i: usize) -> Message
+fn take_out(held: &mut Vec<Parcel>, i: usize) -> Message
     requires { i < length held.old.items }
     ensures taken { option_map (λ h. h.message) (slice_get held.old.items i) ≡ Some result }
     ensures rest { held.new.items ≡ remove held.old.items i }
 {
-    held.remove(i).message
+    held.remove(i).into_message()
 }
 
 // Wakes those that wait under the need.
-fn wake(held: &mut Vec<Held>, need: &Need)
+fn wake(held: &mut Vec<Parcel>, need: &Need)
     ensures { held.new.items ≡ woken_by need.now held.old.items }
 {
     for h in held.iter_mut() {
@@ -182,21 +205,21 @@ fn wake(held: &mut Vec<Held>, need: &Need)
     }
 }
 
-fn first_woken(held: &[Held]) -> Option<usize>
+fn first_woken(held: &[Parcel]) -> Option<usize>
     ensures { result ≡ position is_woken held.now }
 {
-    held.iter().position(|h| h.need.is_none())
+    held.iter().position(|h| h.is_woken())
 }
 
 // The first that is both woken and due.
-fn first_of_both<T: Due>(held: &[Held], test: &T) -> Option<usize>
+fn first_of_both<T: Due>(held: &[Parcel], test: &T) -> Option<usize>
     ensures { result ≡ position (λ h. is_woken h && T.is_due test.now h.message) held.now }
 {
     held.iter()
-        .position(|h| h.need.is_none() && test.due(&h.message))
+        .position(|h| h.is_woken() && test.due(h.message()))
 }
 
-fn first_woken_due<T: Due>(held: &[Held], test: &T) -> Option<usize>
+fn first_woken_due<T: Due>(held: &[Parcel], test: &T) -> Option<usize>
     requires { IsTrue (only_woken_due (T.is_due test.now) held.now) }
     ensures { result ≡ due_at (T.is_due test.now) held.now }
 {

@@ -6,6 +6,7 @@ mod held;
 mod hold;
 pub mod laws;
 mod need;
+mod parcel;
 
 pub use fault::HoldFault;
 pub use held::Held;
