@@ -22,7 +22,8 @@ use Rattle.policy_book.specs.declared.op.AdminOp.{AdminOp}
 use Rattle.edit_frame.specs.Fields.{Field, as_value, both, leading, passing, number_at, byte_at, short_at, name_at, char_at, bytes_at, is_long_piece, long_piece_at, letter_at, edit_at, operation_at}
 use Rattle.edit_frame.specs.Reading.{request_of_fields, request_at, entry_of, entry_at}
 use Rattle.edit_frame.specs.Spelling.{request_fields, entry_fields, short_bytes, name_bytes, is_one_char, letter_bytes, letter_version, edit_version, edit_kind, edit_bytes, number_of, operation_fields}
-use Rattle.edit_frame.proofs.Readers.{IsBytes, IsBytes-drop, Took, Reads, ReadsBy, reads_both, reads_passing, reads_via, reads_same, reads_leading, TakesRows, no_rows, more_rows, row_of, row_again, wide32, reads_number}
+use Rattle.edit_frame.specs.Spells.{IsBytes}
+use Rattle.edit_frame.proofs.Readers.{IsBytes-drop, Took, Reads, ReadsBy, reads_both, reads_passing, reads_via, reads_same, reads_leading, TakesRows, no_rows, more_rows, row_of, row_again, wide32, reads_number}
 use Rattle.edit_frame.proofs.Parts.{reads_short, reads_name, reads_operation}
 use lib.Utf8.{scalar, scalars, scalar_fits, encode, encodes}
 

@@ -23,8 +23,8 @@ use Rattle.edit_frame.specs.declared.frame.FrameKind.TheVariants.{BadKind, BadFi
 use Rattle.edit_frame.specs.Fields.{Field, constant, as_value}
 use Rattle.edit_frame.specs.Reading.{request_at, entry_at, other_at, is_kind, fault_or, request_frame, ended, frame_by, frame_of, length_field, cut_fault, inner, front_frame, frame_at, decoded}
 use Rattle.edit_frame.specs.Spelling.{request_fields, entry_fields, is_one_char, edit_version, edit_kind, version_of, kind_of, fields, body, spelling}
-use Rattle.edit_frame.specs.Spells.{is_frame, Spells}
-use Rattle.edit_frame.proofs.Readers.{IsBytes, IsBytes-drop, IsBytes-take, IsBytes-rest, chosen, TakesRows, no_rows, more_rows, row_of, row_constant, wide32}
+use Rattle.edit_frame.specs.Spells.{IsBytes, is_frame, Spells}
+use Rattle.edit_frame.proofs.Readers.{IsBytes-drop, IsBytes-take, IsBytes-rest, chosen, TakesRows, no_rows, more_rows, row_of, row_constant, wide32}
 use Rattle.edit_frame.proofs.Edits.{fits_version, fitting_version, fits_edit, fits_request, reads_request, edit_by_fit, fit_of_edit, reads_entry}
 use Rattle.edit_frame.proofs.Outcomes.{good, bad, same_frame, no_frame}
 use Rattle.edit_frame.proofs.Cut.{IsWhole, whole_by, by_whole}

@@ -21,7 +21,8 @@ use Rattle.policy_book.specs.declared.op.AdminOp.{AdminOp}
 use Rattle.policy_book.specs.declared.op.AdminOp.TheVariants.{AddUser, DelUser, AddObj, DelObj, AddGroup, DelGroup, AddMember, DelMember, AddAuth, DelAuth, Validate}
 use Rattle.edit_frame.specs.Fields.{Reader, constant, as_value, both, leading, passing, number_at, byte_at, short_at, name_of, name_at, numbers_at, names_at, extent_by, extent_at, user_set_by, user_set_at, sign_at, rights_of_byte, rights_at, auth_of, objects_at, auth_at, operation_rows, operation_by, operation_at}
 use Rattle.edit_frame.specs.Spelling.{short_bytes, name_bytes, extent_bytes, user_set_bytes, flag, rights_bytes, objects_bytes, auth_bytes, number_of, operation_fields}
-use Rattle.edit_frame.proofs.Readers.{IsBytes, IsBytes-rest, Took, Reads, ReadsBy, some_is, chosen, reads_both, reads_passing, reads_test, reads_via, reads_same, reads_leading, TakesRows, no_rows, more_rows, row_of, row_constant, row_again, reads_list, wide16, wide64, reads_number}
+use Rattle.edit_frame.specs.Spells.{IsBytes}
+use Rattle.edit_frame.proofs.Readers.{IsBytes-rest, Took, Reads, ReadsBy, some_is, chosen, reads_both, reads_passing, reads_test, reads_via, reads_same, reads_leading, TakesRows, no_rows, more_rows, row_of, row_constant, row_again, reads_list, wide16, wide64, reads_number}
 
 pub reads_short : Reads ℕ short_at short_bytes is_short
 unfolding short_at short_bytes

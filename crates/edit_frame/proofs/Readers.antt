@@ -9,10 +9,8 @@ use Rattle.std.proofs.lemmas.List.Concat.{flat_map-cons}
 use Rattle.std.proofs.lemmas.Nat.{be_bytes_2, be_bytes_4, be_bytes_8, from_be_bytes-to_be_bytes_2, from_be_bytes-to_be_bytes_4, from_be_bytes-to_be_bytes_8}
 use Rattle.element_name.specs.Cases.{when, ◌>>=◌}
 use Rattle.element_name.proofs.CaseLemmas.{bind-Some, when-Some}
+use Rattle.edit_frame.specs.Spells.{IsBytes}
 use Rattle.edit_frame.specs.Fields.{Reader, constant, as_value, both, leading, passing, choose, items_at, byte_at, number_at}
-
-abbrev pub IsBytes : List ℕ → Type 0
-IsBytes bytes = (i : ℕ) → get_or bytes i 0 < 256
 
 pub IsBytes-drop : (n : ℕ) (bytes : List ℕ) → IsBytes bytes → IsBytes (drop n bytes)
 IsBytes-drop n bytes h i = rw get_or-drop (h (n + i))

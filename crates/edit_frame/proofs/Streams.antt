@@ -1,11 +1,11 @@
 -- A stream in pieces: what was given, and what is left.
-use Rattle.std.proofs.Common.{◌≡◌, ℕ, zero, suc, ◌+◌, ◌≤◌, Bool, true, false, cond, not, ◌&&◌, ◌||◌, inl, inr, List, [], ◌∷◌, ◌++◌, length, drop, Option, Some, None, Result, Ok, Err, refl, sym, ap, subst, ◌∙◌, append_assoc, arith}
+use Rattle.std.proofs.Common.{◌≡◌, ℕ, zero, suc, ◌+◌, ◌≤◌, Bool, true, false, cond, not, ◌&&◌, ◌||◌, inl, inr, List, [], ◌∷◌, ◌++◌, length, take, drop, Option, Some, None, Result, Ok, Err, refl, sym, ap, subst, ◌∙◌, append_assoc, arith}
 use Rattle.std.specs.Prelude.{nat_lt, nat_le, option_map}
 use Rattle.std.specs.Int.{w32, to_be_bytes}
 use Rattle.std.specs.List.{flat_map, list_all}
 use Rattle.std.proofs.lemmas.Bool.{true≢false, and_parts, and_from}
 use Rattle.std.proofs.lemmas.Grind.{flat_map-append}
-use Rattle.std.proofs.lemmas.List.{append-nil, length-append, length-drop, drop_at}
+use Rattle.std.proofs.lemmas.List.{append-nil, length-append, length-drop, take_at, drop_at}
 use Rattle.std.proofs.lemmas.List.Concat.{flat_map-cons}
 use Rattle.std.proofs.lemmas.List.Folds.{list_all-append}
 use Rattle.coop_request.specs.declared.request.RequestFault.{RequestFault}
@@ -19,12 +19,12 @@ use Rattle.edit_frame.specs.Gives.{FrameFails}
 use Rattle.edit_frame.specs.Fields.{Field}
 use Rattle.edit_frame.specs.Reading.{request_at, other_at, is_kind, fault_or, request_frame, ended, frame_by, frame_of, length_field, cut_fault, inner, front_frame, frame_at, takes_memory, Stream, stream_with, stream_of, stream, rest_fault}
 use Rattle.edit_frame.specs.Spelling.{body, spelling}
-use Rattle.edit_frame.specs.Spells.{is_frame}
+use Rattle.edit_frame.specs.Spells.{IsBytes, is_frame, Spells}
 use Rattle.edit_frame.specs.Splitting.{Splitting, is_truncated, FrontGives, IsSplit, IsAllOf}
-use Rattle.edit_frame.proofs.Readers.{IsBytes, chosen}
+use Rattle.edit_frame.proofs.Readers.{IsBytes-drop, chosen}
 use Rattle.edit_frame.proofs.Outcomes.{good, bad, same_kind, no_frame}
 use Rattle.edit_frame.proofs.Cut.{whole_by}
-use Rattle.edit_frame.proofs.Frames.{front_taken, spelled_again, frame_at_again}
+use Rattle.edit_frame.proofs.Frames.{front_taken, frame_at_taken, spelled_again, frame_at_again}
 
 other_kind : (j k : FrameKind) → is_truncated j ≡ false → bad j ≡ bad k → is_truncated k ≡ false
 other_kind j k h e = subst (λ (x : FrameKind). is_truncated x ≡ false) (same_kind j k e) h
@@ -187,3 +187,60 @@ fault_follows bytes fail kind s is h same fed frames i =
     let g : (frame_at bytes ≡ Err kind) × (is_truncated kind ≡ false) = subst (λ (x : FrameFail). FrontGives bytes (Err x)) is h in
     let e : frame_at s.rest ≡ Err kind = ap frame_at (sym same) ∙ g.0 in
     (i, all_of fed frames s kind i e, rest_fault_by s.rest kind e g.1, g.1)
+
+-- ---- what is read of bytes is spelled so
+
+pub prefix_spells : (bytes : List ℕ) (f : Frame) → IsBytes bytes → frame_at bytes ≡ Ok f → Spells (take (4 + length_field bytes) bytes) f
+prefix_spells bytes f fits e =
+    let t = frame_at_taken bytes f fits e in
+    let n = 4 + length_field bytes in
+    let cut : take n bytes ≡ take n (spelling f ++ drop n bytes) = ap (take n) t.split in
+    record { spelled = cut ∙ take_at (spelling f) (drop n bytes) n t.len; formed = t.formed }
+
+-- the frames are well formed, and their spellings with the rest are the bytes
+abbrev IsSpelledBy : List ℕ → Stream → Type 0
+IsSpelledBy bytes s = (list_all is_frame s.frames ≡ true) × (bytes ≡ flat_map spelling s.frames ++ s.rest)
+
+spelled_next : (n : ℕ) (bytes : List ℕ) (r : Result Frame FrameKind) → ((after : List ℕ) → IsBytes after → IsSpelledBy after (stream_of n after))
+    → IsBytes bytes → frame_at bytes ≡ r → IsSpelledBy bytes (stream_of (suc n) bytes)
+spelled_next n bytes (Err k) again fits e = subst (λ (s : Stream). IsSpelledBy bytes s) (sym (stream_stop (suc n) bytes k e)) (refl, refl)
+spelled_next n bytes (Ok f) again fits e =
+    let t = frame_at_taken bytes f fits e in
+    let after : List ℕ = drop (4 + length_field bytes) bytes in
+    let more = again after (IsBytes-drop (4 + length_field bytes) bytes fits) in
+    let s : Stream = stream_of n after in
+    let whole : bytes ≡ flat_map spelling (f ∷ s.frames) ++ s.rest =
+        t.split ∙ ap (λ (x : List ℕ). spelling f ++ x) more.1 ∙ sym (append_assoc (spelling f) (flat_map spelling s.frames) s.rest) ∙ ap (λ (x : List ℕ). x ++ s.rest) (sym (flat_map-cons spelling f s.frames)) in
+    subst (λ (x : Stream). IsSpelledBy bytes x) (sym (stream_go n bytes f e)) (and_from (is_frame f) (list_all is_frame s.frames) t.formed more.0, whole)
+
+spelled_by : (n : ℕ) (bytes : List ℕ) → IsBytes bytes → IsSpelledBy bytes (stream_of n bytes)
+unfolding stream_of
+spelled_by zero bytes fits = (refl, refl)
+spelled_by (suc n) bytes fits = spelled_next n bytes (frame_at bytes) (spelled_by n) fits refl
+
+pub stream_spelled : (bytes : List ℕ) → IsBytes bytes → (list_all is_frame (stream bytes).frames ≡ true) × (bytes ≡ flat_map spelling (stream bytes).frames ++ (stream bytes).rest)
+unfolding stream
+stream_spelled bytes fits = spelled_by (length bytes) bytes fits
+
+abbrev HasNoFrame : List ℕ → Type 0
+HasNoFrame bytes = (kind : FrameKind) × (frame_at bytes ≡ Err kind)
+
+ended_next : (n : ℕ) (bytes : List ℕ) (r : Result Frame FrameKind) → ((after : List ℕ) → IsBytes after → length after ≤ n → HasNoFrame (stream_of n after).rest)
+    → IsBytes bytes → length bytes ≤ suc n → frame_at bytes ≡ r → HasNoFrame (stream_of (suc n) bytes).rest
+ended_next n bytes (Err k) again fits le e = subst (λ (s : Stream). HasNoFrame s.rest) (sym (stream_stop (suc n) bytes k e)) (k, e)
+ended_next n bytes (Ok f) again fits le e =
+    let t = frame_at_taken bytes f fits e in
+    let len = 4 + length_field bytes in
+    let after : List ℕ = drop len bytes in
+    let shorter : length after ≤ n = omega (arith, length-drop len bytes, le, ap length t.split, length-append (spelling f) after, t.len) in
+    subst (λ (s : Stream). HasNoFrame s.rest) (sym (stream_go n bytes f e)) (again after (IsBytes-drop len bytes fits) shorter)
+
+ended_by : (n : ℕ) (bytes : List ℕ) → IsBytes bytes → length bytes ≤ n → HasNoFrame (stream_of n bytes).rest
+unfolding stream_of
+ended_by zero [] fits le = (Truncated, nothing_waits)
+ended_by zero (b ∷ bytes) fits le = absurd (omega arith)
+ended_by (suc n) bytes fits le = ended_next n bytes (frame_at bytes) (ended_by n) fits le refl
+
+pub stream_ended : (bytes : List ℕ) → IsBytes bytes → (kind : FrameKind) × (frame_at (stream bytes).rest ≡ Err kind)
+unfolding stream
+stream_ended bytes fits = ended_by (length bytes) bytes fits (omega arith)

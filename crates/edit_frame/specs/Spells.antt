@@ -1,9 +1,13 @@
 -- Which bytes spell which frame.
-use Rattle.std.specs.Prelude.{◌≡◌, ℕ, Bool, true, List}
+use Rattle.std.specs.Prelude.{◌≡◌, ℕ, ◌^◌, ◌<◌, Bool, true, List, slice_index}
 use Rattle.edit_message.specs.Formed.{is_message}
 use Rattle.edit_frame.specs.declared.frame.Frame.{Frame}
 use Rattle.edit_frame.specs.declared.frame.Frame.TheVariants.{Item, Turn, End}
 use Rattle.edit_frame.specs.Spelling.{spelling}
+
+-- each is a byte: below 256
+abbrev pub IsBytes : List ℕ → Type 0
+IsBytes bytes = (i : ℕ) → slice_index bytes i < 2 ^ 8
 
 -- its message, if it has one, is well formed
 abbrev pub is_frame : Frame → Bool

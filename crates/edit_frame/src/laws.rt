@@ -1,11 +1,11 @@
 //! Laws of spellings and of streams.
-ghost use Rattle.std.specs.Prelude.{◌≡◌, ℕ, List, ◌++◌, true, false, Ok, Err};
+ghost use Rattle.std.specs.Prelude.{◌≡◌, ℕ, List, ◌++◌, ◌+◌, take, true, false, Ok, Err};
 ghost use Rattle.std.specs.List.{flat_map, list_all};
 ghost use Rattle.edit_frame.specs.declared.frame.Frame.{Frame};
 ghost use Rattle.edit_frame.specs.declared.frame.FrameKind.{FrameKind};
 ghost use Rattle.edit_frame.specs.Spelling.{spelling};
-ghost use Rattle.edit_frame.specs.Spells.{is_frame, Spells};
-ghost use Rattle.edit_frame.specs.Reading.{decoded, frame_at, stream};
+ghost use Rattle.edit_frame.specs.Spells.{IsBytes, is_frame, Spells};
+ghost use Rattle.edit_frame.specs.Reading.{decoded, length_field, frame_at, stream};
 ghost use Rattle.edit_frame.specs.Splitting.{is_truncated};
 
 /// What is encoded is decoded: alone, at the front of a stream, and frame after frame.
@@ -15,6 +15,17 @@ pub fn encoded_is_decoded()
     ensures all { (frames : List Frame) (rest : List ℕ) (kind : FrameKind)
         → list_all is_frame frames ≡ true → frame_at rest ≡ Err kind
         → stream (flat_map spelling frames ++ rest) ≡ record { frames = frames; rest = rest } }
+{}
+
+/// What is read of bytes is spelled by them: alone, by the prefix of a stream, and frame after frame, down to a rest that
+/// begins with no frame. So nothing is read that isn't a frame, whether memory is wanting or not.
+pub fn decoded_is_encoded()
+    ensures alone { (bytes : List ℕ) (f : Frame) → IsBytes bytes → decoded bytes ≡ Ok f → Spells bytes f }
+    ensures prefix { (bytes : List ℕ) (f : Frame)
+        → IsBytes bytes → frame_at bytes ≡ Ok f → Spells (take (4 + length_field bytes) bytes) f }
+    ensures all { (bytes : List ℕ) → IsBytes bytes
+        → (list_all is_frame (stream bytes).frames ≡ true) × (bytes ≡ flat_map spelling (stream bytes).frames ++ (stream bytes).rest) }
+    ensures rest { (bytes : List ℕ) → IsBytes bytes → (kind : FrameKind) × (frame_at (stream bytes).rest ≡ Err kind) }
 {}
 
 /// A frame has one spelling, no bytes spell two frames, and no spelling begins another.
