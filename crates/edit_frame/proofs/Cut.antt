@@ -1,4 +1,4 @@
--- What stands in front of a frame: its length field, and enough bytes.
+-- What stands before a frame: its length field, and enough bytes.
 use Rattle.std.proofs.Common.{◌≡◌, ℕ, ◌+◌, ◌≤◌, ◌<◌, Bool, ◌&&◌, ◌||◌, List, [], ◌∷◌, length, drop, Option, None, Result, refl, sym, ap, subst, ◌∙◌, arith}
 use Rattle.std.specs.Prelude.{◌==◌, nat_lt, is_none, slice_index}
 use Rattle.std.proofs.lemmas.Bool.{ltb-false, le-ltb, or_parts}
@@ -10,9 +10,9 @@ use Rattle.edit_frame.specs.declared.frame.Frame.{Frame}
 use Rattle.edit_frame.specs.declared.frame.FrameKind.{FrameKind}
 use Rattle.edit_frame.specs.declared.fail.FrameFail.{FrameFail}
 use Rattle.edit_frame.specs.Gives.{GivesFrame}
-use Rattle.edit_frame.specs.Reading.{fault_or, frame_of, length_field, cut_fault, inner, front_frame, takes_memory}
+use Rattle.edit_frame.specs.Reading.{fault_or, frame_of, length_field, cut_fault, inner, prefix_frame, takes_memory}
 
--- a whole frame stands at the front
+-- the bytes begin with a whole frame
 pub record IsWhole (bytes : List ℕ) : Type 0 where
   pub field : 4 ≤ length bytes
   pub low : 2 ≤ length_field bytes
@@ -54,9 +54,9 @@ takes_inside bytes e =
 
 -- what is answered about the bytes after the length field is the answer about the whole frame
 pub whole_gives : (more : Bool) (bytes inside : List ℕ) (r : Result Frame FrameFail) → cut_fault bytes ≡ None → inside ≡ inner bytes
-    → GivesFrame (slice_index inside 1 == 4) r (frame_of more inside) → GivesFrame (takes_memory bytes) r (front_frame more bytes)
+    → GivesFrame (slice_index inside 1 == 4) r (frame_of more inside) → GivesFrame (takes_memory bytes) r (prefix_frame more bytes)
 whole_gives more bytes inside r e same h =
     let at_inner = subst (λ (x : List ℕ). GivesFrame (slice_index x 1 == 4) r (frame_of more x)) same h in
-    let front : frame_of more (inner bytes) ≡ front_frame more bytes = ap (λ (k : Option FrameKind). fault_or k (frame_of more (inner bytes))) (sym e) in
-    let at_front = subst (λ (x : Result Frame FrameKind). GivesFrame (slice_index (inner bytes) 1 == 4) r x) front at_inner in
-    subst (λ (b : Bool). GivesFrame b r (front_frame more bytes)) (sym (takes_inside bytes e)) at_front
+    let whole : frame_of more (inner bytes) ≡ prefix_frame more bytes = ap (λ (k : Option FrameKind). fault_or k (frame_of more (inner bytes))) (sym e) in
+    let at_prefix = subst (λ (x : Result Frame FrameKind). GivesFrame (slice_index (inner bytes) 1 == 4) r x) whole at_inner in
+    subst (λ (b : Bool). GivesFrame b r (prefix_frame more bytes)) (sym (takes_inside bytes e)) at_prefix

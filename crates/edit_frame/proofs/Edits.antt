@@ -19,7 +19,7 @@ use Rattle.coop_request.specs.declared.edit.Edit.TheVariants.{Insert, Delete, Up
 use Rattle.coop_request.specs.Request.{Request}
 use Rattle.policy_book.specs.Entry.{Entry, is_entry_version, is_entry}
 use Rattle.policy_book.specs.declared.op.AdminOp.{AdminOp}
-use Rattle.edit_frame.specs.Fields.{Field, as_value, both, leading, passing, number_at, byte_at, short_at, name_at, char_at, bytes_at, is_long_piece, long_piece_at, letter_at, edit_at, operation_at}
+use Rattle.edit_frame.specs.Fields.{Field, as_value, both, then_by, when_passes, number_at, byte_at, short_at, name_at, char_at, bytes_at, is_long_piece, long_piece_at, letter_at, edit_at, operation_at}
 use Rattle.edit_frame.specs.Reading.{request_of_fields, request_at, entry_of, entry_at}
 use Rattle.edit_frame.specs.Spelling.{request_fields, entry_fields, short_bytes, name_bytes, is_one_char, letter_bytes, letter_version, edit_version, edit_kind, edit_bytes, number_of, operation_fields}
 use Rattle.edit_frame.specs.Spells.{IsBytes}
@@ -76,7 +76,7 @@ char_here p h =
 
 reads_char : Reads (List ℕ) char_at letter_bytes (λ p. is_piece p && is_one_char p)
 unfolding char_at
-reads_char = reads_via encode_utf8 (λ p. slice_index (chars p) 0) (passing scalar (number_at w32)) (to_be_bytes w32) (λ n. scalar n && nat_lt n 4294967296) letter_bytes (λ p. is_piece p && is_one_char p)
+reads_char = reads_via encode_utf8 (λ p. slice_index (chars p) 0) (when_passes scalar (number_at w32)) (to_be_bytes w32) (λ n. scalar n && nat_lt n 4294967296) letter_bytes (λ p. is_piece p && is_one_char p)
     (reads_passing scalar (number_at w32) (to_be_bytes w32) (λ n. nat_lt n 4294967296) (reads_number w32 4294967296 wide32)) char_there char_here
 
 -- ---- more than one
@@ -114,9 +114,9 @@ long_here p h =
     let n = and_parts (is_piece p) (not (is_one_char p)) h in
     (refl, rw (not-true (is_one_char p) n.1) refl, and_from (is_piece p && not (is_one_char p)) true h refl)
 
-reads_long_before : Reads (List ℕ) (as_value itself (passing is_long_piece (leading byte_at bytes_at))) letter_bytes (λ p. is_piece p && not (is_one_char p))
-reads_long_before = reads_via itself itself (passing is_long_piece (leading byte_at bytes_at)) (λ p. length p ∷ p) (λ p. is_long_piece p && true) letter_bytes (λ p. is_piece p && not (is_one_char p))
-    (reads_passing is_long_piece (leading byte_at bytes_at) (λ p. length p ∷ p) (λ p. true) (reads_leading bytes_at length (λ p. p) (λ p. true) reads_bytes)) long_there long_here
+reads_long_before : Reads (List ℕ) (as_value itself (when_passes is_long_piece (then_by byte_at bytes_at))) letter_bytes (λ p. is_piece p && not (is_one_char p))
+reads_long_before = reads_via itself itself (when_passes is_long_piece (then_by byte_at bytes_at)) (λ p. length p ∷ p) (λ p. is_long_piece p && true) letter_bytes (λ p. is_piece p && not (is_one_char p))
+    (reads_passing is_long_piece (then_by byte_at bytes_at) (λ p. length p ∷ p) (λ p. true) (reads_leading bytes_at length (λ p. p) (λ p. true) reads_bytes)) long_there long_here
 
 same_value : {A : Type 0} (f : Field (List A)) → f ≡ (f >>= λ x. Some (x.0, x.1))
 same_value (Some x) = refl
@@ -124,8 +124,8 @@ same_value None = refl
 
 reads_long : Reads (List ℕ) long_piece_at letter_bytes (λ p. is_piece p && not (is_one_char p))
 unfolding long_piece_at
-reads_long = reads_same (as_value itself (passing is_long_piece (leading byte_at bytes_at))) long_piece_at letter_bytes letter_bytes (λ p. is_piece p && not (is_one_char p)) (λ p. is_piece p && not (is_one_char p)) reads_long_before
-    (λ bytes. same_value (passing is_long_piece (leading byte_at bytes_at) bytes)) (λ p. refl) (λ p. refl)
+reads_long = reads_same (as_value itself (when_passes is_long_piece (then_by byte_at bytes_at))) long_piece_at letter_bytes letter_bytes (λ p. is_piece p && not (is_one_char p)) (λ p. is_piece p && not (is_one_char p)) reads_long_before
+    (λ bytes. same_value (when_passes is_long_piece (then_by byte_at bytes_at) bytes)) (λ p. refl) (λ p. refl)
 
 -- ---- the letter of a frame version
 
@@ -253,7 +253,7 @@ entry_here e h =
 
 pub reads_entry : Reads Entry entry_at entry_fields is_entry
 unfolding entry_at
-reads_entry = reads_via entry_of entry_back (passing (λ x. is_entry_version x.0) (both short_at operation_at))
+reads_entry = reads_via entry_of entry_back (when_passes (λ x. is_entry_version x.0) (both short_at operation_at))
     (λ x. short_bytes x.0 ++ (number_of x.1 ∷ operation_fields x.1)) fits_entry entry_fields is_entry
     (reads_passing (λ x. is_entry_version x.0) (both short_at operation_at) (λ x. short_bytes x.0 ++ (number_of x.1 ∷ operation_fields x.1)) (λ x. is_short x.0 && is_operation x.1)
     (reads_both short_at operation_at short_bytes (λ op. number_of op ∷ operation_fields op) is_short is_operation reads_short reads_operation))

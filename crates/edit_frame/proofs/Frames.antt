@@ -21,7 +21,7 @@ use Rattle.edit_frame.specs.declared.frame.Frame.TheVariants.{Item, Turn, End}
 use Rattle.edit_frame.specs.declared.frame.FrameKind.{FrameKind}
 use Rattle.edit_frame.specs.declared.frame.FrameKind.TheVariants.{BadKind, BadField, LeftOver, BadRequest}
 use Rattle.edit_frame.specs.Fields.{Field, constant, as_value}
-use Rattle.edit_frame.specs.Reading.{request_at, entry_at, other_at, is_kind, fault_or, request_frame, ended, frame_by, frame_of, length_field, cut_fault, inner, front_frame, frame_at, decoded}
+use Rattle.edit_frame.specs.Reading.{request_at, entry_at, other_at, is_kind, fault_or, request_frame, unless_left_over, frame_by, frame_of, length_field, cut_fault, inner, prefix_frame, frame_at, decoded_frame}
 use Rattle.edit_frame.specs.Spelling.{request_fields, entry_fields, is_one_char, edit_version, edit_kind, version_of, kind_of, fields, body, spelling}
 use Rattle.edit_frame.specs.Spells.{IsBytes, is_frame, Spells}
 use Rattle.edit_frame.proofs.Readers.{IsBytes-drop, IsBytes-take, IsBytes-rest, chosen, TakesRows, no_rows, more_rows, row_of, row_constant, wide32}
@@ -44,7 +44,7 @@ over n more h =
     let none : n ≤ 0 = ltb-false 0 n p.0 in
     (omega arith, p.1)
 
-ended_ok : {A : Type 0} (more : Bool) (make : A → Result Frame FrameKind) (read : Field A) (f : Frame) → ended more make read ≡ Ok f → IsEnded A more make read f
+ended_ok : {A : Type 0} (more : Bool) (make : A → Result Frame FrameKind) (read : Field A) (f : Frame) → unless_left_over more make read ≡ Ok f → IsEnded A more make read f
 ended_ok more make None f e = absurd (no_frame BadField f e)
 ended_ok more make (Some x) f e = elim (chosen (nat_lt 0 (length x.1) || more) (bad LeftOver) (make x.0) (Ok f) e) [
   | inl c ↦ absurd (no_frame LeftOver f c.1)
@@ -117,7 +117,7 @@ pub record IsRead (more : Bool) (v k : ℕ) (bytes : List ℕ) (f : Frame) : Typ
   pub formed : is_frame f ≡ true
   pub alone : more ≡ false
 
-request_taken : (more : Bool) (v k : ℕ) (bytes : List ℕ) (f : Frame) → IsBytes bytes → is_kind v k ≡ true → ended more request_frame (request_at v k bytes) ≡ Ok f → IsRead more v k bytes f
+request_taken : (more : Bool) (v k : ℕ) (bytes : List ℕ) (f : Frame) → IsBytes bytes → is_kind v k ≡ true → unless_left_over more request_frame (request_at v k bytes) ≡ Ok f → IsRead more v k bytes f
 unfolding fields
 request_taken more v k bytes f fits h e =
     let a = ended_ok more request_frame (request_at v k bytes) f e in
@@ -134,7 +134,7 @@ request_taken more v k bytes f fits h e =
     let made : IsRead more v k bytes (Item (Coop q)) = record { version = version; kind = kind; spelled = t.0.parts ∙ append-nil (request_fields q); formed = range; alone = a.alone } in
     subst (λ (g : Frame). IsRead more v k bytes g) m.1 made
 
-other_taken : (more : Bool) (v k : ℕ) (bytes : List ℕ) (f : Frame) → IsBytes bytes → is_kind v k ≡ true → nat_le k 3 ≡ false → ended more (λ g. Ok g) (other_at k bytes) ≡ Ok f → IsRead more v k bytes f
+other_taken : (more : Bool) (v k : ℕ) (bytes : List ℕ) (f : Frame) → IsBytes bytes → is_kind v k ≡ true → nat_le k 3 ≡ false → unless_left_over more (λ g. Ok g) (other_at k bytes) ≡ Ok f → IsRead more v k bytes f
 unfolding other_at
 other_taken more v k bytes f fits h big e =
     let a = ended_ok more (λ g. good g) (other_at k bytes) f e in
@@ -146,9 +146,9 @@ other_taken more v k bytes f fits h big e =
 
 pub frame_taken : (more : Bool) (v k : ℕ) (bytes : List ℕ) (f : Frame) → IsBytes bytes → frame_by more v k bytes ≡ Ok f → IsRead more v k bytes f
 unfolding frame_by
-frame_taken more v k bytes f fits e = elim (chosen (not (is_kind v k)) (bad BadKind) (cond (nat_le k 3) (ended more request_frame (request_at v k bytes)) (ended more (λ g. Ok g) (other_at k bytes))) (Ok f) e) [
+frame_taken more v k bytes f fits e = elim (chosen (not (is_kind v k)) (bad BadKind) (cond (nat_le k 3) (unless_left_over more request_frame (request_at v k bytes)) (unless_left_over more (λ g. Ok g) (other_at k bytes))) (Ok f) e) [
   | inl c ↦ absurd (no_frame BadKind f c.1)
-  | inr c ↦ elim (chosen (nat_le k 3) (ended more request_frame (request_at v k bytes)) (ended more (λ g. Ok g) (other_at k bytes)) (Ok f) c.1) [
+  | inr c ↦ elim (chosen (nat_le k 3) (unless_left_over more request_frame (request_at v k bytes)) (unless_left_over more (λ g. Ok g) (other_at k bytes)) (Ok f) c.1) [
     | inl d ↦ request_taken more v k bytes f fits (not-false (is_kind v k) c.0) d.1
     | inr d ↦ other_taken more v k bytes f fits (not-false (is_kind v k) c.0) d.0 d.1
   ]
@@ -200,23 +200,23 @@ inner_taken more (v ∷ k ∷ bytes) f fits l e =
     let t = frame_taken more v k bytes f (IsBytes-rest k bytes (IsBytes-rest v (k ∷ bytes) fits)) e in
     (rw (t.version, t.kind, ← t.spelled) refl, t.formed, t.alone)
 
-pub record IsFront (more : Bool) (bytes : List ℕ) (f : Frame) : Type 0 where
+pub record HasPrefix (more : Bool) (bytes : List ℕ) (f : Frame) : Type 0 where
   pub split : bytes ≡ spelling f ++ drop (4 + length_field bytes) bytes
   pub formed : is_frame f ≡ true
   pub alone : more ≡ false
   pub len : length (spelling f) ≡ 4 + length_field bytes
 
-front_by : (read : Result Frame FrameKind) (f : Frame) (fault : Option FrameKind) → fault_or fault read ≡ Ok f → (fault ≡ None) × (read ≡ Ok f)
-front_by read f (Some k) e = absurd (no_frame k f e)
-front_by read f None e = (refl, e)
+prefix_by : (read : Result Frame FrameKind) (f : Frame) (fault : Option FrameKind) → fault_or fault read ≡ Ok f → (fault ≡ None) × (read ≡ Ok f)
+prefix_by read f (Some k) e = absurd (no_frame k f e)
+prefix_by read f None e = (refl, e)
 
 four_more : (a b n : ℕ) → a ≡ 4 → b ≡ n → a + b ≡ 4 + n
 four_more a b n h g = omega arith
 
-pub front_taken : (more : Bool) (bytes : List ℕ) (f : Frame) → IsBytes bytes → front_frame more bytes ≡ Ok f → IsFront more bytes f
+pub prefix_taken : (more : Bool) (bytes : List ℕ) (f : Frame) → IsBytes bytes → prefix_frame more bytes ≡ Ok f → HasPrefix more bytes f
 unfolding spelling
-front_taken more bytes f fits e =
-    let b = front_by (frame_of more (inner bytes)) f (cut_fault bytes) e in
+prefix_taken more bytes f fits e =
+    let b = prefix_by (frame_of more (inner bytes)) f (cut_fault bytes) e in
     let w = whole_by bytes b.0 in
     let n = length_field bytes in
     let room : length (inner bytes) ≡ n = omega (arith, length-take n (drop 4 bytes), length-drop 4 bytes, w.room) in
@@ -264,28 +264,28 @@ spelled_again f rest h =
       whole = record { field = omega arith; low = omega arith; high = omega arith; room = omega arith };
     }
 
-pub front_again : (f : Frame) (rest : List ℕ) → is_frame f ≡ true → front_frame false (spelling f ++ rest) ≡ Ok f
-front_again f rest h =
+pub prefix_again : (f : Frame) (rest : List ℕ) → is_frame f ≡ true → prefix_frame false (spelling f ++ rest) ≡ Ok f
+prefix_again f rest h =
     let a = spelled_again f rest h in
     ap (λ (k : Option FrameKind). fault_or k (frame_of false (inner (spelling f ++ rest)))) (by_whole (spelling f ++ rest) a.whole) ∙ ap (frame_of false) a.inside ∙ frame_again f h
 
 -- ---- the two readings
 
-pub frame_at_taken : (bytes : List ℕ) (f : Frame) → IsBytes bytes → frame_at bytes ≡ Ok f → IsFront false bytes f
+pub frame_at_taken : (bytes : List ℕ) (f : Frame) → IsBytes bytes → frame_at bytes ≡ Ok f → HasPrefix false bytes f
 unfolding frame_at
-frame_at_taken bytes f fits e = front_taken false bytes f fits e
+frame_at_taken bytes f fits e = prefix_taken false bytes f fits e
 
 pub frame_at_again : (f : Frame) (rest : List ℕ) → is_frame f ≡ true → frame_at (spelling f ++ rest) ≡ Ok f
 unfolding frame_at
-frame_at_again f rest h = front_again f rest h
+frame_at_again f rest h = prefix_again f rest h
 
 ended_by : (n : ℕ) (bytes : List ℕ) → nat_lt n (length bytes) ≡ false → drop n bytes ≡ []
 ended_by n bytes h = nil_from_length (drop n bytes) (omega (arith, length-drop n bytes, ltb-false n (length bytes) h))
 
-pub decoded_spells : (bytes : List ℕ) (f : Frame) → IsBytes bytes → decoded bytes ≡ Ok f → Spells bytes f
-unfolding decoded
+pub decoded_spells : (bytes : List ℕ) (f : Frame) → IsBytes bytes → decoded_frame bytes ≡ Ok f → Spells bytes f
+unfolding decoded_frame
 decoded_spells bytes f fits e =
-    let t = front_taken (nat_lt (4 + length_field bytes) (length bytes)) bytes f fits e in
+    let t = prefix_taken (nat_lt (4 + length_field bytes) (length bytes)) bytes f fits e in
     let nothing : drop (4 + length_field bytes) bytes ≡ [] = ended_by (4 + length_field bytes) bytes t.alone in
     record { spelled = t.split ∙ ap (λ (r : List ℕ). spelling f ++ r) nothing ∙ append-nil (spelling f); formed = t.formed }
 
@@ -293,23 +293,23 @@ length_again : (f : Frame) → is_frame f ≡ true → length (spelling f) ≡ 4
 unfolding spelling
 length_again f h = length-append (to_be_bytes w32 (length (body f))) (body f)
 
-pub decoded_again : (bytes : List ℕ) (f : Frame) → Spells bytes f → decoded bytes ≡ Ok f
-unfolding decoded
+pub decoded_again : (bytes : List ℕ) (f : Frame) → Spells bytes f → decoded_frame bytes ≡ Ok f
+unfolding decoded_frame
 decoded_again bytes f s =
     let same : bytes ≡ spelling f ++ [] = s.spelled ∙ sym (append-nil (spelling f)) in
     let a = spelled_again f [] s.formed in
     let field : length_field bytes ≡ length (body f) = ap length_field same ∙ a.field in
     let size : length bytes ≡ 4 + length (body f) = ap length s.spelled ∙ length_again f s.formed in
     let alone : nat_lt (4 + length_field bytes) (length bytes) ≡ false = le-ltb (4 + length_field bytes) (length bytes) (omega arith) in
-    rw alone (ap (front_frame false) same ∙ front_again f [] s.formed)
+    rw alone (ap (prefix_frame false) same ∙ prefix_again f [] s.formed)
 
--- ---- one spelling for each frame, and none in front of another
+-- ---- one spelling for each frame, and none before another
 
 pub one_frame : (bytes : List ℕ) (f g : Frame) → Spells bytes f → Spells bytes g → f ≡ g
 one_frame bytes f g s t = same_frame f g (sym (decoded_again bytes f s) ∙ decoded_again bytes g t)
 
-pub no_front : (f g : Frame) (x y : List ℕ) → is_frame f ≡ true → is_frame g ≡ true → spelling f ++ x ≡ spelling g ++ y → (f ≡ g) × (x ≡ y)
-no_front f g x y hf hg e =
+pub no_prefix : (f g : Frame) (x y : List ℕ) → is_frame f ≡ true → is_frame g ≡ true → spelling f ++ x ≡ spelling g ++ y → (f ≡ g) × (x ≡ y)
+no_prefix f g x y hf hg e =
     let same : f ≡ g = same_frame f g (sym (frame_at_again f x hf) ∙ ap frame_at e ∙ frame_at_again g y hg) in
     let e2 : spelling g ++ x ≡ spelling g ++ y = subst (λ (h : Frame). spelling h ++ x ≡ spelling g ++ y) same e in
     (same, sym (drop_at (spelling g) x (length (spelling g)) refl) ∙ ap (drop (length (spelling g))) e2 ∙ drop_at (spelling g) y (length (spelling g)) refl)

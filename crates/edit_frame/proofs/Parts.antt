@@ -19,7 +19,7 @@ use Rattle.policy_book.specs.declared.auth.UserSet.TheVariants as users
 use Rattle.policy_book.specs.declared.auth.Auth.{Auth}
 use Rattle.policy_book.specs.declared.op.AdminOp.{AdminOp}
 use Rattle.policy_book.specs.declared.op.AdminOp.TheVariants.{AddUser, DelUser, AddObj, DelObj, AddGroup, DelGroup, AddMember, DelMember, AddAuth, DelAuth, Validate}
-use Rattle.edit_frame.specs.Fields.{Reader, constant, as_value, both, leading, passing, number_at, byte_at, short_at, name_of, name_at, numbers_at, names_at, extent_by, extent_at, user_set_by, user_set_at, sign_at, rights_of_byte, rights_at, auth_of, objects_at, auth_at, operation_rows, operation_by, operation_at}
+use Rattle.edit_frame.specs.Fields.{Reader, constant, as_value, both, then_by, when_passes, number_at, byte_at, short_at, name_of, name_at, numbers_at, names_at, extent_by, extent_at, user_set_by, user_set_at, sign_at, rights_of_byte, rights_at, auth_of, objects_at, auth_at, operation_rows, operation_by, operation_at}
 use Rattle.edit_frame.specs.Spelling.{short_bytes, name_bytes, extent_bytes, user_set_bytes, flag, rights_bytes, objects_bytes, auth_bytes, number_of, operation_fields}
 use Rattle.edit_frame.specs.Spells.{IsBytes}
 use Rattle.edit_frame.proofs.Readers.{IsBytes-rest, Took, Reads, ReadsBy, some_is, chosen, reads_both, reads_passing, reads_test, reads_via, reads_same, reads_leading, TakesRows, no_rows, more_rows, row_of, row_constant, row_again, reads_list, wide16, wide64, reads_number}
@@ -115,10 +115,10 @@ extent_fields (extents.By u) = short_bytes u
 reads_span : Reads (Name × Name) (both name_at name_at) (λ x. name_bytes x.0 ++ name_bytes x.1) (λ x. is_name x.0 && is_name x.1)
 reads_span = reads_both name_at name_at name_bytes name_bytes is_name is_name reads_name reads_name
 
-reads_elems : Reads (List Name) (leading byte_at names_at) (λ ns. length ns ∷ flat_map name_bytes ns) is_name_list
+reads_elems : Reads (List Name) (then_by byte_at names_at) (λ ns. length ns ∷ flat_map name_bytes ns) is_name_list
 reads_elems = reads_leading names_at length (flat_map name_bytes) is_name_list reads_names
 
-extent_rows : TakesRows Extent extent_kind extent_fields is_extent ((0, constant extents.All) ∷ (1, as_value (λ x. extents.Span x.0 x.1) (both name_at name_at)) ∷ (2, as_value extents.Elems (leading byte_at names_at)) ∷ (3, as_value extents.By short_at) ∷ [])
+extent_rows : TakesRows Extent extent_kind extent_fields is_extent ((0, constant extents.All) ∷ (1, as_value (λ x. extents.Span x.0 x.1) (both name_at name_at)) ∷ (2, as_value extents.Elems (then_by byte_at names_at)) ∷ (3, as_value extents.By short_at) ∷ [])
 extent_rows =
     more_rows _ _ _ 0 _ _ (row_constant extents.All 0 extent_kind extent_fields is_extent refl refl refl)
     (more_rows _ _ _ 1 _ _ (row_of (λ x. extents.Span x.0 x.1) 1 _ _ _ extent_kind extent_fields is_extent reads_span (λ x. refl) (λ x. refl) (λ x. refl))
@@ -130,7 +130,7 @@ extent_again : (x : Extent) (rest : List ℕ) → is_extent x ≡ true → exten
 unfolding extent_by
 extent_again extents.All rest h = refl
 extent_again (extents.Span a b) rest h = row_again (λ (x : Name × Name). extents.Span x.0 x.1) (both name_at name_at) (λ x. name_bytes x.0 ++ name_bytes x.1) (λ x. is_name x.0 && is_name x.1) (a, b) rest reads_span h
-extent_again (extents.Elems names) rest h = row_again extents.Elems (leading byte_at names_at) (λ ns. length ns ∷ flat_map name_bytes ns) is_name_list names rest reads_elems h
+extent_again (extents.Elems names) rest h = row_again extents.Elems (then_by byte_at names_at) (λ ns. length ns ∷ flat_map name_bytes ns) is_name_list names rest reads_elems h
 extent_again (extents.By u) rest h = row_again extents.By short_at short_bytes is_short u rest reads_short h
 
 extent_spelled : (x : Extent) → extent_bytes x ≡ extent_kind x ∷ extent_fields x
@@ -143,7 +143,7 @@ extent_spelled (extents.By u) = refl
 pub reads_extent : Reads Extent extent_at extent_bytes is_extent
 unfolding extent_at extent_by
 reads_extent =
-    reads_same (leading byte_at extent_by) extent_at (λ x. extent_kind x ∷ extent_fields x) extent_bytes is_extent is_extent
+    reads_same (then_by byte_at extent_by) extent_at (λ x. extent_kind x ∷ extent_fields x) extent_bytes is_extent is_extent
     (reads_leading extent_by extent_kind extent_fields is_extent (record { takes = extent_rows.takes; again = extent_again }))
     (λ bytes. refl) extent_spelled (λ x. refl)
 
@@ -211,7 +211,7 @@ set_spelled (users.Groups numbers) = refl
 pub reads_user_set : Reads UserSet user_set_at user_set_bytes is_user_set
 unfolding user_set_at
 reads_user_set =
-    reads_same (leading byte_at user_set_by) user_set_at (λ x. set_count x ∷ set_fields x) user_set_bytes is_user_set is_user_set
+    reads_same (then_by byte_at user_set_by) user_set_at (λ x. set_count x ∷ set_fields x) user_set_bytes is_user_set is_user_set
     (reads_leading user_set_by set_count set_fields is_user_set (record { takes = set_takes; again = set_again }))
     (λ bytes. refl) set_spelled (λ x. refl)
 
@@ -231,7 +231,7 @@ sign_here false h = (refl, refl, refl)
 
 reads_sign : Reads Bool sign_at (λ b. flag 1 b ∷ []) (λ b. true)
 unfolding sign_at
-reads_sign = reads_via (λ n. n == 1) (flag 1) (passing (λ n. nat_le n 1) byte_at) (λ n. n ∷ []) (λ n. nat_le n 1 && true) (λ b. flag 1 b ∷ []) (λ b. true)
+reads_sign = reads_via (λ n. n == 1) (flag 1) (when_passes (λ n. nat_le n 1) byte_at) (λ n. n ∷ []) (λ n. nat_le n 1 && true) (λ b. flag 1 b ∷ []) (λ b. true)
     (reads_passing (λ n. nat_le n 1) byte_at (λ n. n ∷ []) (λ n. true) reads_byte) sign_there sign_here
 
 abbrev rights_number : Rights → ℕ
@@ -263,7 +263,7 @@ flags_here false false false h = absurd cc
 
 reads_rights : Reads Rights rights_at rights_bytes has_any
 unfolding rights_at rights_bytes
-reads_rights = reads_via rights_of_byte rights_number (passing (λ n. nat_lt 0 n && nat_le n 7) byte_at) (λ n. n ∷ []) (λ n. (nat_lt 0 n && nat_le n 7) && true) rights_bytes has_any
+reads_rights = reads_via rights_of_byte rights_number (when_passes (λ n. nat_lt 0 n && nat_le n 7) byte_at) (λ n. n ∷ []) (λ n. (nat_lt 0 n && nat_le n 7) && true) rights_bytes has_any
     (reads_passing (λ n. nat_lt 0 n && nat_le n 7) byte_at (λ n. n ∷ []) (λ n. true) reads_byte) rights_there
     (λ r h. (let f = flags_here r.insert r.delete r.update h in (f.0, refl, f.1)))
 

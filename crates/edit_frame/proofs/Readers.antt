@@ -10,7 +10,7 @@ use Rattle.std.proofs.lemmas.Nat.{be_bytes_2, be_bytes_4, be_bytes_8, from_be_by
 use Rattle.element_name.specs.Cases.{when, ◌>>=◌}
 use Rattle.element_name.proofs.CaseLemmas.{bind-Some, when-Some}
 use Rattle.edit_frame.specs.Spells.{IsBytes}
-use Rattle.edit_frame.specs.Fields.{Reader, constant, as_value, both, leading, passing, choose, items_at, byte_at, number_at}
+use Rattle.edit_frame.specs.Fields.{Reader, constant, as_value, both, then_by, when_passes, choose, items_at, byte_at, number_at}
 
 pub IsBytes-drop : (n : ℕ) (bytes : List ℕ) → IsBytes bytes → IsBytes (drop n bytes)
 IsBytes-drop n bytes h i = rw get_or-drop (h (n + i))
@@ -37,7 +37,7 @@ pub chosen : {A : Type 0} (b : Bool) (x y z : A) → cond b x y ≡ z → ((b �
 chosen true x y z e = inl (refl, e)
 chosen false x y z e = inr (refl, e)
 
--- what a reader took from the front
+-- what a reader took, a prefix of the bytes
 pub record Took (bytes text rest : List ℕ) : Type 0 where
   pub parts : bytes ≡ text ++ rest
   pub rest_fits : IsBytes rest
@@ -72,7 +72,7 @@ reads_both {A} {B} p q sp sq fp fq P Q = record {
       ap (both p q) (append_assoc (sp x.0) (sq x.1) rest) ∙ rw (P.again x.0 (sq x.1 ++ rest) hs.0, Q.again x.1 rest hs.1) refl;
 }
 
-pub reads_passing : {A : Type 0} (test : A → Bool) (p : Reader A) (sp : A → List ℕ) (fp : A → Bool) → Reads A p sp fp → Reads A (passing test p) sp (λ x. test x && fp x)
+pub reads_passing : {A : Type 0} (test : A → Bool) (p : Reader A) (sp : A → List ℕ) (fp : A → Bool) → Reads A p sp fp → Reads A (when_passes test p) sp (λ x. test x && fp x)
 reads_passing {A} test p sp fp P = record {
   takes = λ bytes x fits e.
       let a = bind-Some (p bytes) (λ u. when (test u.0) u) x e in
@@ -86,7 +86,7 @@ reads_passing {A} test p sp fp P = record {
 
 -- a test that asks for more than that the value fits
 pub reads_test : {A : Type 0} (test : A → Bool) (p : Reader A) (sp : A → List ℕ) (fp : A → Bool) → Reads A p sp fp
-    → ((x : A) → test x ≡ true → fp x ≡ true) → Reads A (passing test p) sp test
+    → ((x : A) → test x ≡ true → fp x ≡ true) → Reads A (when_passes test p) sp test
 reads_test {A} test p sp fp P more = record {
   takes = λ bytes x fits e.
       let a = bind-Some (p bytes) (λ u. when (test u.0) u) x e in
@@ -126,14 +126,14 @@ reads_same {A} p q sp sq fp fq P eat espell efits = record {
 }
 
 leading_takes : {A : Type 0} (at : ℕ → Reader A) (tag : A → ℕ) (spell : A → List ℕ) (fits : A → Bool) → ReadsBy A at tag spell fits
-    → (bytes : List ℕ) (x : A × List ℕ) → IsBytes bytes → leading byte_at at bytes ≡ Some x → Took bytes (tag x.0 ∷ spell x.0) x.1 × (fits x.0 ≡ true)
+    → (bytes : List ℕ) (x : A × List ℕ) → IsBytes bytes → then_by byte_at at bytes ≡ Some x → Took bytes (tag x.0 ∷ spell x.0) x.1 × (fits x.0 ≡ true)
 unfolding byte_at
 leading_takes at tag spell fits P [] x h e = absurd cc
 leading_takes at tag spell fits P (b ∷ bytes) x h e =
     let t = P.takes b bytes x (IsBytes-rest b bytes h) e in
     (record { parts = ap (λ (k : ℕ). k ∷ bytes) (sym t.0) ∙ ap (λ (r : List ℕ). tag x.0 ∷ r) t.1.parts; rest_fits = t.1.rest_fits }, t.2)
 
-pub reads_leading : {A : Type 0} (at : ℕ → Reader A) (tag : A → ℕ) (spell : A → List ℕ) (fits : A → Bool) → ReadsBy A at tag spell fits → Reads A (leading byte_at at) (λ x. tag x ∷ spell x) fits
+pub reads_leading : {A : Type 0} (at : ℕ → Reader A) (tag : A → ℕ) (spell : A → List ℕ) (fits : A → Bool) → ReadsBy A at tag spell fits → Reads A (then_by byte_at at) (λ x. tag x ∷ spell x) fits
 unfolding byte_at
 reads_leading {A} at tag spell fits P = record {
   takes = leading_takes at tag spell fits P;
@@ -214,7 +214,7 @@ items_again item sp fp P (x ∷ xs) rest h =
 -- a list of so many that passes a test, which asks that each item fits
 pub reads_list : {A : Type 0} (test : List A → Bool) (item : Reader A) (sp : A → List ℕ) (fp : A → Bool) → Reads A item sp fp
     → ((xs : List A) → test xs ≡ true → list_all fp xs ≡ true)
-    → ReadsBy (List A) (λ n. passing test (items_at item n)) length (flat_map sp) test
+    → ReadsBy (List A) (λ n. when_passes test (items_at item n)) length (flat_map sp) test
 reads_list {A} test item sp fp P each = record {
   takes = λ k bytes x h e.
       let a = bind-Some (items_at item k bytes) (λ u. when (test u.0) u) x e in
@@ -262,10 +262,10 @@ reads_number w limit wide = record {
       let g = when-Some (nat_le (byte_len w) (length bytes)) (from_be_bytes w (take (byte_len w) bytes), drop (byte_len w) bytes) x e in
       let long : byte_len w ≤ length bytes = leb-true _ _ g.0 in
       let n = from_be_bytes w (take (byte_len w) bytes) in
-      let front : to_be_bytes w n ≡ take (byte_len w) bytes = wide.back (take (byte_len w) bytes) (omega (arith, length-take (byte_len w) bytes)) (IsBytes-take (byte_len w) bytes fits) in
+      let prefix : to_be_bytes w n ≡ take (byte_len w) bytes = wide.back (take (byte_len w) bytes) (omega (arith, length-take (byte_len w) bytes)) (IsBytes-take (byte_len w) bytes fits) in
       let below : n < limit = wide.below (take (byte_len w) bytes) (IsBytes-take (byte_len w) bytes fits) in
       subst (λ (y : ℕ × List ℕ). Took bytes (to_be_bytes w y.0) y.1 × (nat_lt y.0 limit ≡ true)) g.1
-      (record { parts = rw front (sym (take-append-drop (byte_len w) bytes)); rest_fits = IsBytes-drop (byte_len w) bytes fits }, lt-ltb _ _ below);
+      (record { parts = rw prefix (sym (take-append-drop (byte_len w) bytes)); rest_fits = IsBytes-drop (byte_len w) bytes fits }, lt-ltb _ _ below);
   again = λ n rest h.
       let len = wide.len n in
       let lt : n < limit = ltb-true _ _ h in

@@ -17,21 +17,21 @@ use Rattle.edit_frame.specs.declared.fail.FrameFail.{FrameFail}
 use Rattle.edit_frame.specs.declared.fail.FrameFail.TheVariants as fails
 use Rattle.edit_frame.specs.Gives.{FrameFails}
 use Rattle.edit_frame.specs.Fields.{Field}
-use Rattle.edit_frame.specs.Reading.{request_at, other_at, is_kind, fault_or, request_frame, ended, frame_by, frame_of, length_field, cut_fault, inner, front_frame, frame_at, takes_memory, Stream, stream_with, stream_of, stream, rest_fault}
+use Rattle.edit_frame.specs.Reading.{request_at, other_at, is_kind, fault_or, request_frame, unless_left_over, frame_by, frame_of, length_field, cut_fault, inner, prefix_frame, frame_at, takes_memory, Stream, stream_with, stream_of, stream, rest_fault}
 use Rattle.edit_frame.specs.Spelling.{body, spelling}
 use Rattle.edit_frame.specs.Spells.{IsBytes, is_frame, Spells}
-use Rattle.edit_frame.specs.Splitting.{Splitting, is_truncated, FrontGives, IsSplit, IsAllOf}
+use Rattle.edit_frame.specs.Splitting.{Splitting, is_truncated, FirstGives, IsSplit, IsAllOf}
 use Rattle.edit_frame.proofs.Readers.{IsBytes-drop, chosen}
 use Rattle.edit_frame.proofs.Outcomes.{good, bad, same_kind, no_frame}
 use Rattle.edit_frame.proofs.Cut.{whole_by}
-use Rattle.edit_frame.proofs.Frames.{front_taken, frame_at_taken, spelled_again, frame_at_again}
+use Rattle.edit_frame.proofs.Frames.{prefix_taken, frame_at_taken, spelled_again, frame_at_again}
 
 other_kind : (j k : FrameKind) → is_truncated j ≡ false → bad j ≡ bad k → is_truncated k ≡ false
 other_kind j k h e = subst (λ (x : FrameKind). is_truncated x ≡ false) (same_kind j k e) h
 
 -- ---- a whole frame's fault isn't that it is cut
 
-ended_whole : {A : Type 0} (more : Bool) (make : A → Result Frame FrameKind) (read : Field A) (k : FrameKind) → ((x : A) → make x ≡ Err k → is_truncated k ≡ false) → ended more make read ≡ Err k → is_truncated k ≡ false
+ended_whole : {A : Type 0} (more : Bool) (make : A → Result Frame FrameKind) (read : Field A) (k : FrameKind) → ((x : A) → make x ≡ Err k → is_truncated k ≡ false) → unless_left_over more make read ≡ Err k → is_truncated k ≡ false
 ended_whole more make None k each e = other_kind BadField k refl e
 ended_whole more make (Some x) k each e = elim (chosen (nat_lt 0 (length x.1) || more) (bad LeftOver) (make x.0) (Err k) e) [
   | inl c ↦ other_kind LeftOver k refl c.1
@@ -46,15 +46,15 @@ pub frame_whole : (more : Bool) (xs : List ℕ) (k : FrameKind) → frame_of mor
 unfolding frame_by
 frame_whole more [] k e = other_kind BadKind k refl e
 frame_whole more (v ∷ []) k e = other_kind BadKind k refl e
-frame_whole more (v ∷ kind ∷ bytes) k e = elim (chosen (not (is_kind v kind)) (bad BadKind) (cond (nat_le kind 3) (ended more request_frame (request_at v kind bytes)) (ended more (λ g. Ok g) (other_at kind bytes))) (Err k) e) [
+frame_whole more (v ∷ kind ∷ bytes) k e = elim (chosen (not (is_kind v kind)) (bad BadKind) (cond (nat_le kind 3) (unless_left_over more request_frame (request_at v kind bytes)) (unless_left_over more (λ g. Ok g) (other_at kind bytes))) (Err k) e) [
   | inl c ↦ other_kind BadKind k refl c.1
-  | inr c ↦ elim (chosen (nat_le kind 3) (ended more request_frame (request_at v kind bytes)) (ended more (λ g. Ok g) (other_at kind bytes)) (Err k) c.1) [
+  | inr c ↦ elim (chosen (nat_le kind 3) (unless_left_over more request_frame (request_at v kind bytes)) (unless_left_over more (λ g. Ok g) (other_at kind bytes)) (Err k) c.1) [
     | inl d ↦ ended_whole more request_frame (request_at v kind bytes) k (λ q m. accepted_whole (request_fault q) _ k m) d.1
     | inr d ↦ ended_whole more (λ g. good g) (other_at kind bytes) k (λ g m. absurd (no_frame k g (sym m))) d.1
   ]
 ]
 
--- ---- the front
+-- ---- the first frame
 
 pub cut_at : (bytes : List ℕ) (k : FrameKind) → cut_fault bytes ≡ Some k → frame_at bytes ≡ Err k
 unfolding frame_at
@@ -71,22 +71,22 @@ truncated_is (BadRequest r) h = absurd cc
 pub waits_at : (bytes : List ℕ) (k : FrameKind) → cut_fault bytes ≡ Some k → is_truncated k ≡ true → frame_at bytes ≡ Err Truncated
 waits_at bytes k e h = cut_at bytes k e ∙ ap bad (truncated_is k h)
 
-pub front_at : (bytes : List ℕ) (r : Result Frame FrameKind) → front_frame false bytes ≡ r → frame_at bytes ≡ r
+pub prefix_at : (bytes : List ℕ) (r : Result Frame FrameKind) → prefix_frame false bytes ≡ r → frame_at bytes ≡ r
 unfolding frame_at
-front_at bytes r e = e
+prefix_at bytes r e = e
 
-pub fault_at : (bytes : List ℕ) (k : FrameKind) → cut_fault bytes ≡ None → front_frame false bytes ≡ Err k → (frame_at bytes ≡ Err k) × (is_truncated k ≡ false)
-fault_at bytes k c e = (front_at bytes (Err k) e, frame_whole false (inner bytes) k (ap (λ (r : Option FrameKind). fault_or r (frame_of false (inner bytes))) (sym c) ∙ e))
+pub fault_at : (bytes : List ℕ) (k : FrameKind) → cut_fault bytes ≡ None → prefix_frame false bytes ≡ Err k → (frame_at bytes ≡ Err k) × (is_truncated k ≡ false)
+fault_at bytes k c e = (prefix_at bytes (Err k) e, frame_whole false (inner bytes) k (ap (λ (r : Option FrameKind). fault_or r (frame_of false (inner bytes))) (sym c) ∙ e))
 
-pub fails_at : (bytes : List ℕ) (fail : FrameFail) → cut_fault bytes ≡ None → FrameFails (takes_memory bytes) fail (front_frame false bytes) → FrontGives bytes (Err fail)
+pub fails_at : (bytes : List ℕ) (fail : FrameFail) → cut_fault bytes ≡ None → FrameFails (takes_memory bytes) fail (prefix_frame false bytes) → FirstGives bytes (Err fail)
 fails_at bytes fails.NoMemory c h = h
 fails_at bytes (fails.Fault k) c h = fault_at bytes k c h
 
-pub taken_at : (bytes : List ℕ) (f : Frame) → IsBytes bytes → cut_fault bytes ≡ None → front_frame false bytes ≡ Ok f
+pub taken_at : (bytes : List ℕ) (f : Frame) → IsBytes bytes → cut_fault bytes ≡ None → prefix_frame false bytes ≡ Ok f
     → (frame_at bytes ≡ Ok f) × (4 + length_field bytes ≡ 4 + length_field bytes) × (4 + length_field bytes ≤ length bytes) × (bytes ≡ spelling f ++ drop (4 + length_field bytes) bytes) × (is_frame f ≡ true)
 taken_at bytes f fits c e =
-    let t = front_taken false bytes f fits e in
-    (front_at bytes (Ok f) e, refl, (whole_by bytes c).room, t.split, t.formed)
+    let t = prefix_taken false bytes f fits e in
+    (prefix_at bytes (Ok f) e, refl, (whole_by bytes c).room, t.split, t.formed)
 
 -- ---- what was given and what is left
 
@@ -177,14 +177,14 @@ rest_fault_by (b ∷ bytes) k e h = ap (λ (r : Result Frame FrameKind). elim r 
 
 -- ---- what follows at a splitter's answers
 
-pub none_follows : (bytes : List ℕ) (o : Option (Frame × ℕ)) (s : Splitting) → o ≡ None → FrontGives bytes (Ok o) → bytes ≡ s.rest → (fed : List ℕ) (frames : List Frame) → IsSplit fed frames s → IsSplit fed frames s × IsAllOf fed frames s.rest
+pub none_follows : (bytes : List ℕ) (o : Option (Frame × ℕ)) (s : Splitting) → o ≡ None → FirstGives bytes (Ok o) → bytes ≡ s.rest → (fed : List ℕ) (frames : List Frame) → IsSplit fed frames s → IsSplit fed frames s × IsAllOf fed frames s.rest
 none_follows bytes None s is h same fed frames i = (i, all_of fed frames s Truncated i (ap frame_at (sym same) ∙ h))
 none_follows bytes (Some x) s is h same fed frames i = absurd cc
 
-pub fault_follows : (bytes : List ℕ) (fail : FrameFail) (kind : FrameKind) (s : Splitting) → fail ≡ fails.Fault kind → FrontGives bytes (Err fail) → bytes ≡ s.rest → (fed : List ℕ) (frames : List Frame) → IsSplit fed frames s
+pub fault_follows : (bytes : List ℕ) (fail : FrameFail) (kind : FrameKind) (s : Splitting) → fail ≡ fails.Fault kind → FirstGives bytes (Err fail) → bytes ≡ s.rest → (fed : List ℕ) (frames : List Frame) → IsSplit fed frames s
     → IsSplit fed frames s × IsAllOf fed frames s.rest × (rest_fault s.rest ≡ Some kind) × (is_truncated kind ≡ false)
 fault_follows bytes fail kind s is h same fed frames i =
-    let g : (frame_at bytes ≡ Err kind) × (is_truncated kind ≡ false) = subst (λ (x : FrameFail). FrontGives bytes (Err x)) is h in
+    let g : (frame_at bytes ≡ Err kind) × (is_truncated kind ≡ false) = subst (λ (x : FrameFail). FirstGives bytes (Err x)) is h in
     let e : frame_at s.rest ≡ Err kind = ap frame_at (sym same) ∙ g.0 in
     (i, all_of fed frames s kind i e, rest_fault_by s.rest kind e g.1, g.1)
 
@@ -210,7 +210,7 @@ spelled_next n bytes (Ok f) again fits e =
     let more = again after (IsBytes-drop (4 + length_field bytes) bytes fits) in
     let s : Stream = stream_of n after in
     let whole : bytes ≡ flat_map spelling (f ∷ s.frames) ++ s.rest =
-        t.split ∙ ap (λ (x : List ℕ). spelling f ++ x) more.1 ∙ sym (append_assoc (spelling f) (flat_map spelling s.frames) s.rest) ∙ ap (λ (x : List ℕ). x ++ s.rest) (sym (flat_map-cons spelling f s.frames)) in
+    t.split ∙ ap (λ (x : List ℕ). spelling f ++ x) more.1 ∙ sym (append_assoc (spelling f) (flat_map spelling s.frames) s.rest) ∙ ap (λ (x : List ℕ). x ++ s.rest) (sym (flat_map-cons spelling f s.frames)) in
     subst (λ (x : Stream). IsSpelledBy bytes x) (sym (stream_go n bytes f e)) (and_from (is_frame f) (list_all is_frame s.frames) t.formed more.0, whole)
 
 spelled_by : (n : ℕ) (bytes : List ℕ) → IsBytes bytes → IsSpelledBy bytes (stream_of n bytes)

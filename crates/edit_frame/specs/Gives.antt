@@ -22,12 +22,12 @@ Gives (Ok x) rest read = read ≡ Some (x, rest)
 Gives (Err e) rest read = read ≡ None
 
 -- the request of a draft
-abbrev pub drafted : Draft → Request
-drafted d = record { id = d.id; version = d.version; edit = d.edit }
+abbrev pub request_of_draft : Draft → Request
+request_of_draft d = record { id = d.id; version = d.version; edit = d.edit }
 
 -- the same for a request that isn't accepted yet
 abbrev pub GivesDraft : Result Draft Bad → List ℕ → Field Request → Type 0
-GivesDraft (Ok d) rest read = read ≡ Some (drafted d, rest)
+GivesDraft (Ok d) rest read = read ≡ Some (request_of_draft d, rest)
 GivesDraft (Err e) rest read = read ≡ None
 
 -- nothing is said where memory is wanting

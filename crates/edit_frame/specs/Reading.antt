@@ -12,8 +12,9 @@ use Rattle.edit_frame.specs.declared.frame.Frame.{Frame}
 use Rattle.edit_frame.specs.declared.frame.Frame.TheVariants.{Item, Turn, End}
 use Rattle.edit_frame.specs.declared.frame.FrameKind.{FrameKind}
 use Rattle.edit_frame.specs.declared.frame.FrameKind.TheVariants.{BadLength, BadKind, BadField, LeftOver, Truncated, BadRequest}
-use Rattle.edit_frame.specs.declared.limits.TheConstants.{MIN_LENGTH, MAX_LENGTH}
-use Rattle.edit_frame.specs.Fields.{Field, Reader, constant, as_value, both, passing, choose, short_at, name_at, operation_at, edit_at}
+use Rattle.edit_frame.specs.declared.limits.TheConstants.{LENGTH_BYTES, MIN_LENGTH, MAX_LENGTH}
+use Rattle.edit_frame.specs.declared.numbers.TheConstants.{PLAIN_VERSION, LONG_VERSION, INSERT_KIND, UPDATE_KIND, ENTRY_KIND, TURN_KIND, END_KIND}
+use Rattle.edit_frame.specs.Fields.{Field, Reader, constant, as_value, both, when_passes, choose, short_at, name_at, operation_at, edit_at}
 
 -- ---- the fields of a frame whose version and kind are known
 
@@ -31,21 +32,21 @@ entry_of x = record { version = x.0; op = x.1 }
 
 -- a version that an entry can make, and an operation
 unfoldable pub entry_at : Reader Entry
-entry_at bytes = as_value entry_of (passing (λ x. is_entry_version x.0) (both short_at operation_at)) bytes
+entry_at bytes = as_value entry_of (when_passes (λ x. is_entry_version x.0) (both short_at operation_at)) bytes
 
 -- the frame of a kind that is no request
 unfoldable pub other_at : ℕ → Reader Frame
 other_at kind bytes = choose kind (
-    (4, as_value (λ e. Item (Admin e)) entry_at)
-    ∷ (5, constant Turn)
-    ∷ (6, constant End)
+    (ENTRY_KIND, as_value (λ e. Item (Admin e)) entry_at)
+    ∷ (TURN_KIND, constant Turn)
+    ∷ (END_KIND, constant End)
     ∷ []) bytes
 
 -- ---- a whole frame
 
--- version 1 has the kinds 1 to 6, and version 2 has inserts and updates alone
+-- the plain version has all kinds, and that of long pieces has inserts and updates alone
 abbrev pub is_kind : ℕ → ℕ → Bool
-is_kind version kind = ((version == 1) && (nat_lt 0 kind && nat_le kind 6)) || ((version == 2) && ((kind == 1) || (kind == 3)))
+is_kind version kind = ((version == PLAIN_VERSION) && (nat_lt 0 kind && nat_le kind END_KIND)) || ((version == LONG_VERSION) && ((kind == INSERT_KIND) || (kind == UPDATE_KIND)))
 
 -- the fault, or what is read where there is none
 abbrev pub fault_or : Option FrameKind → Result Frame FrameKind → Result Frame FrameKind
@@ -57,49 +58,49 @@ abbrev pub request_frame : Request → Result Frame FrameKind
 request_frame q = fault_or (option_map BadRequest (request_fault q)) (Ok (Item (Coop q)))
 
 -- the frame of what was read, if no bytes are left over; `more` says whether some stand after the frame
-abbrev pub ended : {A : Type 0} → Bool → (A → Result Frame FrameKind) → Field A → Result Frame FrameKind
-ended more make None = Err BadField
-ended more make (Some x) = if nat_lt 0 (length x.1) || more then Err LeftOver else make x.0
+abbrev pub unless_left_over : {A : Type 0} → Bool → (A → Result Frame FrameKind) → Field A → Result Frame FrameKind
+unless_left_over more make None = Err BadField
+unless_left_over more make (Some x) = if nat_lt 0 (length x.1) || more then Err LeftOver else make x.0
 
 -- the frame of a version, a kind and fields, or the first fault
 unfoldable pub frame_by : Bool → ℕ → ℕ → List ℕ → Result Frame FrameKind
 frame_by more version kind bytes =
     if not (is_kind version kind) then Err BadKind
-    else if nat_le kind 3 then ended more request_frame (request_at version kind bytes)
-    else ended more (λ f. Ok f) (other_at kind bytes)
+    else if nat_le kind UPDATE_KIND then unless_left_over more request_frame (request_at version kind bytes)
+    else unless_left_over more (λ f. Ok f) (other_at kind bytes)
 
 -- the frame of what stands after the length field
 abbrev pub frame_of : Bool → List ℕ → Result Frame FrameKind
 frame_of more (version ∷ kind ∷ bytes) = frame_by more version kind bytes
 frame_of more bytes = Err BadKind
 
--- what the first four bytes say
+-- what the length field says
 abbrev pub length_field : List ℕ → ℕ
-length_field bytes = from_be_bytes w32 (take 4 bytes)
+length_field bytes = from_be_bytes w32 (take LENGTH_BYTES bytes)
 
--- why no whole frame stands at the front
+-- why the bytes begin with no whole frame
 unfoldable pub cut_fault : List ℕ → Option FrameKind
 cut_fault bytes = first_of (
-    when (nat_lt (length bytes) 4) Truncated
+    when (nat_lt (length bytes) LENGTH_BYTES) Truncated
     ∷ when (nat_lt (length_field bytes) MIN_LENGTH || nat_lt MAX_LENGTH (length_field bytes)) BadLength
-    ∷ when (nat_lt (length bytes) (4 + length_field bytes)) Truncated
+    ∷ when (nat_lt (length bytes) (LENGTH_BYTES + length_field bytes)) Truncated
     ∷ [])
 
 -- what stands after the length field, as far as the frame goes
 abbrev pub inner : List ℕ → List ℕ
-inner bytes = take (length_field bytes) (drop 4 bytes)
+inner bytes = take (length_field bytes) (drop LENGTH_BYTES bytes)
 
--- the frame at the front; `more` says, where a whole one stands there, whether bytes after it are a fault
-abbrev pub front_frame : Bool → List ℕ → Result Frame FrameKind
-front_frame more bytes = fault_or (cut_fault bytes) (frame_of more (inner bytes))
+-- the frame that bytes begin with; `more` says, where it is whole, whether bytes stand after it that are a fault
+abbrev pub prefix_frame : Bool → List ℕ → Result Frame FrameKind
+prefix_frame more bytes = fault_or (cut_fault bytes) (frame_of more (inner bytes))
 
--- the frame at the front of a stream, or the first fault
+-- the frame that a stream begins with, or the first fault
 unfoldable pub frame_at : List ℕ → Result Frame FrameKind
-frame_at bytes = front_frame false bytes
+frame_at bytes = prefix_frame false bytes
 
 -- the frame that is all of the bytes, or the first fault
-unfoldable pub decoded : List ℕ → Result Frame FrameKind
-decoded bytes = front_frame (nat_lt (4 + length_field bytes) (length bytes)) bytes
+unfoldable pub decoded_frame : List ℕ → Result Frame FrameKind
+decoded_frame bytes = prefix_frame (nat_lt (LENGTH_BYTES + length_field bytes) (length bytes)) bytes
 
 -- a whole frame stands at the front, of the one kind whose reading takes memory
 unfoldable pub takes_memory : List ℕ → Bool
@@ -112,7 +113,7 @@ pub record Stream : Type 0 where
   pub frames : List Frame
   pub rest : List ℕ
 
--- one more frame at the front
+-- one more frame, before the others
 abbrev pub stream_with : Frame → Stream → Stream
 stream_with f s = record { frames = f ∷ s.frames; rest = s.rest }
 
@@ -120,7 +121,7 @@ stream_with f s = record { frames = f ∷ s.frames; rest = s.rest }
 unfoldable pub stream_of : ℕ → List ℕ → Stream
 stream_of zero bytes = record { frames = []; rest = bytes }
 stream_of (suc n) bytes = elim (frame_at bytes) [
-  | Ok f ↦ stream_with f (stream_of n (drop (4 + length_field bytes) bytes))
+  | Ok f ↦ stream_with f (stream_of n (drop (LENGTH_BYTES + length_field bytes) bytes))
   | Err fault ↦ record { frames = []; rest = bytes }
 ]
 

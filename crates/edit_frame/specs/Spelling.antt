@@ -17,7 +17,8 @@ use Rattle.policy_book.specs.declared.auth.Auth.{Auth}
 use Rattle.policy_book.specs.declared.op.AdminOp.{AdminOp}
 use Rattle.policy_book.specs.declared.op.AdminOp.TheVariants.{AddUser, DelUser, AddObj, DelObj, AddGroup, DelGroup, AddMember, DelMember, AddAuth, DelAuth, Validate}
 use Rattle.edit_message.specs.declared.message.Message.TheVariants.{Coop, Admin}
-use Rattle.edit_frame.specs.declared.limits.TheConstants.{GROUPS_ABOVE}
+use Rattle.edit_frame.specs.declared.numbers.TheConstants.{PLAIN_VERSION, LONG_VERSION, INSERT_KIND, DELETE_KIND, UPDATE_KIND, ENTRY_KIND, TURN_KIND, END_KIND, EVERYTHING, SPAN, ELEMENTS, ELEMENTS_BY, EVERYONE, GROUPS_ABOVE, ALLOWING, INSERT_WORTH, DELETE_WORTH, UPDATE_WORTH}
+use Rattle.edit_frame.specs.declared.numbers.TheConstants.{ADD_USER, DEL_USER, ADD_OBJECT, DEL_OBJECT, ADD_AUTH, DEL_AUTH, VALIDATE, ADD_GROUP, DEL_GROUP, ADD_MEMBER, DEL_MEMBER}
 use Rattle.edit_frame.specs.declared.frame.Frame.{Frame}
 use Rattle.edit_frame.specs.declared.frame.Frame.TheVariants.{Item, Turn, End}
 
@@ -33,14 +34,14 @@ name_bytes n = to_be_bytes w64 (n.stamp * 2 ^ 16 + n.site)
 
 -- a kind, and what the extent of that kind has
 unfoldable pub extent_bytes : Extent → List ℕ
-extent_bytes extents.All = 0 ∷ []
-extent_bytes (extents.Span a b) = 1 ∷ name_bytes a ++ name_bytes b
-extent_bytes (extents.Elems names) = 2 ∷ length names ∷ flat_map name_bytes names
-extent_bytes (extents.By u) = 3 ∷ short_bytes u
+extent_bytes extents.All = EVERYTHING ∷ []
+extent_bytes (extents.Span a b) = SPAN ∷ name_bytes a ++ name_bytes b
+extent_bytes (extents.Elems names) = ELEMENTS ∷ length names ∷ flat_map name_bytes names
+extent_bytes (extents.By u) = ELEMENTS_BY ∷ short_bytes u
 
--- a count, raised by 16 where it is of groups, and the numbers
+-- a count, raised by GROUPS_ABOVE where it is of groups, and the numbers
 unfoldable pub user_set_bytes : UserSet → List ℕ
-user_set_bytes users.All = 0 ∷ []
+user_set_bytes users.All = EVERYONE ∷ []
 user_set_bytes (users.Listed numbers) = length numbers ∷ flat_map short_bytes numbers
 user_set_bytes (users.Groups numbers) = (length numbers + GROUPS_ABOVE) ∷ flat_map short_bytes numbers
 
@@ -50,7 +51,7 @@ flag worth b = if b then worth else 0
 
 -- the sum of the rights' worths
 unfoldable pub rights_bytes : Rights → List ℕ
-rights_bytes r = (flag 1 r.insert + flag 2 r.delete + flag 4 r.update) ∷ []
+rights_bytes r = (flag INSERT_WORTH r.insert + flag DELETE_WORTH r.delete + flag UPDATE_WORTH r.update) ∷ []
 
 -- a count, and the numbers
 unfoldable pub objects_bytes : List ℕ → List ℕ
@@ -58,21 +59,21 @@ objects_bytes numbers = length numbers ∷ flat_map short_bytes numbers
 
 -- a sign, rights, users and objects
 unfoldable pub auth_bytes : Auth → List ℕ
-auth_bytes a = (flag 1 a.grant ∷ []) ++ (rights_bytes a.rights ++ (user_set_bytes a.users ++ objects_bytes a.objects))
+auth_bytes a = (flag ALLOWING a.grant ∷ []) ++ (rights_bytes a.rights ++ (user_set_bytes a.users ++ objects_bytes a.objects))
 
 -- an operation's number
 abbrev pub number_of : AdminOp → ℕ
-number_of (AddUser u) = 1
-number_of (DelUser u) = 2
-number_of (AddObj n x) = 3
-number_of (DelObj n) = 4
-number_of (AddAuth place a) = 5
-number_of (DelAuth place) = 6
-number_of (Validate n) = 7
-number_of (AddGroup g) = 8
-number_of (DelGroup g) = 9
-number_of (AddMember g u) = 10
-number_of (DelMember g u) = 11
+number_of (AddUser u) = ADD_USER
+number_of (DelUser u) = DEL_USER
+number_of (AddObj n x) = ADD_OBJECT
+number_of (DelObj n) = DEL_OBJECT
+number_of (AddAuth place a) = ADD_AUTH
+number_of (DelAuth place) = DEL_AUTH
+number_of (Validate n) = VALIDATE
+number_of (AddGroup g) = ADD_GROUP
+number_of (DelGroup g) = DEL_GROUP
+number_of (AddMember g u) = ADD_MEMBER
+number_of (DelMember g u) = DEL_MEMBER
 
 -- what stands after its number
 unfoldable pub operation_fields : AdminOp → List ℕ
@@ -98,23 +99,23 @@ is_one_char piece = length (chars piece) == 1
 unfoldable pub letter_bytes : List ℕ → List ℕ
 letter_bytes piece = if is_one_char piece then to_be_bytes w32 (slice_index (chars piece) 0) else length piece ∷ piece
 
--- the frame version of a piece: 2 where it isn't one scalar value
+-- the frame version of a piece: that of long ones where it isn't one scalar value
 abbrev pub letter_version : List ℕ → ℕ
-letter_version piece = if is_one_char piece then 1 else 2
+letter_version piece = if is_one_char piece then PLAIN_VERSION else LONG_VERSION
 
 -- ---- a frame's bytes after its length: its version, its kind and its fields
 
 -- the frame version of an edit: that of its piece
 abbrev pub edit_version : Edit → ℕ
 edit_version (Insert after piece) = letter_version piece
-edit_version (Delete target) = 1
+edit_version (Delete target) = PLAIN_VERSION
 edit_version (Update target piece) = letter_version piece
 
 -- the kind of an edit's frame
 abbrev pub edit_kind : Edit → ℕ
-edit_kind (Insert after piece) = 1
-edit_kind (Delete target) = 2
-edit_kind (Update target piece) = 3
+edit_kind (Insert after piece) = INSERT_KIND
+edit_kind (Delete target) = DELETE_KIND
+edit_kind (Update target piece) = UPDATE_KIND
 
 -- an anchor or a target, and the piece
 unfoldable pub edit_bytes : Edit → List ℕ
@@ -125,16 +126,16 @@ edit_bytes (Update target piece) = name_bytes target ++ letter_bytes piece
 -- a frame's version
 abbrev pub version_of : Frame → ℕ
 version_of (Item (Coop q)) = edit_version q.edit
-version_of (Item (Admin e)) = 1
-version_of Turn = 1
-version_of End = 1
+version_of (Item (Admin e)) = PLAIN_VERSION
+version_of Turn = PLAIN_VERSION
+version_of End = PLAIN_VERSION
 
 -- a frame's kind
 abbrev pub kind_of : Frame → ℕ
 kind_of (Item (Coop q)) = edit_kind q.edit
-kind_of (Item (Admin e)) = 4
-kind_of Turn = 5
-kind_of End = 6
+kind_of (Item (Admin e)) = ENTRY_KIND
+kind_of Turn = TURN_KIND
+kind_of End = END_KIND
 
 -- a name, a policy version and an edit
 abbrev pub request_fields : Request → List ℕ
@@ -155,6 +156,6 @@ fields End = []
 abbrev pub body : Frame → List ℕ
 body f = version_of f ∷ kind_of f ∷ fields f
 
--- the spelling of a frame: its length in four bytes, and that many bytes
+-- the spelling of a frame: its length field, and that many bytes
 unfoldable pub spelling : Frame → List ℕ
 spelling f = to_be_bytes w32 (length (body f)) ++ body f

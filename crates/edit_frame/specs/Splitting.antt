@@ -4,6 +4,7 @@ use Rattle.std.specs.List.{flat_map, list_all}
 use Rattle.edit_frame.specs.declared.frame.Frame.{Frame}
 use Rattle.edit_frame.specs.declared.frame.FrameKind.{FrameKind}
 use Rattle.edit_frame.specs.declared.frame.FrameKind.TheVariants.{BadLength, BadKind, BadField, LeftOver, Truncated, BadRequest}
+use Rattle.edit_frame.specs.declared.limits.TheConstants.{LENGTH_BYTES}
 use Rattle.edit_frame.specs.declared.fail.FrameFail.{FrameFail}
 use Rattle.edit_frame.specs.declared.fail.FrameFail.TheVariants as frames
 use Rattle.edit_frame.specs.declared.frame.DecodeFail.{DecodeFail}
@@ -17,9 +18,9 @@ pub record Splitting : Type 0 where
   pub offset : ℕ
   pub rest : List ℕ
 
--- past the frame at the front
+-- past the first frame
 abbrev pub past_frame : Splitting → Splitting
-past_frame s = record { offset = s.offset + (4 + length_field s.rest); rest = drop (4 + length_field s.rest) s.rest }
+past_frame s = record { offset = s.offset + (LENGTH_BYTES + length_field s.rest); rest = drop (LENGTH_BYTES + length_field s.rest) s.rest }
 
 -- the rest is empty or cut, and nothing else is wrong with it
 abbrev pub IsWaiting : Splitting → Type 0
@@ -34,14 +35,14 @@ is_truncated BadField = false
 is_truncated LeftOver = false
 is_truncated (BadRequest fault) = false
 
--- what is answered about the front of the bytes: a frame and its length, nothing yet, its fault, or that memory is wanting
-abbrev pub FrontGives : List ℕ → Result (Option (Frame × ℕ)) FrameFail → Type 0
-FrontGives bytes (Ok (Some x)) =
-    (frame_at bytes ≡ Ok x.0) × (x.1 ≡ 4 + length_field bytes) × (x.1 ≤ length bytes)
+-- what is answered about the first frame of the bytes: a frame and its length, nothing yet, its fault, or that memory is wanting
+abbrev pub FirstGives : List ℕ → Result (Option (Frame × ℕ)) FrameFail → Type 0
+FirstGives bytes (Ok (Some x)) =
+    (frame_at bytes ≡ Ok x.0) × (x.1 ≡ LENGTH_BYTES + length_field bytes) × (x.1 ≤ length bytes)
     × (bytes ≡ spelling x.0 ++ drop x.1 bytes) × (is_frame x.0 ≡ true)
-FrontGives bytes (Ok None) = frame_at bytes ≡ Err Truncated
-FrontGives bytes (Err (frames.Fault kind)) = (frame_at bytes ≡ Err kind) × (is_truncated kind ≡ false)
-FrontGives bytes (Err frames.NoMemory) = IsTrue (takes_memory bytes)
+FirstGives bytes (Ok None) = frame_at bytes ≡ Err Truncated
+FirstGives bytes (Err (frames.Fault kind)) = (frame_at bytes ≡ Err kind) × (is_truncated kind ≡ false)
+FirstGives bytes (Err frames.NoMemory) = IsTrue (takes_memory bytes)
 
 -- what is answered about the next frame, and what is left
 abbrev pub NextGives : Splitting → Result (Option Frame) DecodeFail → Splitting → Type 0
@@ -53,7 +54,7 @@ NextGives old (Err decodes.NoMemory) new = IsTrue (takes_memory old.rest) × (ne
 
 -- a frame that is given is taken from the rest, so that asking again and again ends
 abbrev pub Shortens : Splitting → Result (Option Frame) DecodeFail → Splitting → Type 0
-Shortens old (Ok (Some f)) new = length new.rest + 4 ≤ length old.rest
+Shortens old (Ok (Some f)) new = length new.rest + LENGTH_BYTES ≤ length old.rest
 Shortens old (Ok None) new = Unit {0}
 Shortens old (Err fail) new = Unit {0}
 

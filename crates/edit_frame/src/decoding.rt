@@ -2,14 +2,17 @@
 ghost use Rattle.std.specs.Prelude.{◌≡◌, ◌≤◌, ◌+◌, ◌||◌, ◌==◌, true, false, nat_lt, length, slice_index, None, Ok, Err, IfOk};
 ghost use Rattle.edit_frame.specs.declared.frame.Frame.{Frame};
 ghost use Rattle.edit_frame.specs.declared.fail.FieldFail.TheVariants.{NoMemory as no_memory};
-ghost use Rattle.edit_frame.specs.Gives.{MayGive, GivesDraft, GivesFrame, GivesAt, drafted};
+ghost use Rattle.edit_frame.specs.Gives.{MayGive, GivesDraft, GivesFrame, GivesAt, request_of_draft};
 ghost use Rattle.edit_frame.specs.Reading.{is_kind, request_at, entry_at, other_at, request_frame, frame_by, frame_of, cut_fault};
-ghost use Rattle.edit_frame.specs.Reading.{length_field, inner, front_frame, decoded, takes_memory};
+ghost use Rattle.edit_frame.specs.Reading.{length_field, inner, prefix_frame, decoded_frame, takes_memory};
 ghost use Rattle.edit_frame.specs.Spells.{Spells};
 
 use crate::fail::{Bad, FieldFail, FrameFail};
 use crate::frame::{DecodeFail, Frame, FrameFault, FrameKind};
-use crate::limits::{MAX_LENGTH, MIN_LENGTH};
+use crate::limits::{LENGTH_BYTES, MAX_LENGTH, MIN_LENGTH};
+use crate::numbers::{
+    END_KIND, ENTRY_KIND, INSERT_KIND, LONG_VERSION, PLAIN_VERSION, TURN_KIND, UPDATE_KIND,
+};
 use crate::reading::{edit_of, name_of, operation_of, short_of};
 use coop_request::{Edit, Request};
 use edit_message::Message;
@@ -48,18 +51,18 @@ fn entry_of(alloc: Global, rest: &mut &[u8]) -> Result<Entry, FieldFail>
 #[tactic(auto, unfolding(crate::specs::Reading::other_at))]
 fn other_of(alloc: Global, kind: u8, rest: &mut &[u8]) -> Result<Frame, FieldFail>
     ensures read { MayGive result rest.new.now (other_at kind rest.old.now) }
-    ensures memory { result ≡ Err no_memory → (kind == 4) ≡ true }
+    ensures memory { result ≡ Err no_memory → (kind == ENTRY_KIND) ≡ true }
 {
     match kind {
-        4 => Ok(Frame::Item(Message::Admin(entry_of(alloc, rest)?))),
-        5 => Ok(Frame::Turn),
-        6 => Ok(Frame::End),
+        ENTRY_KIND => Ok(Frame::Item(Message::Admin(entry_of(alloc, rest)?))),
+        TURN_KIND => Ok(Frame::Turn),
+        END_KIND => Ok(Frame::End),
         _ => Err(FieldFail::Bad),
     }
 }
 
 fn accepted(draft: Draft) -> Result<Frame, FrameFail>
-    ensures { GivesFrame false result (request_frame (drafted draft)) }
+    ensures { GivesFrame false result (request_frame (request_of_draft draft)) }
 {
     match Request::checked(draft.id, u32::from(draft.version), draft.edit) {
         Ok(request) => Ok(Frame::Item(Message::Coop(request))),
@@ -70,7 +73,8 @@ fn accepted(draft: Draft) -> Result<Frame, FrameFail>
 fn is_kind(version: u8, kind: u8) -> bool
     ensures { result ≡ is_kind version kind }
 {
-    (version == 1 && kind > 0 && kind <= 6) || (version == 2 && (kind == 1 || kind == 3))
+    (version == PLAIN_VERSION && kind > 0 && kind <= END_KIND)
+        || (version == LONG_VERSION && (kind == INSERT_KIND || kind == UPDATE_KIND))
 }
 
 // Whether bytes stand after the last field, or after the frame.
@@ -89,13 +93,13 @@ fn frame_by(
     kind: u8,
     fields: &[u8],
 ) -> Result<Frame, FrameFail>
-    ensures { GivesFrame (kind == 4) result (frame_by more version kind fields.now) }
+    ensures { GivesFrame (kind == ENTRY_KIND) result (frame_by more version kind fields.now) }
 {
     if !is_kind(version, kind) {
         return Err(FrameFail::Fault(FrameKind::BadKind));
     }
     let mut rest = fields;
-    if kind <= 3 {
+    if kind <= UPDATE_KIND {
         let draft = draft_of(version, kind, &mut rest)?;
         if is_left(rest, more) {
             return Err(FrameFail::Fault(FrameKind::LeftOver));
@@ -110,7 +114,7 @@ fn frame_by(
 }
 
 fn frame_of(alloc: Global, more: bool, inner: &[u8]) -> Result<Frame, FrameFail>
-    ensures { GivesFrame (slice_index inner.now 1 == 4) result (frame_of more inner.now) }
+    ensures { GivesFrame (slice_index inner.now 1 == ENTRY_KIND) result (frame_of more inner.now) }
 {
     match inner {
         [version, kind, fields @ ..] => frame_by(alloc, more, *version, *kind, fields),
@@ -118,27 +122,27 @@ fn frame_of(alloc: Global, more: bool, inner: &[u8]) -> Result<Frame, FrameFail>
     }
 }
 
-// What the first four bytes say.
+// What the length field says.
 pub fn length_of(bytes: &[u8]) -> u32
-    requires { 4 ≤ length bytes.now }
+    requires { LENGTH_BYTES ≤ length bytes.now }
     ensures { result ≡ length_field bytes.now }
 {
     u32::from_be_bytes([bytes[0], bytes[1], bytes[2], bytes[3]])
 }
 
-// Why no whole frame stands at the front.
+// Why the bytes begin with no whole frame.
 #[tactic(auto, unfolding(crate::specs::Reading::cut_fault))]
 pub fn cut_fault(bytes: &[u8]) -> Option<FrameKind>
     ensures { result ≡ cut_fault bytes.now }
 {
-    if bytes.len() < 4 {
+    if bytes.len() < LENGTH_BYTES {
         return Some(FrameKind::Truncated);
     }
     let len = length_of(bytes);
     if len < MIN_LENGTH || len > MAX_LENGTH {
         return Some(FrameKind::BadLength);
     }
-    if bytes.len() < 4 + len as usize {
+    if bytes.len() < LENGTH_BYTES + len as usize {
         return Some(FrameKind::Truncated);
     }
     None
@@ -150,27 +154,27 @@ fn inner_of(bytes: &[u8]) -> &[u8]
     ensures { result.now ≡ inner bytes.now }
 {
     let len = length_of(bytes) as usize;
-    &bytes[4..4 + len]
+    &bytes[LENGTH_BYTES..LENGTH_BYTES + len]
 }
 
-// The whole frame at the front; `more` says whether bytes after it are a fault.
+// The whole frame that the bytes begin with; `more` says whether bytes after it are a fault.
 pub fn whole_frame(alloc: Global, more: bool, bytes: &[u8]) -> Result<Frame, FrameFail>
     requires { cut_fault bytes.now ≡ None }
-    ensures { GivesFrame (takes_memory bytes.now) result (front_frame more bytes.now) }
+    ensures { GivesFrame (takes_memory bytes.now) result (prefix_frame more bytes.now) }
 {
     frame_of(alloc, more, inner_of(bytes))
 }
 
 fn has_more(bytes: &[u8]) -> bool
     requires { cut_fault bytes.now ≡ None }
-    ensures { result ≡ nat_lt (4 + length_field bytes.now) (length bytes.now) }
+    ensures { result ≡ nat_lt (LENGTH_BYTES + length_field bytes.now) (length bytes.now) }
 {
-    4 + (length_of(bytes) as usize) < bytes.len()
+    LENGTH_BYTES + (length_of(bytes) as usize) < bytes.len()
 }
 
-#[tactic(auto, unfolding(crate::specs::Reading::decoded))]
+#[tactic(auto, unfolding(crate::specs::Reading::decoded_frame))]
 fn decode_all(alloc: Global, message: &[u8]) -> Result<Frame, FrameFail>
-    ensures { GivesFrame (takes_memory message.now) result (decoded message.now) }
+    ensures { GivesFrame (takes_memory message.now) result (decoded_frame message.now) }
 {
     if let Some(kind) = cut_fault(message) {
         return Err(FrameFail::Fault(kind));
@@ -185,7 +189,7 @@ pub fn decode(alloc: Global, message: &[u8]) -> Result<Frame, DecodeFail>
     // What is spelled so is given, if memory isn't wanting.
     ensures only { (f : Frame) → Spells message.now f → GivesAt 0 (takes_memory message.now) result (Ok f) }
     // The frame or the first fault, or memory is wanting, but only where an entry is read.
-    ensures exact { GivesAt 0 (takes_memory message.now) result (decoded message.now) }
+    ensures exact { GivesAt 0 (takes_memory message.now) result (decoded_frame message.now) }
 {
     match decode_all(alloc, message) {
         Ok(frame) => Ok(frame),

@@ -3,15 +3,16 @@ ghost use Rattle.std.specs.Prelude.{◌≡◌, ℕ, List, ◌++◌, ◌+◌, tak
 ghost use Rattle.std.specs.List.{flat_map, list_all};
 ghost use Rattle.edit_frame.specs.declared.frame.Frame.{Frame};
 ghost use Rattle.edit_frame.specs.declared.frame.FrameKind.{FrameKind};
+ghost use Rattle.edit_frame.specs.declared.limits.TheConstants.{LENGTH_BYTES};
 ghost use Rattle.edit_frame.specs.Spelling.{spelling};
 ghost use Rattle.edit_frame.specs.Spells.{IsBytes, is_frame, Spells};
-ghost use Rattle.edit_frame.specs.Reading.{decoded, length_field, frame_at, stream};
+ghost use Rattle.edit_frame.specs.Reading.{decoded_frame, length_field, frame_at, stream};
 ghost use Rattle.edit_frame.specs.Splitting.{is_truncated};
 
-/// What is encoded is decoded: alone, at the front of a stream, and frame after frame.
+/// What is encoded is decoded: alone, as the prefix of a stream, and frame after frame.
 pub fn encoded_is_decoded()
-    ensures alone { (f : Frame) → is_frame f ≡ true → decoded (spelling f) ≡ Ok f }
-    ensures front { (f : Frame) (rest : List ℕ) → is_frame f ≡ true → frame_at (spelling f ++ rest) ≡ Ok f }
+    ensures alone { (f : Frame) → is_frame f ≡ true → decoded_frame (spelling f) ≡ Ok f }
+    ensures prefix { (f : Frame) (rest : List ℕ) → is_frame f ≡ true → frame_at (spelling f ++ rest) ≡ Ok f }
     ensures all { (frames : List Frame) (rest : List ℕ) (kind : FrameKind)
         → list_all is_frame frames ≡ true → frame_at rest ≡ Err kind
         → stream (flat_map spelling frames ++ rest) ≡ record { frames = frames; rest = rest } }
@@ -20,9 +21,9 @@ pub fn encoded_is_decoded()
 /// What is read of bytes is spelled by them: alone, by the prefix of a stream, and frame after frame, down to a rest that
 /// begins with no frame. So nothing is read that isn't a frame, whether memory is wanting or not.
 pub fn decoded_is_encoded()
-    ensures alone { (bytes : List ℕ) (f : Frame) → IsBytes bytes → decoded bytes ≡ Ok f → Spells bytes f }
+    ensures alone { (bytes : List ℕ) (f : Frame) → IsBytes bytes → decoded_frame bytes ≡ Ok f → Spells bytes f }
     ensures prefix { (bytes : List ℕ) (f : Frame)
-        → IsBytes bytes → frame_at bytes ≡ Ok f → Spells (take (4 + length_field bytes) bytes) f }
+        → IsBytes bytes → frame_at bytes ≡ Ok f → Spells (take (LENGTH_BYTES + length_field bytes) bytes) f }
     ensures all { (bytes : List ℕ) → IsBytes bytes
         → (list_all is_frame (stream bytes).frames ≡ true) × (bytes ≡ flat_map spelling (stream bytes).frames ++ (stream bytes).rest) }
     ensures rest { (bytes : List ℕ) → IsBytes bytes → (kind : FrameKind) × (frame_at (stream bytes).rest ≡ Err kind) }
@@ -32,7 +33,7 @@ pub fn decoded_is_encoded()
 pub fn one_spelling()
     ensures frame { (bytes : List ℕ) (f g : Frame) → Spells bytes f → Spells bytes g → f ≡ g }
     ensures spelling { (a b : List ℕ) (f : Frame) → Spells a f → Spells b f → a ≡ b }
-    ensures front { (a b x y : List ℕ) (f g : Frame)
+    ensures prefix { (a b x y : List ℕ) (f g : Frame)
         → Spells a f → Spells b g → a ++ x ≡ b ++ y → (f ≡ g) × (a ≡ b) × (x ≡ y) }
 {}
 

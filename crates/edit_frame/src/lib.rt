@@ -6,6 +6,7 @@ mod fail;
 mod frame;
 pub mod laws;
 mod limits;
+mod numbers;
 mod reading;
 mod splitter;
 mod writing;

@@ -1,4 +1,7 @@
-//! Numbers of the format.
+//! Lengths and ranges of the format.
+
+/// How many bytes the length field has.
+pub const LENGTH_BYTES: usize = 4;
 
 /// The least length field, of a frame that has a version and a kind and no fields.
 pub const MIN_LENGTH: u32 = 2;
@@ -6,5 +9,5 @@ pub const MIN_LENGTH: u32 = 2;
 /// The greatest length field, of an insert or an update with a piece of 255 bytes.
 pub const MAX_LENGTH: u32 = 276;
 
-/// Up to this a count of users is one of listed users, and above it one of groups, with this taken off.
-pub const GROUPS_ABOVE: u8 = 16;
+/// How many sites there are: a name's number is its stamp, so many times, and its site.
+pub const SITES: u64 = 65_536;

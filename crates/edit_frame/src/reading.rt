@@ -1,4 +1,4 @@
-//! The fields of a frame, each read from the front of the bytes.
+//! The fields of a frame, each read as a prefix of the bytes.
 ghost use Rattle.std.specs.Prelude.{◌≡◌, ◌<◌, slice_index};
 ghost use Rattle.std.specs.Str.{chars};
 ghost use Rattle.std.specs.Int.{w32, w64};
@@ -7,11 +7,17 @@ ghost use Rattle.coop_request.specs.Piece.{is_piece};
 ghost use Rattle.edit_frame.specs.Spelling.{is_one_char};
 ghost use Rattle.edit_frame.specs.Fields.{number_at, byte_at, short_at, name_at, items_at, numbers_at, names_at, extent_at};
 ghost use Rattle.edit_frame.specs.Fields.{user_set_at, sign_at, has_bit, rights_at, objects_at, auth_at, operation_at, char_at, bytes_at};
-ghost use Rattle.edit_frame.specs.Fields.{long_piece_at, letter_at, edit_at, passing};
+ghost use Rattle.edit_frame.specs.Fields.{long_piece_at, letter_at, edit_at, when_passes};
 ghost use Rattle.edit_frame.specs.Gives.{Gives, MayGive, MayGiveItems};
 
 use crate::fail::{Bad, FieldFail};
-use crate::limits::GROUPS_ABOVE;
+use crate::limits::SITES;
+use crate::numbers::{
+    ADD_AUTH, ADD_GROUP, ADD_MEMBER, ADD_OBJECT, ADD_USER, ALL_RIGHTS, ALLOWING, DEL_AUTH,
+    DEL_GROUP, DEL_MEMBER, DEL_OBJECT, DEL_USER, DELETE_KIND, DELETE_WORTH, ELEMENTS, ELEMENTS_BY,
+    EVERYONE, EVERYTHING, GROUPS_ABOVE, INSERT_KIND, INSERT_WORTH, PLAIN_VERSION, SPAN,
+    UPDATE_KIND, UPDATE_WORTH, VALIDATE,
+};
 use bytes::Buf;
 use coop_request::{Edit, Piece};
 use element_name::Name;
@@ -49,7 +55,7 @@ pub fn name_of(rest: &mut &[u8]) -> Result<Name, Bad>
     ensures { Gives result rest.new.now (name_at rest.old.now) }
 {
     let number = u64_of(rest)?;
-    Name::read(number / 65536, (number % 65536) as u16).ok_or(Bad)
+    Name::read(number / SITES, (number % SITES) as u16).ok_or(Bad)
 }
 
 fn shorts_of(alloc: Global, count: u8, rest: &mut &[u8]) -> Result<Vec<u16>, FieldFail>
@@ -95,13 +101,13 @@ fn extent_of(alloc: Global, rest: &mut &[u8]) -> Result<Extent, FieldFail>
     ensures { MayGive result rest.new.now (extent_at rest.old.now) }
 {
     match byte_of(rest)? {
-        0 => Ok(Extent::All),
-        1 => Ok(Extent::Span(name_of(rest)?, name_of(rest)?)),
-        2 => {
+        EVERYTHING => Ok(Extent::All),
+        SPAN => Ok(Extent::Span(name_of(rest)?, name_of(rest)?)),
+        ELEMENTS => {
             let count = byte_of(rest)?;
             Ok(Extent::Elems(names_of(alloc, count, rest)?))
         }
-        3 => Ok(Extent::By(short_of(rest)?)),
+        ELEMENTS_BY => Ok(Extent::By(short_of(rest)?)),
         _ => Err(FieldFail::Bad),
     }
 }
@@ -111,7 +117,7 @@ fn user_set_of(alloc: Global, rest: &mut &[u8]) -> Result<UserSet, FieldFail>
     ensures { MayGive result rest.new.now (user_set_at rest.old.now) }
 {
     let count = byte_of(rest)?;
-    if count == 0 {
+    if count == EVERYONE {
         return Ok(UserSet::All);
     }
     if count <= GROUPS_ABOVE {
@@ -125,10 +131,10 @@ fn sign_of(rest: &mut &[u8]) -> Result<bool, Bad>
     ensures { Gives result rest.new.now (sign_at rest.old.now) }
 {
     let number = byte_of(rest)?;
-    if number > 1 {
+    if number > ALLOWING {
         return Err(Bad);
     }
-    Ok(number == 1)
+    Ok(number == ALLOWING)
 }
 
 // Whether the bit of this worth is set.
@@ -144,10 +150,13 @@ fn rights_of(rest: &mut &[u8]) -> Result<Rights, Bad>
     ensures { Gives result rest.new.now (rights_at rest.old.now) }
 {
     let number = byte_of(rest)?;
-    if number > 7 {
+    if number > ALL_RIGHTS {
         return Err(Bad);
     }
-    Rights::checked(has_bit(1, number), has_bit(2, number), has_bit(4, number)).ok_or(Bad)
+    let insert = has_bit(INSERT_WORTH, number);
+    let delete = has_bit(DELETE_WORTH, number);
+    let update = has_bit(UPDATE_WORTH, number);
+    Rights::checked(insert, delete, update).ok_or(Bad)
 }
 
 #[tactic(auto, unfolding(crate::specs::Fields::objects_at))]
@@ -179,20 +188,20 @@ pub fn operation_of(alloc: Global, rest: &mut &[u8]) -> Result<AdminOp, FieldFai
     ensures { MayGive result rest.new.now (operation_at rest.old.now) }
 {
     match byte_of(rest)? {
-        1 => Ok(AdminOp::AddUser(short_of(rest)?)),
-        2 => Ok(AdminOp::DelUser(short_of(rest)?)),
-        3 => Ok(AdminOp::AddObj(short_of(rest)?, extent_of(alloc, rest)?)),
-        4 => Ok(AdminOp::DelObj(short_of(rest)?)),
-        5 => Ok(AdminOp::AddAuth(short_of(rest)?, auth_of(alloc, rest)?)),
-        6 => Ok(AdminOp::DelAuth(short_of(rest)?)),
-        7 => Ok(AdminOp::Validate(name_of(rest)?)),
-        8 => Ok(AdminOp::AddGroup(short_of(rest)?)),
-        9 => Ok(AdminOp::DelGroup(short_of(rest)?)),
-        10 => Ok(AdminOp::AddMember {
+        ADD_USER => Ok(AdminOp::AddUser(short_of(rest)?)),
+        DEL_USER => Ok(AdminOp::DelUser(short_of(rest)?)),
+        ADD_OBJECT => Ok(AdminOp::AddObj(short_of(rest)?, extent_of(alloc, rest)?)),
+        DEL_OBJECT => Ok(AdminOp::DelObj(short_of(rest)?)),
+        ADD_AUTH => Ok(AdminOp::AddAuth(short_of(rest)?, auth_of(alloc, rest)?)),
+        DEL_AUTH => Ok(AdminOp::DelAuth(short_of(rest)?)),
+        VALIDATE => Ok(AdminOp::Validate(name_of(rest)?)),
+        ADD_GROUP => Ok(AdminOp::AddGroup(short_of(rest)?)),
+        DEL_GROUP => Ok(AdminOp::DelGroup(short_of(rest)?)),
+        ADD_MEMBER => Ok(AdminOp::AddMember {
             group: short_of(rest)?,
             user: short_of(rest)?,
         }),
-        11 => Ok(AdminOp::DelMember {
+        DEL_MEMBER => Ok(AdminOp::DelMember {
             group: short_of(rest)?,
             user: short_of(rest)?,
         }),
@@ -224,15 +233,15 @@ pub fn only_char(piece: &Piece) -> Option<char>
 
 #[tactic(auto, unfolding(crate::specs::Fields::bytes_at))]
 fn piece_bytes_of(count: u8, rest: &mut &[u8]) -> Result<Piece, Bad>
-    ensures { Gives result rest.new.now (passing is_piece (bytes_at count) rest.old.now) }
+    ensures { Gives result rest.new.now (when_passes is_piece (bytes_at count) rest.old.now) }
 {
     let count = count as usize;
     if rest.len() < count {
         return Err(Bad);
     }
-    let (front, after) = rest.split_at(count);
+    let (prefix, after) = rest.split_at(count);
     *rest = after;
-    Piece::checked(front).ok_or(Bad)
+    Piece::checked(prefix).ok_or(Bad)
 }
 
 #[tactic(auto, unfolding(crate::specs::Fields::long_piece_at, crate::specs::Fields::is_long_piece))]
@@ -251,7 +260,7 @@ fn long_piece_of(rest: &mut &[u8]) -> Result<Piece, Bad>
 fn letter_of(version: u8, rest: &mut &[u8]) -> Result<Piece, Bad>
     ensures { Gives result rest.new.now (letter_at version rest.old.now) }
 {
-    if version == 1 {
+    if version == PLAIN_VERSION {
         char_of(rest)
     } else {
         long_piece_of(rest)
@@ -263,14 +272,14 @@ pub fn edit_of(version: u8, kind: u8, rest: &mut &[u8]) -> Result<Edit, Bad>
     ensures { Gives result rest.new.now (edit_at version kind rest.old.now) }
 {
     match kind {
-        1 => Ok(Edit::Insert {
+        INSERT_KIND => Ok(Edit::Insert {
             after: name_of(rest)?,
             letter: letter_of(version, rest)?,
         }),
-        2 => Ok(Edit::Delete {
+        DELETE_KIND => Ok(Edit::Delete {
             target: name_of(rest)?,
         }),
-        3 => Ok(Edit::Update {
+        UPDATE_KIND => Ok(Edit::Update {
             target: name_of(rest)?,
             letter: letter_of(version, rest)?,
         }),

@@ -2,11 +2,12 @@
 ghost use Rattle.std.specs.Prelude.{◌≡◌, ℕ, ◌+◌, ◌^◌, ◌<◌, List, [], ◌++◌, length, OnOk, OnErr, MatchResult};
 ghost use Rattle.edit_frame.specs.declared.frame.Frame.{Frame};
 ghost use Rattle.edit_frame.specs.declared.frame.FrameKind.TheVariants.{Truncated};
-ghost use Rattle.edit_frame.specs.Splitting.{NextGives, IsSplit, IsWaiting, Follows, FrontGives, Shortens, is_truncated};
+ghost use Rattle.edit_frame.specs.Splitting.{NextGives, IsSplit, IsWaiting, Follows, FirstGives, Shortens, is_truncated};
 
 use crate::decoding::{cut_fault, length_of, whole_frame};
 use crate::fail::FrameFail;
 use crate::frame::{DecodeFail, Frame, FrameFault, FrameKind};
+use crate::limits::LENGTH_BYTES;
 use bytes::{Buf, BytesMut};
 use element_name::NoMemory;
 use std::alloc::Global;
@@ -70,7 +71,7 @@ impl Splitter {
         ensures follows { (fed : List ℕ) (frames : List Frame)
             → IsSplit fed frames self.old → Follows fed frames result self.new }
     {
-        match front_of(self.alloc, self.buffer.as_slice()) {
+        match first_frame(self.alloc, self.buffer.as_slice()) {
             Ok(Some((frame, len))) => {
                 self.buffer.advance(len);
                 self.offset += len as u64;
@@ -107,9 +108,9 @@ fn is_truncated(kind: FrameKind) -> bool
     matches!(kind, FrameKind::Truncated)
 }
 
-// The frame at the front with its length, if its bytes are there.
-fn front_of(alloc: Global, bytes: &[u8]) -> Result<Option<(Frame, usize)>, FrameFail>
-    ensures { FrontGives bytes.now result }
+// The first frame with its length, if its bytes are there.
+fn first_frame(alloc: Global, bytes: &[u8]) -> Result<Option<(Frame, usize)>, FrameFail>
+    ensures { FirstGives bytes.now result }
 {
     if let Some(kind) = cut_fault(bytes) {
         if is_truncated(kind) {
@@ -117,7 +118,7 @@ fn front_of(alloc: Global, bytes: &[u8]) -> Result<Option<(Frame, usize)>, Frame
         }
         return Err(FrameFail::Fault(kind));
     }
-    let len = 4 + length_of(bytes) as usize;
+    let len = LENGTH_BYTES + length_of(bytes) as usize;
     let frame = whole_frame(alloc, false, bytes)?;
     Ok(Some((frame, len)))
 }

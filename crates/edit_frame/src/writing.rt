@@ -7,7 +7,13 @@ ghost use Rattle.edit_frame.specs.Spelling.{body, spelling};
 ghost use Rattle.edit_frame.specs.Spells.{is_frame, Spells};
 
 use crate::frame::Frame;
-use crate::limits::GROUPS_ABOVE;
+use crate::limits::{LENGTH_BYTES, MAX_LENGTH, SITES};
+use crate::numbers::{
+    ADD_AUTH, ADD_GROUP, ADD_MEMBER, ADD_OBJECT, ADD_USER, ALLOWING, DEL_AUTH, DEL_GROUP,
+    DEL_MEMBER, DEL_OBJECT, DEL_USER, DELETE_KIND, DELETE_WORTH, ELEMENTS, ELEMENTS_BY, END_KIND,
+    ENTRY_KIND, EVERYONE, EVERYTHING, GROUPS_ABOVE, INSERT_KIND, INSERT_WORTH, LONG_VERSION,
+    PLAIN_VERSION, SPAN, TURN_KIND, UPDATE_KIND, UPDATE_WORTH, VALIDATE,
+};
 use crate::reading::only_char;
 use bytes::{BufMut, BytesMut};
 use coop_request::{Edit, Piece, Request};
@@ -27,7 +33,7 @@ fn put_short(out: &mut BytesMut, n: u16) -> Result<(), AllocError>
 fn put_name(out: &mut BytesMut, n: Name) -> Result<(), AllocError>
     ensures { OnOk result (out.new.items ≡ out.old.items ++ name_bytes n) }
 {
-    out.put_u64(n.stamp() * 65536 + u64::from(n.site()))
+    out.put_u64(n.stamp() * SITES + u64::from(n.site()))
 }
 
 fn put_shorts(out: &mut BytesMut, numbers: &[u16]) -> Result<(), AllocError>
@@ -50,7 +56,7 @@ fn put_names(out: &mut BytesMut, names: &[Name]) -> Result<(), AllocError>
 
 // A count, to which `more` is added, and the numbers.
 fn put_numbers(out: &mut BytesMut, more: u8, numbers: &NumList) -> Result<(), AllocError>
-    requires { more ≤ 16 }
+    requires { more ≤ GROUPS_ABOVE }
     ensures { OnOk result (out.new.items ≡ out.old.items ++ ((length numbers.now + more) ∷ flat_map short_bytes numbers.now)) }
 {
     let numbers = numbers.as_slice();
@@ -63,20 +69,20 @@ fn put_extent(out: &mut BytesMut, x: &Extent) -> Result<(), AllocError>
     ensures { OnOk result (out.new.items ≡ out.old.items ++ extent_bytes x.now) }
 {
     match x {
-        Extent::All => out.put_u8(0),
+        Extent::All => out.put_u8(EVERYTHING),
         Extent::Span(first, last) => {
-            out.put_u8(1)?;
+            out.put_u8(SPAN)?;
             put_name(out, *first)?;
             put_name(out, *last)
         }
         Extent::Elems(names) => {
             let names = names.as_slice();
-            out.put_u8(2)?;
+            out.put_u8(ELEMENTS)?;
             out.put_u8(names.len() as u8)?;
             put_names(out, names)
         }
         Extent::By(user) => {
-            out.put_u8(3)?;
+            out.put_u8(ELEMENTS_BY)?;
             put_short(out, *user)
         }
     }
@@ -87,7 +93,7 @@ fn put_user_set(out: &mut BytesMut, users: &UserSet) -> Result<(), AllocError>
     ensures { OnOk result (out.new.items ≡ out.old.items ++ user_set_bytes users.now) }
 {
     match users {
-        UserSet::All => out.put_u8(0),
+        UserSet::All => out.put_u8(EVERYONE),
         UserSet::Listed(numbers) => put_numbers(out, 0, numbers),
         UserSet::Groups(numbers) => put_numbers(out, GROUPS_ABOVE, numbers),
     }
@@ -103,15 +109,17 @@ fn flag(worth: u8, set: bool) -> u8
 fn put_rights(out: &mut BytesMut, r: Rights) -> Result<(), AllocError>
     ensures { OnOk result (out.new.items ≡ out.old.items ++ rights_bytes r) }
 {
-    let number = flag(1, r.insert()) + flag(2, r.delete()) + flag(4, r.update());
-    out.put_u8(number)
+    let insert = flag(INSERT_WORTH, r.insert());
+    let delete = flag(DELETE_WORTH, r.delete());
+    let update = flag(UPDATE_WORTH, r.update());
+    out.put_u8(insert + delete + update)
 }
 
 #[tactic(auto, unfolding(crate::specs::Spelling::auth_bytes, crate::specs::Spelling::objects_bytes))]
 fn put_auth(out: &mut BytesMut, a: &Auth) -> Result<(), AllocError>
     ensures { OnOk result (out.new.items ≡ out.old.items ++ auth_bytes a.now) }
 {
-    out.put_u8(flag(1, a.grant))?;
+    out.put_u8(flag(ALLOWING, a.grant))?;
     put_rights(out, a.rights)?;
     put_user_set(out, &a.users)?;
     put_numbers(out, 0, &a.objects)
@@ -121,17 +129,17 @@ fn number_of(op: &AdminOp) -> u8
     ensures { result ≡ number_of op.now }
 {
     match op {
-        AdminOp::AddUser(_) => 1,
-        AdminOp::DelUser(_) => 2,
-        AdminOp::AddObj(_, _) => 3,
-        AdminOp::DelObj(_) => 4,
-        AdminOp::AddAuth(_, _) => 5,
-        AdminOp::DelAuth(_) => 6,
-        AdminOp::Validate(_) => 7,
-        AdminOp::AddGroup(_) => 8,
-        AdminOp::DelGroup(_) => 9,
-        AdminOp::AddMember { .. } => 10,
-        AdminOp::DelMember { .. } => 11,
+        AdminOp::AddUser(_) => ADD_USER,
+        AdminOp::DelUser(_) => DEL_USER,
+        AdminOp::AddObj(_, _) => ADD_OBJECT,
+        AdminOp::DelObj(_) => DEL_OBJECT,
+        AdminOp::AddAuth(_, _) => ADD_AUTH,
+        AdminOp::DelAuth(_) => DEL_AUTH,
+        AdminOp::Validate(_) => VALIDATE,
+        AdminOp::AddGroup(_) => ADD_GROUP,
+        AdminOp::DelGroup(_) => DEL_GROUP,
+        AdminOp::AddMember { .. } => ADD_MEMBER,
+        AdminOp::DelMember { .. } => DEL_MEMBER,
     }
 }
 
@@ -196,7 +204,11 @@ fn put_edit(out: &mut BytesMut, e: &Edit) -> Result<(), AllocError>
 fn letter_version(piece: &Piece) -> u8
     ensures { result ≡ letter_version piece.now }
 {
-    if only_char(piece).is_some() { 1 } else { 2 }
+    if only_char(piece).is_some() {
+        PLAIN_VERSION
+    } else {
+        LONG_VERSION
+    }
 }
 
 fn edit_version(e: &Edit) -> u8
@@ -204,7 +216,7 @@ fn edit_version(e: &Edit) -> u8
 {
     match e {
         Edit::Insert { letter, .. } | Edit::Update { letter, .. } => letter_version(letter),
-        Edit::Delete { .. } => 1,
+        Edit::Delete { .. } => PLAIN_VERSION,
     }
 }
 
@@ -212,9 +224,9 @@ fn edit_kind(e: &Edit) -> u8
     ensures { result ≡ edit_kind e.now }
 {
     match e {
-        Edit::Insert { .. } => 1,
-        Edit::Delete { .. } => 2,
-        Edit::Update { .. } => 3,
+        Edit::Insert { .. } => INSERT_KIND,
+        Edit::Delete { .. } => DELETE_KIND,
+        Edit::Update { .. } => UPDATE_KIND,
     }
 }
 
@@ -230,10 +242,10 @@ fn put_request(out: &mut BytesMut, q: Request) -> Result<(), AllocError>
 }
 
 fn put_entry(out: &mut BytesMut, e: &Entry) -> Result<(), AllocError>
-    ensures { OnOk result (out.new.items ≡ out.old.items ++ (1 ∷ 4 ∷ entry_fields e.now)) }
+    ensures { OnOk result (out.new.items ≡ out.old.items ++ (PLAIN_VERSION ∷ ENTRY_KIND ∷ entry_fields e.now)) }
 {
-    out.put_u8(1)?;
-    out.put_u8(4)?;
+    out.put_u8(PLAIN_VERSION)?;
+    out.put_u8(ENTRY_KIND)?;
     put_short(out, e.version() as u16)?;
     out.put_u8(number_of(e.op()))?;
     put_operation(out, e.op())
@@ -247,12 +259,12 @@ fn put_body(out: &mut BytesMut, f: &Frame) -> Result<(), AllocError>
         Frame::Item(Message::Coop(request)) => put_request(out, *request),
         Frame::Item(Message::Admin(entry)) => put_entry(out, entry),
         Frame::Turn => {
-            out.put_u8(1)?;
-            out.put_u8(5)
+            out.put_u8(PLAIN_VERSION)?;
+            out.put_u8(TURN_KIND)
         }
         Frame::End => {
-            out.put_u8(1)?;
-            out.put_u8(6)
+            out.put_u8(PLAIN_VERSION)?;
+            out.put_u8(END_KIND)
         }
     }
 }
@@ -270,7 +282,7 @@ fn frame_in_range(f: &Frame)
 }
 
 #[tactic(auto, unfolding(crate::specs::Spelling::spelling))]
-fn spelled(alloc: Global, frame: &Frame) -> Result<BytesMut, AllocError>
+fn spelling_of(alloc: Global, frame: &Frame) -> Result<BytesMut, AllocError>
     ensures { IfOk result (λ b. b.items ≡ spelling frame.now) }
 {
     frame_in_range(frame);
@@ -290,7 +302,7 @@ pub fn encode(alloc: Global, frame: &Frame, out: &mut Vec<u8>) -> Result<(), NoM
     ensures err { OnErr result (out.new.items ≡ out.old.items) }
 {
     frame_in_range(frame);
-    let bytes = spelled(alloc, frame)?;
+    let bytes = spelling_of(alloc, frame)?;
     out.extend_from_slice(bytes.as_slice())?;
     Ok(())
 }

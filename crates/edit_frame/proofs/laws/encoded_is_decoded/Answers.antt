@@ -8,8 +8,8 @@ use Rattle.edit_frame.proofs.laws.encoded_is_decoded.Goals as goal
 pub returns-clause-alone : goal.returns-clause-alone
 returns-clause-alone c = λ f h. decoded_again (spelling f) f (record { spelled = refl; formed = h })
 
-pub returns-clause-front : goal.returns-clause-front
-returns-clause-front c = frame_at_again
+pub returns-clause-prefix : goal.returns-clause-prefix
+returns-clause-prefix c = frame_at_again
 
 pub returns-clause-all : goal.returns-clause-all
 returns-clause-all c = λ frames rest kind h e.

@@ -2,7 +2,7 @@ use Rattle.std.proofs.lemmas.Result.{err_from_is_err_and}
 use Rattle.std.proofs.Common.{sym, arith}
 use Rattle.edit_frame.proofs.Cut.{whole_by}
 use Rattle.edit_frame.proofs.Streams.{waits_at, cut_at, taken_at, fails_at}
-use Rattle.edit_frame.proofs.splitter.front_of.Goals as goal
+use Rattle.edit_frame.proofs.splitter.first_frame.Goals as goal
 
 pub returns-then-is_truncated : goal.returns-then-is_truncated
 returns-then-is_truncated c = waits_at c.args.bytes.now c.in-Some.kind (sym c.in-Some.ensures) (sym c.if-is_truncated.ensures)
