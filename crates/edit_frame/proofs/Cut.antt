@@ -1,8 +1,7 @@
 -- What stands before a frame: its length field, and enough bytes.
 use Rattle.std.proofs.Common.{◌≡◌, ℕ, ◌+◌, ◌≤◌, ◌<◌, Bool, ◌&&◌, ◌||◌, List, [], ◌∷◌, length, drop, Option, None, Result, refl, sym, ap, subst, ◌∙◌, arith}
-use Rattle.std.specs.Prelude.{◌==◌, nat_lt, is_none, slice_index}
+use Rattle.std.specs.Prelude.{nat_lt, is_none}
 use Rattle.std.proofs.lemmas.Bool.{ltb-false, le-ltb, or_parts}
-use Rattle.std.proofs.lemmas.List.{get_or-drop, get_or-take}
 use Rattle.element_name.specs.Cases.{when}
 use Rattle.element_name.proofs.CaseLemmas.{when-None, first_of-None}
 use Rattle.edit_frame.specs.declared.frame.FrameKind.TheVariants.{BadLength, Truncated}
@@ -10,7 +9,7 @@ use Rattle.edit_frame.specs.declared.frame.Frame.{Frame}
 use Rattle.edit_frame.specs.declared.frame.FrameKind.{FrameKind}
 use Rattle.edit_frame.specs.declared.fail.FrameFail.{FrameFail}
 use Rattle.edit_frame.specs.Gives.{GivesFrame}
-use Rattle.edit_frame.specs.Reading.{fault_or, frame_of, length_field, cut_fault, inner, prefix_frame, takes_memory}
+use Rattle.edit_frame.specs.Reading.{fault_or, frame_of, length_field, cut_fault, inner, prefix_frame, has_listing, takes_memory}
 
 -- the bytes begin with a whole frame
 pub record IsWhole (bytes : List ℕ) : Type 0 where
@@ -41,22 +40,15 @@ by_whole bytes h = rw (le-ltb _ _ h.field, le-ltb _ _ h.low, le-ltb _ _ h.high, 
 
 -- ---- whether reading takes memory
 
--- the kind stands behind the length field and the version
-kind_inside : (bytes : List ℕ) → IsWhole bytes → slice_index bytes 5 ≡ slice_index (inner bytes) 1
-kind_inside bytes w =
-    let more : 1 < length_field bytes = omega (arith, w.low) in
-    sym (get_or-take (length_field bytes) (drop 4 bytes) 1 0 more ∙ rw get_or-drop refl)
-
-takes_inside : (bytes : List ℕ) → cut_fault bytes ≡ None → takes_memory bytes ≡ (slice_index (inner bytes) 1 == 4)
+takes_inside : (bytes : List ℕ) → cut_fault bytes ≡ None → takes_memory bytes ≡ has_listing (inner bytes)
 unfolding takes_memory
-takes_inside bytes e =
-    ap (λ (k : Option FrameKind). is_none k && (slice_index bytes 5 == 4)) e ∙ ap (λ (n : ℕ). n == 4) (kind_inside bytes (whole_by bytes e))
+takes_inside bytes e = ap (λ (k : Option FrameKind). is_none k && has_listing (inner bytes)) e
 
 -- what is answered about the bytes after the length field is the answer about the whole frame
 pub whole_gives : (more : Bool) (bytes inside : List ℕ) (r : Result Frame FrameFail) → cut_fault bytes ≡ None → inside ≡ inner bytes
-    → GivesFrame (slice_index inside 1 == 4) r (frame_of more inside) → GivesFrame (takes_memory bytes) r (prefix_frame more bytes)
+    → GivesFrame (has_listing inside) r (frame_of more inside) → GivesFrame (takes_memory bytes) r (prefix_frame more bytes)
 whole_gives more bytes inside r e same h =
-    let at_inner = subst (λ (x : List ℕ). GivesFrame (slice_index x 1 == 4) r (frame_of more x)) same h in
+    let at_inner = subst (λ (x : List ℕ). GivesFrame (has_listing x) r (frame_of more x)) same h in
     let whole : frame_of more (inner bytes) ≡ prefix_frame more bytes = ap (λ (k : Option FrameKind). fault_or k (frame_of more (inner bytes))) (sym e) in
-    let at_prefix = subst (λ (x : Result Frame FrameKind). GivesFrame (slice_index (inner bytes) 1 == 4) r x) whole at_inner in
+    let at_prefix = subst (λ (x : Result Frame FrameKind). GivesFrame (has_listing (inner bytes)) r x) whole at_inner in
     subst (λ (b : Bool). GivesFrame b r (prefix_frame more bytes)) (sym (takes_inside bytes e)) at_prefix

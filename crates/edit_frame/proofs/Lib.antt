@@ -4,6 +4,7 @@ pub mod Readers
 pub mod Parts
 pub mod Edits
 pub mod Cut
+pub mod Memory
 pub mod Outcomes
 pub mod Lengths
 pub mod Frames

@@ -225,22 +225,22 @@ stream_spelled bytes fits = spelled_by (length bytes) bytes fits
 abbrev HasNoFrame : List ℕ → Type 0
 HasNoFrame bytes = (kind : FrameKind) × (frame_at bytes ≡ Err kind)
 
-ended_next : (n : ℕ) (bytes : List ℕ) (r : Result Frame FrameKind) → ((after : List ℕ) → IsBytes after → length after ≤ n → HasNoFrame (stream_of n after).rest)
+rest_next : (n : ℕ) (bytes : List ℕ) (r : Result Frame FrameKind) → ((after : List ℕ) → IsBytes after → length after ≤ n → HasNoFrame (stream_of n after).rest)
     → IsBytes bytes → length bytes ≤ suc n → frame_at bytes ≡ r → HasNoFrame (stream_of (suc n) bytes).rest
-ended_next n bytes (Err k) again fits le e = subst (λ (s : Stream). HasNoFrame s.rest) (sym (stream_stop (suc n) bytes k e)) (k, e)
-ended_next n bytes (Ok f) again fits le e =
+rest_next n bytes (Err k) again fits le e = subst (λ (s : Stream). HasNoFrame s.rest) (sym (stream_stop (suc n) bytes k e)) (k, e)
+rest_next n bytes (Ok f) again fits le e =
     let t = frame_at_taken bytes f fits e in
     let len = 4 + length_field bytes in
     let after : List ℕ = drop len bytes in
     let shorter : length after ≤ n = omega (arith, length-drop len bytes, le, ap length t.split, length-append (spelling f) after, t.len) in
     subst (λ (s : Stream). HasNoFrame s.rest) (sym (stream_go n bytes f e)) (again after (IsBytes-drop len bytes fits) shorter)
 
-ended_by : (n : ℕ) (bytes : List ℕ) → IsBytes bytes → length bytes ≤ n → HasNoFrame (stream_of n bytes).rest
+rest_by : (n : ℕ) (bytes : List ℕ) → IsBytes bytes → length bytes ≤ n → HasNoFrame (stream_of n bytes).rest
 unfolding stream_of
-ended_by zero [] fits le = (Truncated, nothing_waits)
-ended_by zero (b ∷ bytes) fits le = absurd (omega arith)
-ended_by (suc n) bytes fits le = ended_next n bytes (frame_at bytes) (ended_by n) fits le refl
+rest_by zero [] fits le = (Truncated, nothing_waits)
+rest_by zero (b ∷ bytes) fits le = absurd (omega arith)
+rest_by (suc n) bytes fits le = rest_next n bytes (frame_at bytes) (rest_by n) fits le refl
 
-pub stream_ended : (bytes : List ℕ) → IsBytes bytes → (kind : FrameKind) × (frame_at (stream bytes).rest ≡ Err kind)
+pub stream_rest : (bytes : List ℕ) → IsBytes bytes → (kind : FrameKind) × (frame_at (stream bytes).rest ≡ Err kind)
 unfolding stream
-stream_ended bytes fits = ended_by (length bytes) bytes fits (omega arith)
+stream_rest bytes fits = rest_by (length bytes) bytes fits (omega arith)

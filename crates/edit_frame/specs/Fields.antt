@@ -1,5 +1,5 @@
 -- Reading the fields of a frame, each a prefix of the bytes: a value and the bytes after it, or nothing.
-use Rattle.std.specs.Prelude.{ℕ, zero, suc, ◌-◌, ◌/◌, ◌%◌, ◌^◌, Bool, not, ◌&&◌, List, [], ◌∷◌, Option, Some, None, length, take, drop, ◌==◌, nat_lt, nat_le, if◌then◌else◌}
+use Rattle.std.specs.Prelude.{ℕ, zero, suc, ◌-◌, ◌/◌, ◌%◌, ◌^◌, Bool, not, ◌&&◌, ◌||◌, List, [], ◌∷◌, Option, Some, None, length, take, drop, slice_index, ◌==◌, nat_lt, nat_le, if◌then◌else◌}
 use Rattle.std.specs.Int.{Width, w16, w32, w64, byte_len, from_be_bytes}
 use Rattle.std.specs.Char.{encode_utf8}
 use Rattle.element_name.specs.Cases.{when, ◌>>=◌}
@@ -171,6 +171,10 @@ operation_by number bytes = choose number operation_rows bytes
 -- a number, and the fields of its operation
 unfoldable pub operation_at : Reader AdminOp
 operation_at bytes = then_by byte_at operation_by bytes
+
+-- the operation has lists: it is an authorization, or an object of listed elements
+abbrev pub has_lists : List ℕ → Bool
+has_lists bytes = (slice_index bytes 0 == ADD_AUTH) || ((slice_index bytes 0 == ADD_OBJECT) && (slice_index bytes 3 == ELEMENTS))
 
 -- ---- pieces and edits
 

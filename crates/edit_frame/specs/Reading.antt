@@ -14,7 +14,7 @@ use Rattle.edit_frame.specs.declared.frame.FrameKind.{FrameKind}
 use Rattle.edit_frame.specs.declared.frame.FrameKind.TheVariants.{BadLength, BadKind, BadField, LeftOver, Truncated, BadRequest}
 use Rattle.edit_frame.specs.declared.limits.TheConstants.{LENGTH_BYTES, MIN_LENGTH, MAX_LENGTH}
 use Rattle.edit_frame.specs.declared.numbers.TheConstants.{PLAIN_VERSION, LONG_VERSION, INSERT_KIND, UPDATE_KIND, ENTRY_KIND, TURN_KIND, END_KIND}
-use Rattle.edit_frame.specs.Fields.{Field, Reader, constant, as_value, both, when_passes, choose, short_at, name_at, operation_at, edit_at}
+use Rattle.edit_frame.specs.Fields.{Field, Reader, constant, as_value, both, when_passes, choose, short_at, name_at, has_lists, operation_at, edit_at}
 
 -- ---- the fields of a frame whose version and kind are known
 
@@ -46,7 +46,7 @@ other_at kind bytes = choose kind (
 
 -- the plain version has all kinds, and that of long pieces has inserts and updates alone
 abbrev pub is_kind : ℕ → ℕ → Bool
-is_kind version kind = ((version == PLAIN_VERSION) && (nat_lt 0 kind && nat_le kind END_KIND)) || ((version == LONG_VERSION) && ((kind == INSERT_KIND) || (kind == UPDATE_KIND)))
+is_kind version kind = ((version == PLAIN_VERSION) && (nat_le INSERT_KIND kind && nat_le kind END_KIND)) || ((version == LONG_VERSION) && ((kind == INSERT_KIND) || (kind == UPDATE_KIND)))
 
 -- the fault, or what is read where there is none
 abbrev pub fault_or : Option FrameKind → Result Frame FrameKind → Result Frame FrameKind
@@ -102,9 +102,13 @@ frame_at bytes = prefix_frame false bytes
 unfoldable pub decoded_frame : List ℕ → Result Frame FrameKind
 decoded_frame bytes = prefix_frame (nat_lt (LENGTH_BYTES + length_field bytes) (length bytes)) bytes
 
--- a whole frame stands at the front, of the one kind whose reading takes memory
+-- what stands after the length field has the kind of an entry, and an operation with lists
+abbrev pub has_listing : List ℕ → Bool
+has_listing bytes = (slice_index bytes 1 == ENTRY_KIND) && has_lists (drop 4 bytes)
+
+-- the bytes begin with a whole frame, of an entry whose operation has lists: reading these alone takes memory
 unfoldable pub takes_memory : List ℕ → Bool
-takes_memory bytes = is_none (cut_fault bytes) && (slice_index bytes 5 == 4)
+takes_memory bytes = is_none (cut_fault bytes) && has_listing (inner bytes)
 
 -- ---- a stream
 

@@ -1,10 +1,11 @@
 //! Frames from bytes.
-ghost use Rattle.std.specs.Prelude.{◌≡◌, ◌≤◌, ◌+◌, ◌||◌, ◌==◌, true, false, nat_lt, length, slice_index, None, Ok, Err, IfOk};
+ghost use Rattle.std.specs.Prelude.{◌≡◌, ◌≤◌, ◌+◌, ◌&&◌, ◌||◌, ◌==◌, true, false, nat_lt, length, drop, None, Ok, Err, IfOk};
 ghost use Rattle.edit_frame.specs.declared.frame.Frame.{Frame};
 ghost use Rattle.edit_frame.specs.declared.fail.FieldFail.TheVariants.{NoMemory as no_memory};
 ghost use Rattle.edit_frame.specs.Gives.{MayGive, GivesDraft, GivesFrame, GivesAt, request_of_draft};
 ghost use Rattle.edit_frame.specs.Reading.{is_kind, request_at, entry_at, other_at, request_frame, frame_by, frame_of, cut_fault};
-ghost use Rattle.edit_frame.specs.Reading.{length_field, inner, prefix_frame, decoded_frame, takes_memory};
+ghost use Rattle.edit_frame.specs.Reading.{length_field, inner, prefix_frame, decoded_frame, has_listing, takes_memory};
+ghost use Rattle.edit_frame.specs.Fields.{has_lists};
 ghost use Rattle.edit_frame.specs.Spells.{Spells};
 
 use crate::fail::{Bad, FieldFail, FrameFail};
@@ -41,7 +42,8 @@ fn draft_of(version: u8, kind: u8, rest: &mut &[u8]) -> Result<Draft, Bad>
 
 #[tactic(auto, unfolding(crate::specs::Reading::entry_at))]
 fn entry_of(alloc: Global, rest: &mut &[u8]) -> Result<Entry, FieldFail>
-    ensures { MayGive result rest.new.now (entry_at rest.old.now) }
+    ensures read { MayGive result rest.new.now (entry_at rest.old.now) }
+    ensures memory { result ≡ Err no_memory → has_lists (drop 2 rest.old.now) ≡ true }
 {
     let version = short_of(rest)?;
     let op = operation_of(alloc, rest)?;
@@ -51,7 +53,7 @@ fn entry_of(alloc: Global, rest: &mut &[u8]) -> Result<Entry, FieldFail>
 #[tactic(auto, unfolding(crate::specs::Reading::other_at))]
 fn other_of(alloc: Global, kind: u8, rest: &mut &[u8]) -> Result<Frame, FieldFail>
     ensures read { MayGive result rest.new.now (other_at kind rest.old.now) }
-    ensures memory { result ≡ Err no_memory → (kind == ENTRY_KIND) ≡ true }
+    ensures memory { result ≡ Err no_memory → ((kind == ENTRY_KIND) && has_lists (drop 2 rest.old.now)) ≡ true }
 {
     match kind {
         ENTRY_KIND => Ok(Frame::Item(Message::Admin(entry_of(alloc, rest)?))),
@@ -73,7 +75,7 @@ fn accepted(draft: Draft) -> Result<Frame, FrameFail>
 fn is_kind(version: u8, kind: u8) -> bool
     ensures { result ≡ is_kind version kind }
 {
-    (version == PLAIN_VERSION && kind > 0 && kind <= END_KIND)
+    (version == PLAIN_VERSION && kind >= INSERT_KIND && kind <= END_KIND)
         || (version == LONG_VERSION && (kind == INSERT_KIND || kind == UPDATE_KIND))
 }
 
@@ -93,7 +95,7 @@ fn frame_by(
     kind: u8,
     fields: &[u8],
 ) -> Result<Frame, FrameFail>
-    ensures { GivesFrame (kind == ENTRY_KIND) result (frame_by more version kind fields.now) }
+    ensures { GivesFrame ((kind == ENTRY_KIND) && has_lists (drop 2 fields.now)) result (frame_by more version kind fields.now) }
 {
     if !is_kind(version, kind) {
         return Err(FrameFail::Fault(FrameKind::BadKind));
@@ -114,7 +116,7 @@ fn frame_by(
 }
 
 fn frame_of(alloc: Global, more: bool, inner: &[u8]) -> Result<Frame, FrameFail>
-    ensures { GivesFrame (slice_index inner.now 1 == ENTRY_KIND) result (frame_of more inner.now) }
+    ensures { GivesFrame (has_listing inner.now) result (frame_of more inner.now) }
 {
     match inner {
         [version, kind, fields @ ..] => frame_by(alloc, more, *version, *kind, fields),
@@ -182,13 +184,14 @@ fn decode_all(alloc: Global, message: &[u8]) -> Result<Frame, FrameFail>
     whole_frame(alloc, has_more(message), message)
 }
 
-/// The frame that is all of the bytes, in time in their number up to 280. Only an entry's lists take memory.
+/// The frame that is all of the bytes, in time in their number up to 280. Only the lists of an authorization and of an
+/// object's elements take memory.
 pub fn decode(alloc: Global, message: &[u8]) -> Result<Frame, DecodeFail>
     // What is given is spelled so.
     ensures found { IfOk result (λ f. Spells message.now f) }
     // What is spelled so is given, if memory isn't wanting.
     ensures only { (f : Frame) → Spells message.now f → GivesAt 0 (takes_memory message.now) result (Ok f) }
-    // The frame or the first fault, or memory is wanting, but only where an entry is read.
+    // The frame or the first fault, or memory is wanting, but only where lists are read.
     ensures exact { GivesAt 0 (takes_memory message.now) result (decoded_frame message.now) }
 {
     match decode_all(alloc, message) {

@@ -1,13 +1,14 @@
 //! The fields of a frame, each read as a prefix of the bytes.
-ghost use Rattle.std.specs.Prelude.{◌≡◌, ◌<◌, slice_index};
+ghost use Rattle.std.specs.Prelude.{◌≡◌, ◌<◌, ◌==◌, true, slice_index, Err};
 ghost use Rattle.std.specs.Str.{chars};
 ghost use Rattle.std.specs.Int.{w32, w64};
 ghost use Rattle.element_name.specs.Cases.{when};
 ghost use Rattle.coop_request.specs.Piece.{is_piece};
 ghost use Rattle.edit_frame.specs.Spelling.{is_one_char};
 ghost use Rattle.edit_frame.specs.Fields.{number_at, byte_at, short_at, name_at, items_at, numbers_at, names_at, extent_at};
-ghost use Rattle.edit_frame.specs.Fields.{user_set_at, sign_at, has_bit, rights_at, objects_at, auth_at, operation_at, char_at, bytes_at};
+ghost use Rattle.edit_frame.specs.Fields.{user_set_at, sign_at, has_bit, rights_at, objects_at, auth_at, has_lists, operation_at, char_at, bytes_at};
 ghost use Rattle.edit_frame.specs.Fields.{long_piece_at, letter_at, edit_at, when_passes};
+ghost use Rattle.edit_frame.specs.declared.fail.FieldFail.TheVariants.{NoMemory as no_memory};
 ghost use Rattle.edit_frame.specs.Gives.{Gives, MayGive, MayGiveItems};
 
 use crate::fail::{Bad, FieldFail};
@@ -98,7 +99,8 @@ fn names_of(alloc: Global, count: u8, rest: &mut &[u8]) -> Result<NameList, Fiel
 
 #[tactic(auto, unfolding(crate::specs::Fields::extent_by, crate::specs::Fields::extent_at))]
 fn extent_of(alloc: Global, rest: &mut &[u8]) -> Result<Extent, FieldFail>
-    ensures { MayGive result rest.new.now (extent_at rest.old.now) }
+    ensures read { MayGive result rest.new.now (extent_at rest.old.now) }
+    ensures memory { result ≡ Err no_memory → (slice_index rest.old.now 0 == ELEMENTS) ≡ true }
 {
     match byte_of(rest)? {
         EVERYTHING => Ok(Extent::All),
@@ -185,7 +187,8 @@ fn auth_of(alloc: Global, rest: &mut &[u8]) -> Result<Auth, FieldFail>
 
 #[tactic(auto, unfolding(crate::specs::Fields::operation_by, crate::specs::Fields::operation_at))]
 pub fn operation_of(alloc: Global, rest: &mut &[u8]) -> Result<AdminOp, FieldFail>
-    ensures { MayGive result rest.new.now (operation_at rest.old.now) }
+    ensures read { MayGive result rest.new.now (operation_at rest.old.now) }
+    ensures memory { result ≡ Err no_memory → has_lists rest.old.now ≡ true }
 {
     match byte_of(rest)? {
         ADD_USER => Ok(AdminOp::AddUser(short_of(rest)?)),

@@ -63,7 +63,8 @@ impl Splitter {
 
     /// The next frame of what was fed; none where its bytes aren't all there yet. A fault is told again.
     ///
-    /// Takes time in the frame's length, and memory for an entry's lists alone.
+    /// Takes time in the frame's length, and memory for the lists of an authorization and of an object's
+    /// elements alone.
     pub fn next_frame(&mut self) -> Result<Option<Frame>, DecodeFail>
         ensures exact { NextGives self.old result self.new }
         ensures counted { self.new.offset + length self.new.rest ≡ self.old.offset + length self.old.rest }

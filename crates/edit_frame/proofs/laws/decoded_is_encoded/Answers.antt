@@ -1,5 +1,5 @@
 use Rattle.edit_frame.proofs.Frames.{decoded_spells}
-use Rattle.edit_frame.proofs.Streams.{prefix_spells, stream_spelled, stream_ended}
+use Rattle.edit_frame.proofs.Streams.{prefix_spells, stream_spelled, stream_rest}
 use Rattle.edit_frame.proofs.laws.decoded_is_encoded.Goals as goal
 
 pub returns-clause-alone : goal.returns-clause-alone
@@ -12,4 +12,4 @@ pub returns-clause-all : goal.returns-clause-all
 returns-clause-all c = stream_spelled
 
 pub returns-clause-rest : goal.returns-clause-rest
-returns-clause-rest c = stream_ended
+returns-clause-rest c = stream_rest
