@@ -7,7 +7,7 @@ ghost use Rattle.edit_frame.specs.Spelling.{body, spelling};
 ghost use Rattle.edit_frame.specs.Spells.{is_frame, Spells};
 
 use crate::frame::Frame;
-use crate::limits::{LENGTH_BYTES, MAX_LENGTH, SITES};
+use crate::limits::{MAX_LENGTH, SITES};
 use crate::numbers::{
     ADD_AUTH, ADD_GROUP, ADD_MEMBER, ADD_OBJECT, ADD_USER, ALLOWING, DEL_AUTH, DEL_GROUP,
     DEL_MEMBER, DEL_OBJECT, DEL_USER, DELETE_KIND, DELETE_WORTH, ELEMENTS, ELEMENTS_BY, END_KIND,
@@ -15,7 +15,7 @@ use crate::numbers::{
     PLAIN_VERSION, SPAN, TURN_KIND, UPDATE_KIND, UPDATE_WORTH, VALIDATE,
 };
 use crate::reading::only_char;
-use bytes::{BufMut, BytesMut};
+use bytes::BufMut;
 use coop_request::{Edit, Piece, Request};
 use edit_message::Message;
 use element_name::{Name, NoMemory};
@@ -23,20 +23,20 @@ use policy_book::{AdminOp, Auth, Entry, Extent, NumList, Rights, UserSet};
 use std::alloc::{AllocError, Global};
 
 #[tactic(auto, unfolding(crate::specs::Spelling::short_bytes))]
-fn put_short(out: &mut BytesMut, n: u16) -> Result<(), AllocError>
+fn put_short(out: &mut Vec<u8>, n: u16) -> Result<(), AllocError>
     ensures { OnOk result (out.new.items ≡ out.old.items ++ short_bytes n) }
 {
     out.put_u16(n)
 }
 
 #[tactic(auto, unfolding(crate::specs::Spelling::name_bytes))]
-fn put_name(out: &mut BytesMut, n: Name) -> Result<(), AllocError>
+fn put_name(out: &mut Vec<u8>, n: Name) -> Result<(), AllocError>
     ensures { OnOk result (out.new.items ≡ out.old.items ++ name_bytes n) }
 {
     out.put_u64(n.stamp() * SITES + u64::from(n.site()))
 }
 
-fn put_shorts(out: &mut BytesMut, numbers: &[u16]) -> Result<(), AllocError>
+fn put_shorts(out: &mut Vec<u8>, numbers: &[u16]) -> Result<(), AllocError>
     ensures { OnOk result (out.new.items ≡ out.old.items ++ flat_map short_bytes numbers.now) }
 {
     for n in numbers {
@@ -45,7 +45,7 @@ fn put_shorts(out: &mut BytesMut, numbers: &[u16]) -> Result<(), AllocError>
     Ok(())
 }
 
-fn put_names(out: &mut BytesMut, names: &[Name]) -> Result<(), AllocError>
+fn put_names(out: &mut Vec<u8>, names: &[Name]) -> Result<(), AllocError>
     ensures { OnOk result (out.new.items ≡ out.old.items ++ flat_map name_bytes names.now) }
 {
     for n in names {
@@ -55,7 +55,7 @@ fn put_names(out: &mut BytesMut, names: &[Name]) -> Result<(), AllocError>
 }
 
 // A count, to which `more` is added, and the numbers.
-fn put_numbers(out: &mut BytesMut, more: u8, numbers: &NumList) -> Result<(), AllocError>
+fn put_numbers(out: &mut Vec<u8>, more: u8, numbers: &NumList) -> Result<(), AllocError>
     requires { more ≤ GROUPS_ABOVE }
     ensures { OnOk result (out.new.items ≡ out.old.items ++ ((length numbers.now + more) ∷ flat_map short_bytes numbers.now)) }
 {
@@ -65,7 +65,7 @@ fn put_numbers(out: &mut BytesMut, more: u8, numbers: &NumList) -> Result<(), Al
 }
 
 #[tactic(auto, unfolding(crate::specs::Spelling::extent_bytes))]
-fn put_extent(out: &mut BytesMut, x: &Extent) -> Result<(), AllocError>
+fn put_extent(out: &mut Vec<u8>, x: &Extent) -> Result<(), AllocError>
     ensures { OnOk result (out.new.items ≡ out.old.items ++ extent_bytes x.now) }
 {
     match x {
@@ -89,7 +89,7 @@ fn put_extent(out: &mut BytesMut, x: &Extent) -> Result<(), AllocError>
 }
 
 #[tactic(auto, unfolding(crate::specs::Spelling::user_set_bytes))]
-fn put_user_set(out: &mut BytesMut, users: &UserSet) -> Result<(), AllocError>
+fn put_user_set(out: &mut Vec<u8>, users: &UserSet) -> Result<(), AllocError>
     ensures { OnOk result (out.new.items ≡ out.old.items ++ user_set_bytes users.now) }
 {
     match users {
@@ -106,7 +106,7 @@ fn flag(worth: u8, set: bool) -> u8
 }
 
 #[tactic(auto, unfolding(crate::specs::Spelling::rights_bytes))]
-fn put_rights(out: &mut BytesMut, r: Rights) -> Result<(), AllocError>
+fn put_rights(out: &mut Vec<u8>, r: Rights) -> Result<(), AllocError>
     ensures { OnOk result (out.new.items ≡ out.old.items ++ rights_bytes r) }
 {
     let insert = flag(INSERT_WORTH, r.insert());
@@ -116,7 +116,7 @@ fn put_rights(out: &mut BytesMut, r: Rights) -> Result<(), AllocError>
 }
 
 #[tactic(auto, unfolding(crate::specs::Spelling::auth_bytes, crate::specs::Spelling::objects_bytes))]
-fn put_auth(out: &mut BytesMut, a: &Auth) -> Result<(), AllocError>
+fn put_auth(out: &mut Vec<u8>, a: &Auth) -> Result<(), AllocError>
     ensures { OnOk result (out.new.items ≡ out.old.items ++ auth_bytes a.now) }
 {
     out.put_u8(flag(ALLOWING, a.grant))?;
@@ -144,7 +144,7 @@ fn number_of(op: &AdminOp) -> u8
 }
 
 #[tactic(auto, unfolding(crate::specs::Spelling::operation_fields))]
-fn put_operation(out: &mut BytesMut, op: &AdminOp) -> Result<(), AllocError>
+fn put_operation(out: &mut Vec<u8>, op: &AdminOp) -> Result<(), AllocError>
     ensures { OnOk result (out.new.items ≡ out.old.items ++ operation_fields op.now) }
 {
     match op {
@@ -171,7 +171,7 @@ fn put_operation(out: &mut BytesMut, op: &AdminOp) -> Result<(), AllocError>
 }
 
 #[tactic(auto, unfolding(crate::specs::Spelling::letter_bytes))]
-fn put_letter(out: &mut BytesMut, piece: &Piece) -> Result<(), AllocError>
+fn put_letter(out: &mut Vec<u8>, piece: &Piece) -> Result<(), AllocError>
     ensures { OnOk result (out.new.items ≡ out.old.items ++ letter_bytes piece.now) }
 {
     let bytes = piece.bytes();
@@ -185,7 +185,7 @@ fn put_letter(out: &mut BytesMut, piece: &Piece) -> Result<(), AllocError>
 }
 
 #[tactic(auto, unfolding(crate::specs::Spelling::edit_bytes))]
-fn put_edit(out: &mut BytesMut, e: &Edit) -> Result<(), AllocError>
+fn put_edit(out: &mut Vec<u8>, e: &Edit) -> Result<(), AllocError>
     ensures { OnOk result (out.new.items ≡ out.old.items ++ edit_bytes e.now) }
 {
     match e {
@@ -230,7 +230,7 @@ fn edit_kind(e: &Edit) -> u8
     }
 }
 
-fn put_request(out: &mut BytesMut, q: Request) -> Result<(), AllocError>
+fn put_request(out: &mut Vec<u8>, q: Request) -> Result<(), AllocError>
     ensures { OnOk result (out.new.items ≡ out.old.items ++ (edit_version q.edit ∷ edit_kind q.edit ∷ request_fields q)) }
 {
     let edit = q.edit();
@@ -241,7 +241,7 @@ fn put_request(out: &mut BytesMut, q: Request) -> Result<(), AllocError>
     put_edit(out, &edit)
 }
 
-fn put_entry(out: &mut BytesMut, e: &Entry) -> Result<(), AllocError>
+fn put_entry(out: &mut Vec<u8>, e: &Entry) -> Result<(), AllocError>
     ensures { OnOk result (out.new.items ≡ out.old.items ++ (PLAIN_VERSION ∷ ENTRY_KIND ∷ entry_fields e.now)) }
 {
     out.put_u8(PLAIN_VERSION)?;
@@ -252,7 +252,7 @@ fn put_entry(out: &mut BytesMut, e: &Entry) -> Result<(), AllocError>
 }
 
 #[tactic(auto, unfolding(crate::specs::Spelling::fields))]
-fn put_body(out: &mut BytesMut, f: &Frame) -> Result<(), AllocError>
+fn put_body(out: &mut Vec<u8>, f: &Frame) -> Result<(), AllocError>
     ensures { OnOk result (out.new.items ≡ out.old.items ++ body f.now) }
 {
     match f {
@@ -281,28 +281,29 @@ fn frame_in_range(f: &Frame)
     }
 }
 
-#[tactic(auto, unfolding(crate::specs::Spelling::spelling))]
-fn spelling_of(alloc: Global, frame: &Frame) -> Result<BytesMut, AllocError>
-    ensures { IfOk result (λ b. b.items ≡ spelling frame.now) }
+fn body_of(alloc: Global, frame: &Frame) -> Result<Vec<u8>, AllocError>
+    ensures { IfOk result (λ b. b.items ≡ body frame.now) }
 {
-    frame_in_range(frame);
-    let mut body = BytesMut::new(alloc);
-    put_body(&mut body, frame)?;
-    let mut whole = BytesMut::new(alloc);
-    whole.put_u32(body.len() as u32)?;
-    whole.put_slice(body.as_slice())?;
-    Ok(whole)
+    let mut bytes = Vec::with_capacity(alloc, MAX_LENGTH as usize)?;
+    put_body(&mut bytes, frame)?;
+    Ok(bytes)
 }
 
-/// Puts the one spelling of the frame at the end, at most 280 bytes. Fails where memory is wanting, and has then put
-/// nothing.
+/// Puts the one spelling of the frame at the end, in time in its length, at most 280 bytes. Fails where memory is
+/// wanting, and has then put nothing. Takes memory for the body alone, and gives it back.
+#[tactic(auto, unfolding(crate::specs::Spelling::spelling))]
 pub fn encode(alloc: Global, frame: &Frame, out: &mut Vec<u8>) -> Result<(), NoMemory>
     ensures ok { OnOk result (out.new.items ≡ out.old.items ++ spelling frame.now) }
     ensures spells { Spells (spelling frame.now) frame.now }
     ensures err { OnErr result (out.new.items ≡ out.old.items) }
 {
     frame_in_range(frame);
-    let bytes = spelling_of(alloc, frame)?;
-    out.extend_from_slice(bytes.as_slice())?;
+    let body = body_of(alloc, frame)?;
+    let before = out.len();
+    out.put_u32(body.len() as u32)?;
+    if out.put_slice(&body).is_err() {
+        out.truncate(before);
+        return Err(NoMemory);
+    }
     Ok(())
 }
