@@ -4,6 +4,7 @@
 mod decoding;
 mod fail;
 mod frame;
+mod item;
 pub mod laws;
 mod limits;
 mod numbers;

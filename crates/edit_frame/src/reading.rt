@@ -5,13 +5,14 @@ ghost use Rattle.std.specs.Int.{w32, w64};
 ghost use Rattle.element_name.specs.Cases.{when};
 ghost use Rattle.coop_request.specs.Piece.{is_piece};
 ghost use Rattle.edit_frame.specs.Spelling.{is_one_char};
-ghost use Rattle.edit_frame.specs.Fields.{number_at, byte_at, short_at, name_at, items_at, numbers_at, names_at, extent_at};
+ghost use Rattle.edit_frame.specs.Fields.{number_at, byte_at, short_at, name_at, numbers_at, names_at, extent_at};
 ghost use Rattle.edit_frame.specs.Fields.{user_set_at, sign_at, has_bit, rights_at, objects_at, auth_at, has_lists, operation_at, char_at, bytes_at};
 ghost use Rattle.edit_frame.specs.Fields.{long_piece_at, letter_at, edit_at, when_passes};
 ghost use Rattle.edit_frame.specs.declared.fail.FieldFail.TheVariants.{NoMemory as no_memory};
-ghost use Rattle.edit_frame.specs.Gives.{Gives, MayGive, MayGiveItems};
+ghost use Rattle.edit_frame.specs.Gives.{Gives, MayGive};
 
 use crate::fail::{Bad, FieldFail};
+use crate::item::items_of;
 use crate::limits::SITES;
 use crate::numbers::{
     ADD_AUTH, ADD_GROUP, ADD_MEMBER, ADD_OBJECT, ADD_USER, ALL_RIGHTS, ALLOWING, DEL_AUTH,
@@ -59,33 +60,11 @@ pub fn name_of(rest: &mut &[u8]) -> Result<Name, Bad>
     Name::read(number / SITES, (number % SITES) as u16).ok_or(Bad)
 }
 
-fn shorts_of(alloc: Global, count: u8, rest: &mut &[u8]) -> Result<Vec<u16>, FieldFail>
-    ensures { MayGiveItems result rest.new.now (items_at short_at count rest.old.now) }
-{
-    let mut items = Vec::new(alloc);
-    for _ in 0..count {
-        let item = short_of(rest)?;
-        items.push(item)?;
-    }
-    Ok(items)
-}
-
-fn name_items_of(alloc: Global, count: u8, rest: &mut &[u8]) -> Result<Vec<Name>, FieldFail>
-    ensures { MayGiveItems result rest.new.now (items_at name_at count rest.old.now) }
-{
-    let mut items = Vec::new(alloc);
-    for _ in 0..count {
-        let item = name_of(rest)?;
-        items.push(item)?;
-    }
-    Ok(items)
-}
-
 #[tactic(auto, unfolding(crate::specs::Fields::numbers_at))]
 fn numbers_of(alloc: Global, count: u8, rest: &mut &[u8]) -> Result<NumList, FieldFail>
     ensures { MayGive result rest.new.now (numbers_at count rest.old.now) }
 {
-    let items = shorts_of(alloc, count, rest)?;
+    let items = items_of(alloc, count, rest)?;
     NumList::checked(items).ok_or(FieldFail::Bad)
 }
 
@@ -93,7 +72,7 @@ fn numbers_of(alloc: Global, count: u8, rest: &mut &[u8]) -> Result<NumList, Fie
 fn names_of(alloc: Global, count: u8, rest: &mut &[u8]) -> Result<NameList, FieldFail>
     ensures { MayGive result rest.new.now (names_at count rest.old.now) }
 {
-    let items = name_items_of(alloc, count, rest)?;
+    let items = items_of(alloc, count, rest)?;
     NameList::checked(items).ok_or(FieldFail::Bad)
 }
 

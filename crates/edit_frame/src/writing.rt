@@ -7,6 +7,7 @@ ghost use Rattle.edit_frame.specs.Spelling.{body, spelling};
 ghost use Rattle.edit_frame.specs.Spells.{is_frame, Spells};
 
 use crate::frame::Frame;
+use crate::item::put_items;
 use crate::limits::{MAX_LENGTH, SITES};
 use crate::numbers::{
     ADD_AUTH, ADD_GROUP, ADD_MEMBER, ADD_OBJECT, ADD_USER, ALLOWING, DEL_AUTH, DEL_GROUP,
@@ -23,35 +24,17 @@ use policy_book::{AdminOp, Auth, Entry, Extent, NumList, Rights, UserSet};
 use std::alloc::{AllocError, Global};
 
 #[tactic(auto, unfolding(crate::specs::Spelling::short_bytes))]
-fn put_short(out: &mut Vec<u8>, n: u16) -> Result<(), AllocError>
+pub fn put_short(out: &mut Vec<u8>, n: u16) -> Result<(), AllocError>
     ensures { OnOk result (out.new.items ≡ out.old.items ++ short_bytes n) }
 {
     out.put_u16(n)
 }
 
 #[tactic(auto, unfolding(crate::specs::Spelling::name_bytes))]
-fn put_name(out: &mut Vec<u8>, n: Name) -> Result<(), AllocError>
+pub fn put_name(out: &mut Vec<u8>, n: Name) -> Result<(), AllocError>
     ensures { OnOk result (out.new.items ≡ out.old.items ++ name_bytes n) }
 {
     out.put_u64(n.stamp() * SITES + u64::from(n.site()))
-}
-
-fn put_shorts(out: &mut Vec<u8>, numbers: &[u16]) -> Result<(), AllocError>
-    ensures { OnOk result (out.new.items ≡ out.old.items ++ flat_map short_bytes numbers.now) }
-{
-    for n in numbers {
-        put_short(out, *n)?;
-    }
-    Ok(())
-}
-
-fn put_names(out: &mut Vec<u8>, names: &[Name]) -> Result<(), AllocError>
-    ensures { OnOk result (out.new.items ≡ out.old.items ++ flat_map name_bytes names.now) }
-{
-    for n in names {
-        put_name(out, *n)?;
-    }
-    Ok(())
 }
 
 // A count, to which `more` is added, and the numbers.
@@ -61,7 +44,7 @@ fn put_numbers(out: &mut Vec<u8>, more: u8, numbers: &NumList) -> Result<(), All
 {
     let numbers = numbers.as_slice();
     out.put_u8(numbers.len() as u8 + more)?;
-    put_shorts(out, numbers)
+    put_items(out, numbers)
 }
 
 #[tactic(auto, unfolding(crate::specs::Spelling::extent_bytes))]
@@ -79,7 +62,7 @@ fn put_extent(out: &mut Vec<u8>, x: &Extent) -> Result<(), AllocError>
             let names = names.as_slice();
             out.put_u8(ELEMENTS)?;
             out.put_u8(names.len() as u8)?;
-            put_names(out, names)
+            put_items(out, names)
         }
         Extent::By(user) => {
             out.put_u8(ELEMENTS_BY)?;
