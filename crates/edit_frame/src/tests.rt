@@ -2,7 +2,7 @@
 ghost use Rattle.std.specs.Prelude.{◌≤◌, ◌<◌, length};
 
 use crate::{DecodeFail, Frame, FrameFault, FrameKind, Splitter, decode, encode};
-use coop_request::{Edit, Piece, Request, RequestFault};
+use coop_request::{Edit, Piece, Request};
 use edit_message::Message;
 use element_name::Name;
 use policy_book::{AdminOp, Auth, Entry, Extent, NameList, NumList, Rights, UserSet};
@@ -170,8 +170,80 @@ fn entries(rt: HostRuntime) -> Result<(), Fail> {
     )
 }
 
-// How many frames a splitter gives of the bytes in pieces of this length, and the fault that follows.
-fn split(alloc: Global, bytes: &[u8], size: usize) -> Result<(u32, Option<FrameFault>), Fail>
+// Streams, and what is found in each: how many frames it begins with, and the fault of its rest.
+const STREAMS: [(&str, &str); 23] = [
+    ("", "0"),
+    ("000000", "0, Truncated at 0"),
+    ("00000001", "0, BadLength at 0"),
+    ("00000114", "0, Truncated at 0"),
+    ("00000115", "0, BadLength at 0"),
+    ("00000200", "0, BadLength at 0"),
+    ("00000002 0205", "0, BadKind at 0"),
+    ("00000002 0107", "0, BadKind at 0"),
+    ("00000002 0105 00000002 01", "1, Truncated at 6"),
+    ("00000003 0105 00", "0, LeftOver at 0"),
+    ("00000007 0104 0000 01 0001", "0, BadField at 0"),
+    (
+        "00000011 0104 0001 05 0000 01 07 02 0002 0001 01 0000",
+        "0, BadField at 0",
+    ),
+    (
+        "00000014 0102 0000000000000001 0000 0000000000010000",
+        "0, BadField at 0",
+    ),
+    (
+        "00000018 0101 0000000000010000 0000 0000000000000000 0000D800",
+        "0, BadField at 0",
+    ),
+    (
+        "00000014 0202 0000000000010000 0000 0000000000000000",
+        "0, BadKind at 0",
+    ),
+    (
+        "00000016 0201 0000000000010000 0000 0000000000000000 01 61",
+        "0, BadField at 0",
+    ),
+    (
+        "00000014 0102 0000000000010000 4000 0000000000000000",
+        "0, BadRequest(BadVersion) at 0",
+    ),
+    (
+        "00000014 0102 0000000000010000 0000 0000000000000000",
+        "0, BadRequest(StartTarget) at 0",
+    ),
+    (
+        "00000014 0102 0000000000010000 0000 0000000000010001",
+        "0, BadRequest(StampOrder) at 0",
+    ),
+    (
+        "00000015 0102 0000000000020000 0000 0000000000010000 00",
+        "0, LeftOver at 0",
+    ),
+    (
+        "00000015 0102 0000000000010000 0000 0000000000000000 00",
+        "0, LeftOver at 0",
+    ),
+    (
+        "00000018 0101 0000000000010000 0000 0000000000000000 00000061 00000018010100000000",
+        "1, Truncated at 28",
+    ),
+    (
+        "00000007 0104 0001 01 0001 00000002 0105 00000009 0104 0004 0A 0007 0001 00000002 0106",
+        "4",
+    ),
+];
+
+fn found(alloc: Global, frames: u32, fault: Option<FrameFault>) -> Result<String, Fail> {
+    match fault {
+        None => Ok(format!(in alloc; "{frames}")?),
+        Some(FrameFault { offset, kind }) => Ok(format!(in alloc;
+            "{frames}, {kind:?} at {offset}"
+        )?),
+    }
+}
+
+// What a splitter finds in the bytes, which come in pieces of this length.
+fn split(alloc: Global, bytes: &[u8], size: usize) -> Result<String, Fail>
     requires few { length bytes.now ≤ 1000 }
     requires some { 0 < size }
 {
@@ -181,11 +253,11 @@ fn split(alloc: Global, bytes: &[u8], size: usize) -> Result<(u32, Option<FrameF
     'all: loop {
         match splitter.next_frame() {
             Ok(Some(_)) => frames = frames.saturating_add(1),
-            Err(DecodeFail::Fault(fault)) => return Ok((frames, Some(fault))),
+            Err(DecodeFail::Fault(fault)) => return found(alloc, frames, Some(fault)),
             Err(DecodeFail::NoMemory) => return Err("no memory".into()),
             Ok(None) => {
                 if rest.is_empty() {
-                    return Ok((frames, splitter.finish().err()));
+                    return found(alloc, frames, splitter.finish().err());
                 }
                 let (piece, after) = rest.split_at(size.min(rest.len()));
                 splitter.feed(piece)?;
@@ -195,116 +267,37 @@ fn split(alloc: Global, bytes: &[u8], size: usize) -> Result<(u32, Option<FrameF
     }
 }
 
-#[test]
-fn streams(rt: HostRuntime) -> Result<(), Fail> {
-    let rows = [
-        ("", 0, None),
-        ("000000", 0, Some((0, FrameKind::Truncated))),
-        ("00000001", 0, Some((0, FrameKind::BadLength))),
-        ("00000114", 0, Some((0, FrameKind::Truncated))),
-        ("00000115", 0, Some((0, FrameKind::BadLength))),
-        ("00000200", 0, Some((0, FrameKind::BadLength))),
-        ("00000002 0205", 0, Some((0, FrameKind::BadKind))),
-        ("00000002 0107", 0, Some((0, FrameKind::BadKind))),
-        (
-            "00000002 0105 00000002 01",
-            1,
-            Some((6, FrameKind::Truncated)),
-        ),
-        ("00000003 0105 00", 0, Some((0, FrameKind::LeftOver))),
-        (
-            "00000007 0104 0000 01 0001",
-            0,
-            Some((0, FrameKind::BadField)),
-        ),
-        (
-            "00000011 0104 0001 05 0000 01 07 02 0002 0001 01 0000",
-            0,
-            Some((0, FrameKind::BadField)),
-        ),
-        (
-            "00000014 0102 0000000000000001 0000 0000000000010000",
-            0,
-            Some((0, FrameKind::BadField)),
-        ),
-        (
-            "00000018 0101 0000000000010000 0000 0000000000000000 0000D800",
-            0,
-            Some((0, FrameKind::BadField)),
-        ),
-        (
-            "00000014 0202 0000000000010000 0000 0000000000000000",
-            0,
-            Some((0, FrameKind::BadKind)),
-        ),
-        (
-            "00000016 0201 0000000000010000 0000 0000000000000000 01 61",
-            0,
-            Some((0, FrameKind::BadField)),
-        ),
-        (
-            "00000014 0102 0000000000010000 4000 0000000000000000",
-            0,
-            Some((0, FrameKind::BadRequest(RequestFault::BadVersion))),
-        ),
-        (
-            "00000014 0102 0000000000010000 0000 0000000000000000",
-            0,
-            Some((0, FrameKind::BadRequest(RequestFault::StartTarget))),
-        ),
-        (
-            "00000014 0102 0000000000010000 0000 0000000000010001",
-            0,
-            Some((0, FrameKind::BadRequest(RequestFault::StampOrder))),
-        ),
-        (
-            "00000015 0102 0000000000020000 0000 0000000000010000 00",
-            0,
-            Some((0, FrameKind::LeftOver)),
-        ),
-        (
-            "00000015 0102 0000000000010000 0000 0000000000000000 00",
-            0,
-            Some((0, FrameKind::LeftOver)),
-        ),
-        (
-            "00000018 0101 0000000000010000 0000 0000000000000000 00000061 00000018010100000000",
-            1,
-            Some((28, FrameKind::Truncated)),
-        ),
-        (
-            "00000007 0104 0001 01 0001 00000002 0105 00000009 0104 0004 0A 0007 0001 00000002 0106",
-            4,
-            None,
-        ),
-    ];
-    for (text, frames, fault) in rows {
-        let bytes = bytes_of(rt.alloc(), text)?;
-        let fault = fault.map(|(offset, kind)| FrameFault { offset, kind });
-        assert!(rt; bytes.len() <= 1000);
-        for size in [1, 3, 1000] {
-            let found = split(rt.alloc(), &bytes, size)?;
-            assert_eq!(rt; found, (frames, fault), "{text} by {size}");
-        }
+// However the bytes are cut, the same is found.
+fn check_stream<R: Abort>(rt: &R, alloc: Global, text: &str, expected: &str) -> Result<(), Fail> {
+    let bytes = bytes_of(alloc, text)?;
+    assert!(rt; bytes.len() <= 1000);
+    for size in [1, 3, 1000] {
+        let found = split(alloc, &bytes, size)?;
+        assert_eq!(rt; found.as_str(), expected, "{text} by {size}");
     }
     Ok(())
 }
 
 #[test]
-fn all_of_the_bytes(rt: HostRuntime) -> Result<(), Fail> {
-    let rows = [
-        ("", FrameKind::Truncated),
-        ("00000002 0105 00", FrameKind::LeftOver),
-        ("00000002 0107 00", FrameKind::BadKind),
-    ];
-    for (text, kind) in rows {
-        let bytes = bytes_of(rt.alloc(), text)?;
-        let fault = decode(rt.alloc(), &bytes).err();
-        assert_eq!(rt;
-            fault,
-            Some(DecodeFail::Fault(FrameFault { offset: 0, kind })),
-            "{text}"
-        );
+fn streams(rt: HostRuntime) -> Result<(), Fail> {
+    for (text, expected) in STREAMS {
+        check_stream(&rt, rt.alloc(), text, expected)?;
     }
     Ok(())
+}
+
+// The bytes aren't one frame, and this is their fault.
+fn check_fault<R: Abort>(rt: &R, alloc: Global, text: &str, kind: FrameKind) -> Result<(), Fail> {
+    let bytes = bytes_of(alloc, text)?;
+    let fault = DecodeFail::Fault(FrameFault { offset: 0, kind });
+    assert_eq!(rt; decode(alloc, &bytes).err(), Some(fault), "{text}");
+    Ok(())
+}
+
+#[test]
+fn all_of_the_bytes(rt: HostRuntime) -> Result<(), Fail> {
+    let alloc = rt.alloc();
+    check_fault(&rt, alloc, "", FrameKind::Truncated)?;
+    check_fault(&rt, alloc, "00000002 0105 00", FrameKind::LeftOver)?;
+    check_fault(&rt, alloc, "00000002 0107 00", FrameKind::BadKind)
 }
