@@ -10,7 +10,7 @@ ghost use Rattle.edit_message.specs.Missing.{missing_end};
 ghost use Rattle.admin_log.specs.Log.{entry_fault};
 ghost use Rattle.check_local.specs.Local.{with_version as local_verdict};
 ghost use Rattle.check_remote.specs.State.{verdict_at};
-ghost use Rattle.peer_core.specs.Peer.{state_in, cell_in, shown_in, text_in, missing_in, undone_between};
+ghost use Rattle.peer_core.specs.Peer.{is_full_journal, state_in, cell_in, shown_in, text_in, missing_in, undone_between};
 ghost use Rattle.tomb_seq.specs.Slots.{names_in};
 ghost use Rattle.peer_core.specs.Kept.{piece_by, judged_by};
 ghost use Rattle.peer_core.specs.Sound.{FollowsJournal, IsWithin};
@@ -25,7 +25,7 @@ use crate::sweep::Sweep;
 use admin_log::AdminLog;
 use auth_match::Judged;
 use check_local::{LocalVerdict, check_local};
-use coop_request::{Edit, Piece, Request};
+use coop_request::{Edit, MAX_REQUESTS, Piece, Request};
 use edit_message::{Key, Message, Missing};
 use elem_show::{Cell, ElemTable, shown};
 use element_name::{Name, NoMemory};
@@ -116,6 +116,13 @@ impl Journal {
         ensures few { result ≤ MAX_REQUESTS }
     {
         self.requests
+    }
+
+    /// Whether it has as many requests as there may be.
+    pub(crate) fn is_full(&self) -> bool
+        ensures { result ≡ is_full_journal self.now }
+    {
+        self.requests as usize >= MAX_REQUESTS
     }
 
     /// The greatest stamp of its requests.
