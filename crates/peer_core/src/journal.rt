@@ -1,5 +1,5 @@
 //! The journal, with what is kept of it.
-ghost use Rattle.std.specs.Prelude.{◌≡◌, ◌<◌, ◌≤◌, [], ◌∷◌, ◌++◌, length, slice_get, option_map, filter_map, IfOk, OnOk, OnErr};
+ghost use Rattle.std.specs.Prelude.{◌≡◌, ◌<◌, ◌≤◌, [], ◌∷◌, ◌++◌, None, length, slice_get, option_map, filter_map, IfOk, OnOk, OnErr};
 ghost use Rattle.std.specs.Option.{option_copied};
 ghost use Rattle.element_name.specs.declared.limits.TheConstants.{MAX_STAMP, MAX_VERSION};
 ghost use Rattle.coop_request.specs.declared.request.TheConstants.{MAX_REQUESTS};
@@ -9,10 +9,10 @@ ghost use Rattle.edit_message.specs.Message.{find_key, requests_of, entries_of};
 ghost use Rattle.edit_message.specs.Missing.{missing_end};
 ghost use Rattle.admin_log.specs.Log.{entry_fault};
 ghost use Rattle.check_local.specs.Local.{with_version as local_verdict};
-ghost use Rattle.check_remote.specs.State.{verdict_at};
+ghost use Rattle.check_remote.specs.State.{verdict_at, state_by};
 ghost use Rattle.peer_core.specs.Peer.{is_full_journal, state_in, cell_in, shown_in, text_in, missing_in, undone_between};
 ghost use Rattle.tomb_seq.specs.Slots.{names_in};
-ghost use Rattle.peer_core.specs.Kept.{piece_by, judged_by};
+ghost use Rattle.peer_core.specs.Kept.{piece_by, judged_by, IsGivenState};
 ghost use Rattle.peer_core.specs.Sound.{FollowsJournal, IsWithin};
 ghost use Rattle.peer_core.specs.Local.{greatest_stamp};
 ghost use Rattle.peer_core.specs.Answers.{least_awaiting};
@@ -23,7 +23,7 @@ use crate::join::join;
 use crate::missing::{missing, missing_end};
 use crate::sweep::Sweep;
 use admin_log::AdminLog;
-use auth_match::Judged;
+use auth_match::{Judged, Verdict};
 use check_local::{LocalVerdict, check_local};
 use coop_request::{Edit, MAX_REQUESTS, Piece, Request};
 use edit_message::{Key, Message, Missing};
@@ -211,6 +211,15 @@ impl Journal {
         )
     }
 
+    /// The state of a request that may be made and that the front grants: its range is the front alone.
+    pub(crate) fn granted_state(&self, request: Request) -> State
+        requires here { request.version ≡ length (entries_of self.now) }
+        requires granted { verdict_at (text_order (requests_of self.now ++ request ∷ [])) (entries_of self.now) request (length (entries_of self.now)) ≡ Verdict.Granted }
+        ensures { result ≡ state_in (requests_of self.now ++ request ∷ []) (entries_of self.now) request }
+    {
+        validated_state(self.log.validated(request.id()))
+    }
+
     // ---- what takes memory
 
     /// The pieces that show.
@@ -220,10 +229,15 @@ impl Journal {
         text_of(self.alloc, &self.seq, &self.cells)
     }
 
-    /// Puts a request last, and answers its state.
-    pub(crate) fn push_request(&mut self, request: Request) -> Result<State, NoMemory>
+    /// Puts a request last, judging it where its state isn't given, and answers its state.
+    pub(crate) fn push_request(
+        &mut self,
+        request: Request,
+        given: Option<State>,
+    ) -> Result<State, NoMemory>
         requires follows { FollowsJournal self.old (Coop request) }
         requires room { length (requests_of self.old) < MAX_REQUESTS }
+        requires given { IsGivenState given (text_order (requests_of self.old ++ request ∷ [])) (entries_of self.old) request }
         ensures ok { OnOk result (self.new ≡ self.old ++ Coop request ∷ []) }
         ensures state { IfOk result (λ state. state ≡ state_in (requests_of self.old ++ request ∷ []) (entries_of self.old) request) }
         ensures unchanged { OnErr result (self.new ≡ self.old) }
@@ -235,6 +249,7 @@ impl Journal {
             &mut self.cells,
             &mut self.states,
             request,
+            given,
         ) {
             Ok(state) => {
                 self.stamp = self.stamp.max(request.id().stamp());
@@ -275,6 +290,16 @@ impl Journal {
                 Err(NoMemory)
             }
         }
+    }
+}
+
+// The state of a granted request, by the version that validates it.
+fn validated_state(validation: Option<u32>) -> State
+    ensures { result ≡ state_by None validation }
+{
+    match validation {
+        Some(at) => State::Valid { at },
+        None => State::Tentative,
     }
 }
 

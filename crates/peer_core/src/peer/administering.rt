@@ -1,5 +1,5 @@
 //! The administrator's steps.
-ghost use Rattle.std.specs.Prelude.{◌≡◌, ◌<◌, Some, None, IfOk, OnOk, OnErr, IsOk, IsTrue};
+ghost use Rattle.std.specs.Prelude.{◌≡◌, ◌<◌, None, IfOk, OnOk, OnErr, IsOk, IsTrue};
 ghost use Rattle.element_name.specs.declared.limits.TheConstants.{MAX_VERSION};
 ghost use Rattle.coop_request.specs.History.{elements_of};
 ghost use Rattle.edit_message.specs.Missing.{missing_end};

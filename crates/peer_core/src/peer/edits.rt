@@ -1,5 +1,5 @@
 //! A user's own edits.
-ghost use Rattle.std.specs.Prelude.{◌≡◌, ◌<◌, ◌==◌, Some, None, false, length, slice_index_or, IfOk, OnOk, OnErr, IsOk, IsTrue};
+ghost use Rattle.std.specs.Prelude.{◌≡◌, ◌<◌, ◌==◌, false, length, slice_index_or, IfOk, OnOk, OnErr, IsOk, IsTrue};
 ghost use Rattle.element_name.specs.Name.{start};
 ghost use Rattle.element_name.specs.declared.limits.TheConstants.{MAX_STAMP};
 ghost use Rattle.coop_request.specs.declared.request.TheConstants.{MAX_REQUESTS};
@@ -10,6 +10,7 @@ ghost use Rattle.peer_core.specs.After.{changed_by, takes_none};
 ghost use Rattle.peer_core.specs.Local.{has_place, greatest_stamp, anchor_at, edit_of, new_request};
 
 use super::Peer;
+use auth_match::Verdict;
 use check_local::LocalVerdict;
 use coop_request::{Edit, Request};
 use edit_message::Message;
@@ -45,13 +46,17 @@ impl Peer {
         }
     }
 
+    // A request that the front grants joins the journal.
     fn make(&mut self, request: &Request) -> Result<Answer, NoMemory>
-        requires { MayIntegrate self.old (Message.Coop request.now) }
+        requires may { MayIntegrate self.old (Message.Coop request.now) }
+        requires here { request.now.version ≡ front self.old }
+        requires granted { own_verdict self.old request.now ≡ Verdict.Granted }
         ensures answer { IfOk result (λ answer. answer ≡ Answer.Done request.now) }
         ensures after { OnOk result (self.new ≡ integrate self.old (Message.Coop request.now)) }
         ensures unchanged { OnErr result (self.new ≡ self.old) }
     {
-        self.take_request(*request)?;
+        let state = self.journal.granted_state(*request);
+        self.take_request(*request, Some(state))?;
         Ok(Answer::Done(*request))
     }
 

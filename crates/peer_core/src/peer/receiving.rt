@@ -1,9 +1,9 @@
 //! Messages of others.
-ghost use Rattle.std.specs.Prelude.{◌≡◌, ◌<◌, ◌++◌, Some, None, option_map, IfOk, OnOk, OnErr, IsOk, IsTrue};
+ghost use Rattle.std.specs.Prelude.{◌≡◌, ◌++◌, Some, None, option_map, IfOk, OnOk, OnErr, IsOk, IsTrue};
 ghost use Rattle.edit_message.specs.Formed.{is_message};
 ghost use Rattle.edit_message.specs.Message.{key_of, find_key};
 ghost use Rattle.peer_core.specs.Known.{known_message};
-ghost use Rattle.peer_core.specs.Peer.{missing, integrate, hold};
+ghost use Rattle.peer_core.specs.Peer.{missing, integrate};
 ghost use Rattle.peer_core.specs.Sound.{is_foreign};
 ghost use Rattle.peer_core.specs.Waiting.{MayIntegrate};
 ghost use Rattle.peer_core.specs.Answers.{answer_receive, answer_missing, answer_taken};
@@ -81,7 +81,7 @@ impl Peer {
         ensures unchanged { OnErr result (self.new ≡ self.old) }
     {
         match message {
-            Message::Coop(request) => Ok(Answer::Taken(self.take_request(request)?)),
+            Message::Coop(request) => Ok(Answer::Taken(self.take_request(request, None)?)),
             Message::Admin(entry) => {
                 let told = entry.copied()?;
                 let undone = self.take_entry(entry, sweep)?;

@@ -1,7 +1,7 @@
 //! When a step is refused.
 ghost use Rattle.std.specs.Prelude.{◌≡◌, Some};
 ghost use Rattle.element_name.specs.Cases.{first_of};
-ghost use Rattle.peer_core.specs.Answers.{validated_by, rows_of_edit, rows_of_log, rows_of_validation, rows_of_operation, rows_of_administer, rows_of_message};
+ghost use Rattle.peer_core.specs.Answers.{rows_of_edit, rows_of_log, rows_of_validation, rows_of_operation, rows_of_administer, rows_of_message};
 ghost use Rattle.peer_core.specs.Local.{has_place};
 
 use super::Peer;

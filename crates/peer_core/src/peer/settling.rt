@@ -1,6 +1,6 @@
 //! Held messages that are due.
-ghost use Rattle.std.specs.Prelude.{◌≡◌, ℕ, ◌<◌, ◌∷◌, ◌++◌, [], Some, None, List, false, position, slice_get, option_and_then, IfOk, OnOk, OnErr, IsOk, IsTrue};
-ghost use Rattle.peer_core.specs.Peer.{is_due, finds_no_room, integrate};
+ghost use Rattle.std.specs.Prelude.{◌≡◌, ℕ, ◌∷◌, ◌++◌, [], Some, None, List, false, position, slice_get, option_and_then, IfOk, OnOk, OnErr, IsOk, IsTrue};
+ghost use Rattle.peer_core.specs.Peer.{is_due, finds_no_room};
 ghost use Rattle.peer_core.specs.Sound.{FollowsJournal};
 ghost use Rattle.peer_core.specs.Answers.{answer_settle, outcome_of, fault_in};
 ghost use Rattle.peer_core.specs.After.{changed_by, takes_none};
@@ -101,7 +101,7 @@ fn integrate<W: Sweep>(
     ensures unchanged { OnErr result (journal.new ≡ journal.old) }
 {
     match message {
-        Message::Coop(request) => Ok(Outcome::Taken(journal.push_request(request)?)),
+        Message::Coop(request) => Ok(Outcome::Taken(journal.push_request(request, None)?)),
         Message::Admin(entry) => Ok(Outcome::Advanced(journal.push_entry(entry, sweep)?)),
     }
 }

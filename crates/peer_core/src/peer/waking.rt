@@ -1,6 +1,8 @@
 //! What joins the journal, and what it wakes.
-ghost use Rattle.std.specs.Prelude.{◌≡◌, IfOk, OnOk, OnErr};
-ghost use Rattle.peer_core.specs.Peer.{state_at, integrate};
+ghost use Rattle.std.specs.Prelude.{◌≡◌, ◌++◌, ◌∷◌, [], IfOk, OnOk, OnErr};
+ghost use Rattle.coop_request.specs.History.{text_order};
+ghost use Rattle.peer_core.specs.Kept.{IsGivenState};
+ghost use Rattle.peer_core.specs.Peer.{history, log, state_at, integrate};
 ghost use Rattle.peer_core.specs.Waiting.{met_by, MayWake, HasWoken, MayIntegrate};
 ghost use Rattle.peer_core.specs.Answers.{undone_by};
 
@@ -17,13 +19,18 @@ use request_state::{State, Undone};
 
 impl Peer {
     // A request joins the journal, and what waited for its element is woken.
-    pub(super) fn take_request(&mut self, request: Request) -> Result<State, NoMemory>
-        requires { MayIntegrate self.old (Message.Coop request) }
+    pub(super) fn take_request(
+        &mut self,
+        request: Request,
+        given: Option<State>,
+    ) -> Result<State, NoMemory>
+        requires may { MayIntegrate self.old (Message.Coop request) }
+        requires given { IsGivenState given (text_order (history self.old ++ request ∷ [])) (log self.old) request }
         ensures after { OnOk result (self.new ≡ integrate self.old (Message.Coop request)) }
         ensures state { IfOk result (λ state. state ≡ state_at (integrate self.old (Message.Coop request)) request) }
         ensures unchanged { OnErr result (self.new ≡ self.old) }
     {
-        let state = self.journal.push_request(request)?;
+        let state = self.journal.push_request(request, given)?;
         wake_by(&mut self.hold, &self.journal, met_by_request(request));
         Ok(state)
     }
