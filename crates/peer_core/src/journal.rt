@@ -277,6 +277,7 @@ impl Journal {
         let copy = entry.copied()?;
         self.items.push(Message::Admin(entry))?;
         match advance(
+            self.alloc,
             &mut self.log,
             &mut self.seq,
             &mut self.cells,

@@ -1,0 +1,85 @@
+//! The elements of the requests that a new version may undo, and their marks.
+ghost use Rattle.std.specs.Prelude.{◌≡◌, ◌++◌, find, option_map, IfOk, OnOk, IsTrue};
+ghost use Rattle.std.specs.List.{list_all};
+ghost use Rattle.element_name.specs.Name.{start, has_name};
+ghost use Rattle.request_state.specs.Table.{is_in_order};
+ghost use Rattle.tomb_seq.specs.Slots.{names_in};
+ghost use Rattle.peer_core.specs.Kept.{shows_by};
+ghost use Rattle.peer_core.specs.Reached.{is_tentative_above, elements_above, elements_of_users, reached_elements, marked_among};
+
+use crate::join::mark;
+use coop_request::Request;
+use elem_show::ElemTable;
+use element_name::{Name, NoMemory};
+use policy_book::{Reach, UserRow};
+use request_state::StateTable;
+use std::alloc::Global;
+use tomb_seq::TombSeq;
+
+// The Tentative request with the least name above one, of a user where one is named.
+fn next(states: &StateTable, user: Option<u16>, above: Name) -> Option<Request>
+    ensures found { result ≡ option_map (λ k. k.request) (find (is_tentative_above user above) states.now) }
+    ensures in_order { IsTrue (is_in_order states.now) }
+{
+    match user {
+        None => states.next_tentative(above),
+        Some(user) => states.next_tentative_of(user, above),
+    }
+}
+
+fn add_elements(
+    elements: &mut Vec<Name>,
+    states: &StateTable,
+    user: Option<u16>,
+) -> Result<(), NoMemory>
+    ensures { OnOk result (elements.new.items ≡ elements.old.items ++ elements_above user start states.now) }
+{
+    let mut above = Name::start();
+    while let Some(request) = next(states, user, above) {
+        elements.push(request.element())?;
+        above = request.id();
+    }
+    Ok(())
+}
+
+fn add_of_users(
+    elements: &mut Vec<Name>,
+    states: &StateTable,
+    users: &UserRow,
+) -> Result<(), NoMemory>
+    ensures { OnOk result (elements.new.items ≡ elements.old.items ++ elements_of_users users.now states.now) }
+{
+    for i in 0..users.len() {
+        if let Some(user) = users.at(i) {
+            add_elements(elements, states, Some(user))?;
+        }
+    }
+    Ok(())
+}
+
+/// The elements of the Tentative requests within a reach: one look-up for each, and 16 bytes.
+pub(crate) fn reached_elements(
+    alloc: Global,
+    states: &StateTable,
+    reach: &Reach,
+) -> Result<Vec<Name>, NoMemory>
+    ensures { IfOk result (λ elements. elements.items ≡ reached_elements reach.now states.now) }
+{
+    let mut elements = Vec::new(alloc);
+    match reach {
+        Reach::Nobody => {}
+        Reach::Users(users) => add_of_users(&mut elements, states, users)?,
+        Reach::Everyone => add_elements(&mut elements, states, None)?,
+    }
+    Ok(elements)
+}
+
+/// Marks these elements by whether their cells show.
+pub(crate) fn mark_elements(seq: &mut TombSeq, cells: &ElemTable, elements: &[Name])
+    requires { IsTrue (list_all (has_name (names_in seq.old)) elements.now) }
+    ensures { seq.new ≡ marked_among elements.now (shows_by cells.now) seq.old }
+{
+    for element in elements {
+        mark(seq, cells, *element);
+    }
+}
