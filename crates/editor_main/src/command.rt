@@ -5,7 +5,7 @@ ghost use Rattle.editor_main.specs.Command.{command_of, replay_by, feed_by, make
 
 use crate::word::Word;
 use edit_make::MAX_EDITS;
-use script_text::read_number;
+use step_read::read_number;
 
 /// The greatest number of a site.
 pub(crate) const MAX_SITE: u64 = u16::MAX as u64;

@@ -17,9 +17,9 @@ use Rattle.peer_step.specs.declared.answer.Answer.{Answer}
 use Rattle.peer_step.specs.declared.answer.Answer.TheVariants.{Quiet, Dropped, Settled}
 use Rattle.peer_core.specs.Peer.{Peer, is_due}
 use Rattle.peer_core.specs.Answers.{answer_due, answer_settle, fault_in, outcome_of}
-use Rattle.report_text.specs.Answer.{answer_line}
+use Rattle.step_spelling.specs.Answers.{answer_line}
 use Rattle.peer_core.specs.After.{peer_after, changed_by, let_go}
-use Rattle.feed_form.specs.Turn.{is_quiet, settle_line, SettleRun, run_first, settle_steps, settle_all, answer_lines}
+use Rattle.feed_form.specs.Turn.{is_quiet, settle_line, SettleRun, run_first, settle_steps, all_settle_steps, answer_lines}
 
 pub quiet_is : (a : Answer) → is_quiet a ≡ true → a ≡ Quiet
 quiet_is Quiet h = refl
@@ -91,12 +91,12 @@ enough (suc n) (suc m) p false h le lf =
     ∙ ap (run_first (answer_settle p)) (enough n m q (is_quiet (answer_settle q)) refl (omega (arith, less, le)) (omega (arith, less, lf)))
     ∙ sym (steps_more m p h)
 
-pub settled_quiet : (p : Peer) → is_quiet (answer_settle p) ≡ true → settle_all p ≡ record { answers = []; peer = p }
-unfolding settle_all
+pub settled_quiet : (p : Peer) → is_quiet (answer_settle p) ≡ true → all_settle_steps p ≡ record { answers = []; peer = p }
+unfolding all_settle_steps
 settled_quiet p h = steps_quiet (length p.held) p h
 
-pub settled_more : (p : Peer) → is_quiet (answer_settle p) ≡ false → settle_all p ≡ run_first (answer_settle p) (settle_all (peer_after p Settle))
-unfolding settle_all
+pub settled_more : (p : Peer) → is_quiet (answer_settle p) ≡ false → all_settle_steps p ≡ run_first (answer_settle p) (all_settle_steps (peer_after p Settle))
+unfolding all_settle_steps
 settled_more p h =
     let less = settle_less p h in
     let q : Peer = peer_after p Settle in
@@ -113,8 +113,8 @@ steps_end (suc n) p false h le =
     ap (λ (a : SettleRun). is_quiet (answer_settle a.peer)) (steps_more n p h)
     ∙ steps_end n q (is_quiet (answer_settle q)) refl (omega (arith, settle_less p h, le))
 
-pub settled_ends : (p : Peer) → answer_settle (settle_all p).peer ≡ Quiet
-unfolding settle_all
+pub settled_ends : (p : Peer) → answer_settle (all_settle_steps p).peer ≡ Quiet
+unfolding all_settle_steps
 settled_ends p = quiet_is _ (steps_end (length p.held) p (is_quiet (answer_settle p)) refl (omega arith))
 
 -- ---- the loop of steps, from the peer p with these lines so far to the peer q with those now
@@ -130,32 +130,32 @@ not_due_by due false e h = absurd (true≢false (sym e ∙ h))
 
 module _ (p q : Peer) (lines now : List ℕ) (told : now ≡ lines ++ settle_line (answer_settle p)) (after : q ≡ peer_after p Settle) where
   -- at the end all lines are written, and the peer is the last one
-  pub lines_end : (all : List ℕ) → is_quiet (answer_settle p) ≡ true → lines ++ answer_lines (settle_all p).answers ≡ all → now ≡ all
+  pub lines_end : (all : List ℕ) → is_quiet (answer_settle p) ≡ true → lines ++ answer_lines (all_settle_steps p).answers ≡ all → now ≡ all
   lines_end all h so_far =
       told
       ∙ ap (λ (quiet : Bool). lines ++ cond quiet [] (answer_line None (answer_settle p))) h
       ∙ ap (λ (a : SettleRun). lines ++ answer_lines a.answers) (sym (settled_quiet p h))
       ∙ so_far
 
-  pub peer_end : (last : Peer) → is_quiet (answer_settle p) ≡ true → (settle_all p).peer ≡ last → q ≡ last
+  pub peer_end : (last : Peer) → is_quiet (answer_settle p) ≡ true → (all_settle_steps p).peer ≡ last → q ≡ last
   peer_end last h so_far = after ∙ quiet_stays p h ∙ ap (λ (a : SettleRun). a.peer) (sym (settled_quiet p h)) ∙ so_far
 
   -- before it the same is still to come
-  pub lines_more : (all : List ℕ) → is_quiet (answer_settle p) ≡ false → lines ++ answer_lines (settle_all p).answers ≡ all
-      → now ++ answer_lines (settle_all q).answers ≡ all
+  pub lines_more : (all : List ℕ) → is_quiet (answer_settle p) ≡ false → lines ++ answer_lines (all_settle_steps p).answers ≡ all
+      → now ++ answer_lines (all_settle_steps q).answers ≡ all
   lines_more all h so_far =
       let line : List ℕ = answer_line None (answer_settle p) in
-      let later : List ℕ = answer_lines (settle_all (peer_after p Settle)).answers in
-      let first : answer_lines (settle_all p).answers ≡ line ++ later
-      = ap (λ (a : SettleRun). answer_lines a.answers) (settled_more p h) ∙ flat_map-cons (answer_line None) (answer_settle p) (settle_all (peer_after p Settle)).answers in
-      ap (λ (r : Peer). now ++ answer_lines (settle_all r).answers) after
+      let later : List ℕ = answer_lines (all_settle_steps (peer_after p Settle)).answers in
+      let first : answer_lines (all_settle_steps p).answers ≡ line ++ later
+      = ap (λ (a : SettleRun). answer_lines a.answers) (settled_more p h) ∙ flat_map-cons (answer_line None) (answer_settle p) (all_settle_steps (peer_after p Settle)).answers in
+      ap (λ (r : Peer). now ++ answer_lines (all_settle_steps r).answers) after
       ∙ ap (λ (l : List ℕ). l ++ later) (told ∙ ap (λ (quiet : Bool). lines ++ cond quiet [] line) h)
       ∙ append_assoc lines line later
       ∙ ap (λ (l : List ℕ). lines ++ l) (sym first)
       ∙ so_far
 
-  pub peer_more : (last : Peer) → is_quiet (answer_settle p) ≡ false → (settle_all p).peer ≡ last → (settle_all q).peer ≡ last
-  peer_more last h so_far = ap (λ (r : Peer). (settle_all r).peer) after ∙ ap (λ (a : SettleRun). a.peer) (sym (settled_more p h)) ∙ so_far
+  pub peer_more : (last : Peer) → is_quiet (answer_settle p) ≡ false → (all_settle_steps p).peer ≡ last → (all_settle_steps q).peer ≡ last
+  peer_more last h so_far = ap (λ (r : Peer). (all_settle_steps r).peer) after ∙ ap (λ (a : SettleRun). a.peer) (sym (settled_more p h)) ∙ so_far
 
   -- and there is less of it
   pub held_less : is_quiet (answer_settle p) ≡ false → length q.held < length p.held

@@ -9,7 +9,7 @@ use Rattle.peer_step.specs.declared.answer.Answer.TheVariants.{Quiet}
 use Rattle.peer_core.specs.Peer.{Peer}
 use Rattle.peer_core.specs.Answers.{answer_receive, answer_settle}
 use Rattle.peer_core.specs.After.{peer_after}
-use Rattle.report_text.specs.Answer.{answer_line}
+use Rattle.step_spelling.specs.Answers.{answer_line}
 use Rattle.report_text.specs.Frame.{turn_line, end_line}
 
 -- no held message is due
@@ -39,8 +39,8 @@ settle_steps (suc n) p = elim (is_quiet (answer_settle p)) [
 ]
 
 -- all of them: each takes a held message away
-unfoldable pub settle_all : Peer → SettleRun
-settle_all p = settle_steps (length p.held) p
+unfoldable pub all_settle_steps : Peer → SettleRun
+all_settle_steps p = settle_steps (length p.held) p
 
 -- the lines of answers, where no message is numbered
 abbrev pub answer_lines : List Answer → List ℕ
@@ -53,7 +53,7 @@ pub record FeedTurn : Type 0 where
 
 -- a message is received, and what is due then is settled
 abbrev pub message_turn : Peer → Message → FeedTurn
-message_turn p m = let after = settle_all (peer_after p (Receive m)) in record {
+message_turn p m = let after = all_settle_steps (peer_after p (Receive m)) in record {
   reply = answer_line None (answer_receive p m) ++ answer_lines after.answers;
   peer = after.peer;
 }

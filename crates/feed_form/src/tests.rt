@@ -26,6 +26,12 @@ const SHORT: &[u8] = b"\0\0\0\x16\x02\x01\0\0\0\0\0\x01\0\0\0\0\0\0\0\0\0\0\0\0\
 // The delete 2.0 of 1.0, and one byte more.
 const LONG: &[u8] = b"\0\0\0\x15\x01\x02\0\0\0\0\0\x02\0\0\0\0\0\0\0\0\0\x01\0\0\0";
 
+// The delete 2.0 of the start.
+const OF_THE_START: &[u8] = b"\0\0\0\x14\x01\x02\0\0\0\0\0\x02\0\0\0\0\0\0\0\0\0\0\0\0";
+
+// The insert 1.0 of `b` behind itself.
+const BEHIND_ITSELF: &[u8] = b"\0\0\0\x18\x01\x01\0\0\0\0\0\x01\0\0\0\0\0\0\0\0\0\x01\0\0\0\0\0b";
+
 // The entry of version 2 that adds user 1.
 const ENTRY: &[u8] = b"\0\0\0\x07\x01\x04\0\x02\x01\0\x01";
 
@@ -92,6 +98,14 @@ fn streams(rt: HostRuntime) -> Result<(), Fail> {
         fed(&[PAIR], Status::Done, b"taken tentative\nshow ab\nheld 0\n"),
         fed(&[SHORT], bad, b"bad frame 0 3\n"),
         fed(&[LONG, FIRST], bad, b"bad frame 0 4\n"),
+        fed(&[b"\0\0\0\x01"], bad, b"bad frame 0 1\n"),
+        fed(&[b"\0\0\0\x02\x01\x09"], bad, b"bad frame 0 2\n"),
+        fed(&[OF_THE_START], bad, b"bad frame 0 6 2\n"),
+        fed(
+            &[FIRST, BEHIND_ITSELF],
+            bad,
+            b"taken tentative\nbad frame 28 6 3\n",
+        ),
         fed(
             &[SECOND, TURN, FIRST, END],
             Status::Done,

@@ -2,16 +2,17 @@
 ghost use Rattle.std.specs.Prelude.{◌≡◌, ◌++◌, not, None, OnOk, IfOk};
 ghost use Rattle.peer_core.specs.Answers.{answer_of, answer_settle};
 ghost use Rattle.peer_core.specs.After.{peer_after};
-ghost use Rattle.report_text.specs.Answer.{answer_line};
-ghost use Rattle.feed_form.specs.Turn.{is_quiet, settle_line, settle_all, answer_lines, message_turn, frame_turn};
+ghost use Rattle.step_spelling.specs.Answers.{answer_line};
+ghost use Rattle.feed_form.specs.Turn.{is_quiet, settle_line, all_settle_steps, answer_lines, message_turn, frame_turn};
 
 use edit_frame::Frame;
 use edit_message::Message;
 use element_name::NoMemory;
 use peer_core::Peer;
 use peer_step::{Answer, Step};
-use report_text::{answer_line, end_line, turn_line};
+use report_text::{end_line, turn_line};
 use std::alloc::Global;
+use step_write::answer_line;
 
 fn is_quiet(answer: &Answer) -> bool
     ensures { result ≡ is_quiet answer.now }
@@ -57,8 +58,8 @@ fn settle_first(alloc: Global, peer: &mut Peer, out: &mut Vec<u8>) -> Result<boo
 
 // Settles what is due, and appends the answers.
 fn settle(alloc: Global, peer: &mut Peer, out: &mut Vec<u8>) -> Result<(), NoMemory>
-    ensures reply { OnOk result (out.new.items ≡ out.old.items ++ answer_lines (settle_all peer.old).answers) }
-    ensures peer { OnOk result (peer.new ≡ (settle_all peer.old).peer) }
+    ensures reply { OnOk result (out.new.items ≡ out.old.items ++ answer_lines (all_settle_steps peer.old).answers) }
+    ensures peer { OnOk result (peer.new ≡ (all_settle_steps peer.old).peer) }
 {
     'steps: loop {
         let due = settle_first(alloc, peer, out)?;

@@ -14,7 +14,7 @@ use Rattle.replay_net.specs.declared.line.Line.{Line}
 use Rattle.replay_net.specs.declared.line.Line.TheVariants.{Peers, Local, Give, Hand, StateOf}
 use Rattle.replay_net.specs.World.{World, peer_of}
 use Rattle.script_text.specs.Line.{script_line}
-use Rattle.replay_form.specs.Replay.{script_turn, script_closing, played_turn}
+use Rattle.replay_form.specs.Replay.{script_turn, script_closing, reply_turn}
 use Rattle.replay_form.specs.Headline.{ShowLine, asked_peer, shown_peer, first_show, behind, show_lines, shown_line}
 
 -- a line that asks for a peer's text is answered by it
@@ -23,7 +23,7 @@ reply_shows : (w : Option World) (line : List ℕ) (t : LineTurn (Option World))
 reply_shows None line t p e h = absurd cc
 reply_shows (Some w) line t p e h = by (nat_le (length line) MAX_LINE) (script_line false (length w.peers) line) e h
   where
-    by : (b : Bool) (o : Option Line) → (if b then option_map (played_turn w) o else None) ≡ Some t → (o >>= asked_peer w) ≡ Some p → t.reply ≡ shown_line p
+    by : (b : Bool) (o : Option Line) → (if b then option_map (reply_turn w) o else None) ≡ Some t → (o >>= asked_peer w) ≡ Some p → t.reply ≡ shown_line p
     by false o e h = absurd cc
     by true None e h = absurd cc
     by true (Some (Peers n)) e h = absurd cc
@@ -37,7 +37,7 @@ reply_shows (Some w) line t p e h = by (nat_le (length line) MAX_LINE) (script_l
     by true (Some (Local i ValidateNext)) e h = absurd cc
     by true (Some (Local i (Look x))) e h = absurd cc
     by true (Some (Local i Show)) e h =
-        let turn : played_turn w (Local i Show) ≡ t = cc in
+        let turn : reply_turn w (Local i Show) ≡ t = cc in
         let same : peer_of w i ≡ p = cc in
         ap (λ (u : LineTurn (Option World)). u.reply) (sym turn) ∙ ap shown_line same
 

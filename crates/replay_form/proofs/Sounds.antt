@@ -23,8 +23,8 @@ use Rattle.replay_net.specs.Laws.{HaveSame, SoundWorldLaw, FreshWorldLaw}
 use Rattle.replay_net.specs.World.{World, fresh_world, peer_of, turn_of, IsSoundWorld}
 use Rattle.script_text.specs.Line.{script_line}
 use Rattle.script_text.specs.Laws.{FormedLaw, OpeningLaw, TakenLaw}
-use Rattle.report_text.specs.Answer.{answer_line}
-use Rattle.replay_form.specs.Replay.{script_turn, opening_turn, played_turn}
+use Rattle.step_spelling.specs.Answers.{answer_line}
+use Rattle.replay_form.specs.Replay.{script_turn, opening_turn, reply_turn}
 use Rattle.replay_form.specs.Headline.{ShowLine, is_show, asked_peer, shown_peer, first_show, behind, show_lines, shows_of, shown_line}
 
 -- the laws that this rests on
@@ -75,7 +75,7 @@ module _ (laws : Laws) where
   stays_sound : (w : World) (line : List ℕ) (t : LineTurn (Option World)) → IsSoundScript (Some w) → turn_of_line script_turn (Some w) line ≡ Some t → IsSoundScript t.world
   stays_sound w line t is e = by (nat_le (length line) MAX_LINE) (script_line false (length w.peers) line) refl e
     where
-      by : (b : Bool) (o : Option Line) → script_line false (length w.peers) line ≡ o → (if b then option_map (played_turn w) o else None) ≡ Some t → IsSoundScript t.world
+      by : (b : Bool) (o : Option Line) → script_line false (length w.peers) line ≡ o → (if b then option_map (reply_turn w) o else None) ≡ Some t → IsSoundScript t.world
       by false o said h = absurd cc
       by true None said h = absurd cc
       by true (Some l) said h =

@@ -6,34 +6,26 @@ use Rattle.line_engine.specs.Output.{Begins}
 use Rattle.line_engine.specs.Input.{is_cut, counted_bytes, lines_of}
 use Rattle.line_engine.specs.Run.{turn_of_line}
 use Rattle.peer_step.specs.declared.step.Step.{Step}
-use Rattle.peer_step.specs.declared.step.Step.TheVariants.{Edit, Administer, Receive, Settle, ValidateNext, Look, Show}
+use Rattle.peer_step.specs.declared.step.Step.TheVariants.{Show}
 use Rattle.peer_step.specs.declared.answer.Answer.TheVariants.{Shown}
 use Rattle.peer_core.specs.Peer.{Peer, text}
 use Rattle.replay_net.specs.declared.line.Line.{Line}
-use Rattle.replay_net.specs.declared.line.Line.TheVariants.{Peers, Local, Give, Hand, StateOf}
+use Rattle.replay_net.specs.declared.line.Line.TheVariants.{Local}
 use Rattle.replay_net.specs.World.{World, peer_of}
 use Rattle.replay_net.specs.Laws.{HaveSame}
 use Rattle.script_text.specs.Line.{script_line}
-use Rattle.report_text.specs.Answer.{answer_line}
+use Rattle.step_spelling.specs.Answers.{answer_line}
 use Rattle.replay_form.specs.Replay.{script_turn, replay_output}
 
 -- whether a step asks for the text
 abbrev pub is_show : Step → Bool
-is_show (Edit edit) = false
-is_show (Administer op) = false
-is_show (Receive message) = false
-is_show Settle = false
-is_show ValidateNext = false
-is_show (Look from) = false
 is_show Show = true
+is_show step = false
 
 -- the peer whose text a line asks for
 abbrev pub asked_peer : World → Line → Option Peer
-asked_peer w (Peers count) = None
 asked_peer w (Local i step) = when (is_show step) (peer_of w i)
-asked_peer w (Give message i) = None
-asked_peer w (Hand i message) = None
-asked_peer w (StateOf i name) = None
+asked_peer w line = None
 
 -- the peer whose text the bytes of a script's line ask for
 abbrev pub shown_peer : Option World → List ℕ → Option Peer

@@ -6,27 +6,24 @@ use Rattle.line_engine.specs.Output.{Output}
 use Rattle.line_engine.specs.Run.{LineTurn, output_of, part_of}
 use Rattle.line_engine.specs.Engine.{Ran}
 use Rattle.replay_net.specs.declared.line.Line.{Line}
-use Rattle.replay_net.specs.declared.line.Line.TheVariants.{Peers, Local, Give, Hand, StateOf}
+use Rattle.replay_net.specs.declared.line.Line.TheVariants.{Peers}
 use Rattle.replay_net.specs.World.{World, fresh_world, turn_of}
 use Rattle.script_text.specs.Line.{script_line}
-use Rattle.report_text.specs.Answer.{reply_line}
+use Rattle.report_text.specs.Reply.{reply_line}
 
 -- the line that begins a world writes nothing; no other line does
 abbrev pub opening_turn : Line → Option (LineTurn (Option World))
 opening_turn (Peers count) = Some (record { reply = []; world = Some (fresh_world count) })
-opening_turn (Local peer step) = None
-opening_turn (Give message peer) = None
-opening_turn (Hand peer message) = None
-opening_turn (StateOf peer name) = None
+opening_turn line = None
 
 -- a line of the world writes its reply
-abbrev pub played_turn : World → Line → LineTurn (Option World)
-played_turn w line = record { reply = reply_line (turn_of w line).reply; world = Some (turn_of w line).after }
+abbrev pub reply_turn : World → Line → LineTurn (Option World)
+reply_turn w line = record { reply = reply_line (turn_of w line).reply; world = Some (turn_of w line).after }
 
 -- what a line of a script writes, and the world after it; none where it is no line there
 abbrev pub script_turn : Option World → List ℕ → Option (LineTurn (Option World))
 script_turn None line = script_line true 0 line >>= opening_turn
-script_turn (Some w) line = option_map (played_turn w) (script_line false (length w.peers) line)
+script_turn (Some w) line = option_map (reply_turn w) (script_line false (length w.peers) line)
 
 -- nothing more is written at the end, but the first line has to have come
 abbrev pub script_closing : Option World → Option (List ℕ)

@@ -1,6 +1,7 @@
-//! What no clause says: the worked rows, bad lines, faults of sources and sinks, and full tables.
+//! What no clause says: the worked rows, the grammar, bad lines, faults of sources and sinks, and full tables.
 mod bad;
 mod faults;
+mod grammar;
 mod limits;
 mod rows;
 

@@ -1,3 +1,3 @@
-pub mod Answer
+pub mod Reply
 pub mod Closing
 pub mod Frame

@@ -1,16 +1,15 @@
 //! The lines of what a peer holds.
 ghost use Rattle.std.specs.Prelude.{◌≡◌, ◌++◌, flat_map, OnOk, OnErr};
-ghost use Rattle.replay_net.specs.Values.{each_behind};
+ghost use Rattle.step_spelling.specs.Values.{behind_spaces};
 ghost use Rattle.peer_core.specs.Peer.{finds_no_room};
 ghost use Rattle.report_text.specs.Closing.{waiting_words, reason_words, waits_line, held_lines};
 
-use crate::part::put_missing;
-use crate::values::{put, put_name_word, put_number_word};
 use coop_request::MAX_REQUESTS;
 use edit_message::Message;
 use element_name::NoMemory;
 use peer_core::Peer;
 use std::alloc::Global;
+use step_write::{put, put_missing, put_name_word, put_number_word};
 
 fn finds_no_room(peer: &Peer, message: &Message) -> bool
     ensures { result ≡ finds_no_room peer.now.journal message.now }
@@ -23,7 +22,7 @@ fn finds_no_room(peer: &Peer, message: &Message) -> bool
 
 // Appends what waits, each word behind a space.
 fn put_waiting(line: &mut Vec<u8>, message: &Message) -> Result<(), NoMemory>
-    ensures { OnOk result (line.new.items ≡ line.old.items ++ each_behind 32 (waiting_words message.now)) }
+    ensures { OnOk result (line.new.items ≡ line.old.items ++ behind_spaces (waiting_words message.now)) }
 {
     match message {
         Message::Coop(request) => {
@@ -39,7 +38,7 @@ fn put_waiting(line: &mut Vec<u8>, message: &Message) -> Result<(), NoMemory>
 
 // Appends what a message waits for, each word behind a space.
 fn put_reason(line: &mut Vec<u8>, peer: &Peer, message: &Message) -> Result<(), NoMemory>
-    ensures { OnOk result (line.new.items ≡ line.old.items ++ each_behind 32 (reason_words peer.now message.now)) }
+    ensures { OnOk result (line.new.items ≡ line.old.items ++ behind_spaces (reason_words peer.now message.now)) }
 {
     if let Some(missing) = peer.missing(message) {
         return put_missing(line, missing);

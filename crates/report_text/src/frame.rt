@@ -1,13 +1,13 @@
 //! The lines of frames that are no messages, and of a stream's fault.
 ghost use Rattle.std.specs.Prelude.{◌≡◌, ◌++◌, OnOk, OnErr};
-ghost use Rattle.replay_net.specs.Values.{each_behind};
+ghost use Rattle.step_spelling.specs.Values.{behind_spaces};
 ghost use Rattle.report_text.specs.Frame.{request_fault_text, frame_kind_words, frame_fault_line, turn_line, end_line};
 
-use crate::values::{put, put_number_word};
 use coop_request::RequestFault;
 use edit_frame::{FrameFault, FrameKind};
 use element_name::NoMemory;
 use std::alloc::Global;
+use step_write::{put, put_number_word};
 
 fn put_request_fault(line: &mut Vec<u8>, fault: RequestFault) -> Result<(), NoMemory>
     ensures { OnOk result (line.new.items ≡ line.old.items ++ request_fault_text fault) }
@@ -21,7 +21,7 @@ fn put_request_fault(line: &mut Vec<u8>, fault: RequestFault) -> Result<(), NoMe
 
 // Appends the numbers of a frame's fault, each behind a space.
 fn put_frame_kind(line: &mut Vec<u8>, kind: FrameKind) -> Result<(), NoMemory>
-    ensures { OnOk result (line.new.items ≡ line.old.items ++ each_behind 32 (frame_kind_words kind)) }
+    ensures { OnOk result (line.new.items ≡ line.old.items ++ behind_spaces (frame_kind_words kind)) }
 {
     match kind {
         FrameKind::BadLength => put(line, b" 1"),

@@ -1,21 +1,12 @@
-//! The lines that answers and replies are written in, and the texts of steps and messages.
+//! The lines of a world's replies, of what a peer holds, and of a stream's frames that are no messages.
 //!
-//! A call fails where memory is wanting, and has then appended nothing, if it doesn't say otherwise.
+//! A call fails where memory is wanting, and has then appended nothing.
 #![tactic(auto)]
 
-mod answer;
 mod closing;
 mod frame;
-mod part;
-mod spelling;
-mod values;
+mod reply;
 
-pub use answer::{answer_line, reply_line};
 pub use closing::held_lines;
 pub use frame::{end_line, frame_fault_line, turn_line};
-pub use part::put_shown;
-pub use spelling::{message_text, step_text};
-pub use values::put_number_word;
-
-#[cfg(test)]
-mod tests;
+pub use reply::reply_line;

@@ -6,24 +6,27 @@ use Rattle.std.proofs.lemmas.Bool.{and_from, and_parts}
 use Rattle.element_name.specs.Cases.{◌>>=◌}
 use Rattle.edit_message.specs.Formed.{is_message}
 use Rattle.peer_step.specs.declared.step.Step.{Step}
+use Rattle.peer_step.specs.Formed.{is_step}
 use Rattle.peer_step.specs.declared.step.Step.TheVariants.{Edit, Administer, ValidateNext, Look, Settle, Show}
 use Rattle.replay_net.specs.declared.line.TheConstants.{MAX_PEERS}
 use Rattle.replay_net.specs.declared.line.Line.{Line}
 use Rattle.replay_net.specs.declared.line.Line.TheVariants.{Peers, Local, Give, Hand, StateOf}
 use Rattle.replay_net.specs.Line.{is_receive, is_opening, is_world_line, is_formed_line}
-use Rattle.script_text.specs.declared.numbers.TheConstants.{MAX_WIDE}
-use Rattle.script_text.specs.Words.{is_alone}
-use Rattle.script_text.specs.Numbers.{read_number, read_wide, read_count, read_peer, read_name, one_peer}
-use Rattle.script_text.specs.Operation.{read_operation}
-use Rattle.script_text.specs.Line.{read_local_edit, read_own, read_local, read_give, read_hand, read_look, read_state, read_later, one_count, read_first}
-use Rattle.script_text.proofs.Passing.{Passes, none, some, where_, either, first, then, mapped, alone}
-use Rattle.script_text.proofs.FormedLines.{number_low, operation, message, is_formed_step, local_edit}
+use Rattle.step_read.specs.declared.numbers.TheConstants.{MAX_WIDE}
+use Rattle.step_read.specs.Words.{is_alone}
+use Rattle.step_read.specs.Numbers.{read_number, read_wide, read_name}
+use Rattle.step_read.specs.Operation.{read_operation}
+use Rattle.step_read.specs.Step.{read_local_edit}
+use Rattle.script_text.specs.Peers.{read_count, read_peer, one_peer}
+use Rattle.script_text.specs.Line.{read_own, read_local, read_give, read_hand, read_look, read_state, read_later, one_count, read_first}
+use Rattle.step_read.proofs.Passing.{Passes, none, some, where_, tested, either, first, then, mapped, alone}
+use Rattle.step_read.proofs.FormedSteps.{number_low, operation, message, local_edit}
 
 -- ---- peers and their own steps
 
 -- P is one of so many peers
 peer : (peers : ℕ) (word : List ℕ) → Passes (λ p. nat_lt p peers) (read_peer peers word)
-peer peers word = then (λ p. nat_lt p peers) (read_wide word) _ (λ n at. where_ (λ p. nat_lt p peers) (nat_lt n peers) n (λ h. h))
+peer peers word = tested (λ p. nat_lt p peers) (read_wide word)
 
 -- one argument, a peer
 a_peer : (peers : ℕ) (args : List (List ℕ)) → Passes (λ p. nat_lt p peers) (one_peer peers args)
@@ -31,7 +34,7 @@ a_peer peers = alone (λ p. nat_lt p peers) (read_peer peers) (peer peers)
 
 -- a step that takes no message, and is well formed
 abbrev is_own : Step → Bool
-is_own step = not (is_receive step) && is_formed_step step
+is_own step = not (is_receive step) && is_step step
 
 -- a step of a peer's own is one
 own : (args : List (List ℕ)) → Passes is_own (read_own args)
@@ -54,8 +57,8 @@ for_peer peers word f each = then (fits peers) (read_peer peers word) f (λ p re
 -- the line of one of the peers with such a step
 own_line : (peers p : ℕ) (step : Step) → nat_lt p peers ≡ true → is_own step ≡ true → fits peers (Local p step) ≡ true
 own_line peers p step below is =
-    let parts = and_parts (not (is_receive step)) (is_formed_step step) is in
-    and_from (is_formed_step step) (nat_lt p peers && not (is_receive step)) parts.1 (and_from (nat_lt p peers) (not (is_receive step)) below parts.0)
+    let parts = and_parts (not (is_receive step)) (is_step step) is in
+    and_from (is_step step) (nat_lt p peers && not (is_receive step)) parts.1 (and_from (nat_lt p peers) (not (is_receive step)) below parts.0)
 
 -- a peer and its step
 local : (peers : ℕ) (number : List ℕ) (args : List (List ℕ)) → Passes (fits peers) (read_local peers number args)

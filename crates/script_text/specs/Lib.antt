@@ -1,8 +1,3 @@
-pub mod Words
-pub mod Numbers
-pub mod Pieces
-pub mod Sets
-pub mod Operation
-pub mod Message
+pub mod Peers
 pub mod Line
 pub mod Laws

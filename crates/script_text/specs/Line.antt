@@ -1,39 +1,18 @@
--- Script lines and step lines.
+-- Script lines.
 use Rattle.std.specs.Prelude.{ℕ, Bool, List, [], ◌∷◌, Option, Some, None, option_map, codes, if◌then◌else◌}
 use Rattle.element_name.specs.Cases.{when, given, first_of, ◌>>=◌}
-use Rattle.peer_step.specs.declared.step.LocalEdit.{LocalEdit}
-use Rattle.peer_step.specs.declared.step.LocalEdit.TheVariants.{Insert, Delete, Update}
 use Rattle.peer_step.specs.declared.step.Step.{Step}
-use Rattle.peer_step.specs.declared.step.Step.TheVariants.{Edit, Administer, Receive, Settle, ValidateNext, Look, Show}
+use Rattle.peer_step.specs.declared.step.Step.TheVariants.{Edit, Administer, Settle, ValidateNext, Look, Show}
 use Rattle.replay_net.specs.declared.line.TheConstants.{MAX_PEERS}
 use Rattle.replay_net.specs.declared.line.Line.{Line}
 use Rattle.replay_net.specs.declared.line.Line.TheVariants.{Peers, Local, Give, Hand, StateOf}
-use Rattle.script_text.specs.declared.numbers.TheConstants.{MAX_WIDE}
-use Rattle.script_text.specs.Words.{is_line, words, beside, are_none, is_alone}
-use Rattle.script_text.specs.Numbers.{read_wide, read_count, read_peer, read_name, one_wide, one_peer}
-use Rattle.script_text.specs.Pieces.{read_piece}
-use Rattle.script_text.specs.Operation.{read_operation}
-use Rattle.script_text.specs.Message.{read_message}
-
--- AT LETTER
-abbrev pub place_and_piece : List (List ℕ) → Option (ℕ × List ℕ)
-place_and_piece (a ∷ b ∷ []) = do
-  at ← read_wide a
-  piece ← read_piece b
-  Some (at, piece)
-place_and_piece args = None
-
--- an edit at a place
-unfoldable pub read_local_edit : List (List ℕ) → Option LocalEdit
-read_local_edit (word ∷ args) = beside word (
-    (codes "insert", option_map (λ pair. Insert pair.0 pair.1) (place_and_piece args))
-    ∷ (codes "delete", option_map Delete (one_wide args))
-    ∷ (codes "update", option_map (λ pair. Update pair.0 pair.1) (place_and_piece args))
-    ∷ [])
-    None
-read_local_edit [] = None
-
--- ---- script lines
+use Rattle.step_read.specs.declared.numbers.TheConstants.{MAX_WIDE}
+use Rattle.step_read.specs.Words.{is_line, words, beside, is_alone}
+use Rattle.step_read.specs.Numbers.{read_wide, read_name}
+use Rattle.step_read.specs.Operation.{read_operation}
+use Rattle.step_read.specs.Message.{read_message}
+use Rattle.step_read.specs.Step.{read_local_edit}
+use Rattle.script_text.specs.Peers.{read_count, read_peer, one_peer}
 
 -- a step of a peer's own: an edit, `validatenext` or an operation
 unfoldable pub read_own : List (List ℕ) → Option Step
@@ -110,23 +89,3 @@ read_first [] = None
 -- what a script line says, the first one or a later one, where there are so many peers
 abbrev pub script_line : Bool → ℕ → List ℕ → Option Line
 script_line first peers bytes = given (is_line bytes) (if first then read_first (words bytes) else read_later peers (words bytes))
-
--- ---- step lines
-
--- a step that is one word
-unfoldable pub read_plain : List ℕ → Option Step
-read_plain word = beside word ((codes "show", Some Show) ∷ (codes "settle", Some Settle) ∷ (codes "validatenext", Some ValidateNext) ∷ []) None
-
-unfoldable pub read_step : List (List ℕ) → Option Step
-read_step (word ∷ args) = beside word (
-    (codes "edit", option_map Edit (read_local_edit args))
-    ∷ (codes "look", option_map Look (one_wide args))
-    ∷ (codes "message", option_map Receive (read_message args))
-    ∷ (codes "admin", option_map Administer (read_operation args))
-    ∷ [])
-    (given (are_none args) (read_plain word))
-read_step [] = None
-
--- what a step line says
-abbrev pub step_line : List ℕ → Option Step
-step_line bytes = given (is_line bytes) (read_step (words bytes))

@@ -1,19 +1,18 @@
 //! Script lines.
 ghost use Rattle.std.specs.Prelude.{◌≡◌, IfOk, IsErrOf, Some, None, IsTrue, true, false};
 ghost use Rattle.replay_net.specs.Line.{is_opening, is_world_line};
-ghost use Rattle.script_text.specs.Words.{bytes_of};
+ghost use Rattle.step_read.specs.Words.{bytes_of};
 ghost use Rattle.script_text.specs.Line.{read_own, read_local, read_give, read_hand, read_look, read_state, read_later, one_count, read_first, script_line};
 
-use crate::message::read_message;
-use crate::numbers::{one_peer, read_count, read_name, read_peer, read_wide};
-use crate::operation::read_operation;
-use crate::step::read_local_edit;
-use crate::words::{is_alone, is_line, parts};
+use crate::peers::{one_peer, read_count, read_peer};
 use element_name::NoMemory;
 use line_engine::LineFail;
 use peer_step::Step;
 use replay_net::{Line, MAX_PEERS};
 use std::alloc::Global;
+use step_read::{
+    is_alone, is_line, read_local_edit, read_message, read_name, read_operation, read_wide, words_of,
+};
 
 // A step of a peer's own.
 #[tactic(auto, unfolding(crate::specs::Line::read_own))]
@@ -171,7 +170,7 @@ pub fn script_line(alloc: Global, bytes: &[u8], first: bool, peers: u32) -> Resu
     if !is_line(bytes) {
         return Err(LineFail::Bad);
     }
-    let Ok(words) = parts(alloc, b' ', bytes) else {
+    let Ok(words) = words_of(alloc, bytes) else {
         return Err(LineFail::NoMemory);
     };
     if first {

@@ -1,11 +1,11 @@
 use Rattle.std.proofs.Common.{◌≡◌, ◌++◌, length}
-use Rattle.feed_form.specs.Turn.{settle_all, answer_lines}
+use Rattle.feed_form.specs.Turn.{all_settle_steps, answer_lines}
 use Rattle.feed_form.proofs.turn.settle.Given as goal
 
 abbrev pub invariant-steps : goal.invariant-steps
 invariant-steps l = record {
-  reply : l.out.items ++ answer_lines (settle_all l.peer).answers ≡ l.fn.out.items ++ answer_lines (settle_all l.fn.peer).answers;
-  peer : (settle_all l.peer).peer ≡ (settle_all l.fn.peer).peer;
+  reply : l.out.items ++ answer_lines (all_settle_steps l.peer).answers ≡ l.fn.out.items ++ answer_lines (all_settle_steps l.fn.peer).answers;
+  peer : (all_settle_steps l.peer).peer ≡ (all_settle_steps l.fn.peer).peer;
 }
 
 abbrev pub decreases-steps : goal.decreases-steps

@@ -1,9 +1,0 @@
-use Rattle.std.proofs.Common.{◌≡◌, ◌-◌, ◌≤◌, map, take}
-use Rattle.std.specs.Int.Digits.{number_from_digits}
-use Rattle.script_text.proofs.numbers.read_number.Given as goal
-
-abbrev pub invariant-loop-digit : goal.invariant-loop-digit
-invariant-loop-digit l = record {
-  value : l.value ≡ number_from_digits 10 (take l.digit-index (map (λ d. d - 48) l.word));
-  small : l.value ≤ l.limit;
-}

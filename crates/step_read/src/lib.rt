@@ -1,0 +1,20 @@
+//! Reading steps, messages and operations, by their words, and the lines of steps.
+//!
+//! A call that takes memory fails where it is wanting.
+#![tactic(auto)]
+
+pub mod laws;
+mod message;
+mod numbers;
+mod operation;
+mod pieces;
+mod sets;
+mod step;
+mod words;
+
+pub use line_engine::LineFail;
+pub use message::read_message;
+pub use numbers::{MAX_WIDE, read_name, read_number, read_wide};
+pub use operation::read_operation;
+pub use step::{read_local_edit, step_line};
+pub use words::{is_alone, is_line, words_of};

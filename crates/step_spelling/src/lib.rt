@@ -1,0 +1,9 @@
+//! How steps, messages and answers are spelled: the bytes that mean something of their own in a line, and the
+//! definitions of what is written.
+#![tactic(auto)]
+
+mod signs;
+
+pub use signs::{
+    BACKSLASH, COMMA, GROUP_SIGN, LINE_END, LINE_END_LETTER, POINT, SPACE, SPACE_LETTER,
+};

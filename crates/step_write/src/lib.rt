@@ -1,0 +1,14 @@
+//! Writing the texts of steps and messages, and the lines of answers.
+//!
+//! A call fails where memory is wanting, and has then appended nothing, if it doesn't say otherwise.
+#![tactic(auto)]
+
+mod answer;
+mod parts;
+mod steps;
+mod values;
+
+pub use answer::answer_line;
+pub use parts::{put_missing, put_shown, put_state};
+pub use steps::{message_text, step_text};
+pub use values::{put, put_name_word, put_number_word};
