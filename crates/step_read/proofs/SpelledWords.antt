@@ -1,19 +1,24 @@
--- Pieces and numbers are read back from their spellings.
-use Rattle.std.proofs.Common.{◌≡◌, ℕ, zero, suc, ◌+◌, ◌-◌, ◌/◌, ◌%◌, ◌<◌, ◌≤◌, ◌^◌, Bool, true, false, not, ◌||◌, List, [], ◌∷◌, ◌++◌, map, length, Some, refl, subst, arith}
-use Rattle.std.specs.Prelude.{◌==◌, nat_lt, nat_le, decimal, slice_index}
-use Rattle.std.specs.List.{list_all}
+-- Pieces, numbers and names are read back from their spellings.
+use Rattle.std.proofs.Common.{◌≡◌, ℕ, zero, suc, ◌+◌, ◌-◌, ◌/◌, ◌%◌, ◌<◌, ◌≤◌, ◌^◌, Bool, true, false, not, ◌||◌, List, [], ◌∷◌, ◌++◌, map, drop, length, Some, refl, subst, arith}
+use Rattle.std.specs.Prelude.{◌==◌, nat_lt, nat_le, decimal, position, slice_index}
+use Rattle.std.specs.List.{list_all, position_or_len}
 use Rattle.std.specs.Char.{is_ascii_digit}
 use Rattle.std.specs.Int.Digits.{number_from_digits}
 use Rattle.std.proofs.lemmas.Fmt.{decimal_by_steps, decimal_digit, decimal_nonempty, first_decimal}
 use Rattle.std.proofs.lemmas.Int.Digits.{number_push}
 use Rattle.std.proofs.lemmas.List.Folds.{list_all-append}
-use Rattle.std.proofs.lemmas.List.{map-append}
+use Rattle.std.proofs.Math.Seq.{take-append_seam, drop-append-add}
+use Rattle.std.proofs.lemmas.List.{length-append, map-append}
+use Rattle.std.proofs.lemmas.Bool.{and_parts, leb-true, ltb-true}
 use Rattle.std.proofs.lemmas.Bool.Decides.{nat_tests}
+use Rattle.element_name.specs.declared.limits.TheConstants.{MAX_STAMP}
+use Rattle.element_name.specs.Name.{Name, is_in_range}
+use Rattle.policy_book.specs.Lists.{is_short, is_name}
 use Rattle.coop_request.specs.Piece.{is_piece}
-use Rattle.step_spelling.specs.declared.signs.TheConstants.{SPACE, LINE_END, BACKSLASH}
-use Rattle.step_spelling.specs.Values.{piece_byte, piece_text}
-use Rattle.step_read.specs.declared.numbers.TheConstants.{ZERO_DIGIT}
-use Rattle.step_read.specs.Numbers.{is_numeral, digits_of, read_number}
+use Rattle.step_spelling.specs.declared.signs.TheConstants.{SPACE, LINE_END, POINT, BACKSLASH}
+use Rattle.step_spelling.specs.Values.{piece_byte, piece_text, name_text}
+use Rattle.step_read.specs.declared.numbers.TheConstants.{ZERO_DIGIT, MAX_SHORT}
+use Rattle.step_read.specs.Numbers.{is_numeral, digits_of, read_number, read_name}
 use Rattle.step_read.specs.Pieces.{unescaped_bytes, read_piece}
 
 same_number : (a b : ℕ) → (a == b) ≡ true → b ≡ a
@@ -82,3 +87,42 @@ unfolding read_number
 read_number-decimal limit n within small =
     let below : nat_le n limit ≡ true = grind (arith, nat_tests) in
     rw (is_numeral-decimal n small, (spelled n small).value, below) refl
+
+-- ---- names
+
+-- the first point is the one behind the digits
+digits_first : (ds rest : List ℕ) → list_all is_ascii_digit ds ≡ true → position_or_len (λ b. b == POINT) (ds ++ (POINT ∷ rest)) ≡ length ds
+digits_first [] rest all = refl
+digits_first (d ∷ ds) rest all =
+    let parts = and_parts (is_ascii_digit d) (list_all is_ascii_digit ds) all in
+    let other : (d == POINT) ≡ false = grind (arith, nat_tests, parts.0) in
+    rw (other, digits_first ds rest parts.1) (omega arith)
+
+-- so it stands there
+point_behind : (ds rest : List ℕ) → list_all is_ascii_digit ds ≡ true → position (λ b. b == POINT) (ds ++ (POINT ∷ rest)) ≡ Some (length ds)
+point_behind ds rest all =
+    let within : nat_lt (length ds) (length (ds ++ (POINT ∷ rest))) ≡ true = simp length-append (grind (arith, nat_tests)) in
+    rw (digits_first ds rest all, within) refl
+
+-- what stands behind it
+behind_point : (ds rest : List ℕ) → drop (length ds + 1) (ds ++ (POINT ∷ rest)) ≡ rest
+behind_point ds rest = drop-append-add ds (POINT ∷ rest) 1
+
+pub read_name-name_text : (n : Name) → is_name n ≡ true → read_name (name_text n) ≡ Some n
+unfolding read_name
+read_name-name_text n is =
+    let parts = and_parts (is_in_range n.stamp n.site) (is_short n.site) is in
+    let range = and_parts (nat_le n.stamp MAX_STAMP) (nat_lt 0 n.stamp || (n.site == 0)) parts.0 in
+    let stamp_low : n.stamp ≤ MAX_STAMP = leb-true n.stamp MAX_STAMP range.0 in
+    let site_low : n.site < 2 ^ 16 = ltb-true n.site (2 ^ 16) parts.1 in
+    let stamp : read_number MAX_STAMP (decimal n.stamp) ≡ Some n.stamp = read_number-decimal MAX_STAMP n.stamp stamp_low (omega arith) in
+    let site : read_number MAX_SHORT (decimal n.site) ≡ Some n.site = read_number-decimal MAX_SHORT n.site (omega arith) (omega arith) in
+    rw (
+      point_behind (decimal n.stamp) (decimal n.site) (spelled n.stamp (omega arith)).all,
+      take-append_seam (decimal n.stamp) (POINT ∷ decimal n.site),
+      stamp,
+      behind_point (decimal n.stamp) (decimal n.site),
+      site,
+      parts.0,
+    )
+    refl
