@@ -69,7 +69,7 @@ const GOOD_LINES: [&str; 41] = [
     "state 1 0.0",
 ];
 
-const BAD_LINES: [&str; 93] = [
+const BAD_LINES: [&str; 94] = [
     "",
     " ",
     " show 0",
@@ -163,6 +163,7 @@ const BAD_LINES: [&str; 93] = [
     "state 1",
     "state 1 1",
     "state 2 1.0",
+    "state 0 0.1",
 ];
 
 // Step lines, each in the one spelling of its step.
