@@ -1,7 +1,7 @@
 -- What the steps of a run say of what was written.
-use Rattle.std.specs.Prelude.{◌≡◌, ℕ, ◌≤◌, ◌<◌, Bool, true, false, List, [], ◌++◌, Option, Result, IsTrue, IsErrOf}
+use Rattle.std.specs.Prelude.{◌≡◌, ℕ, ◌≤◌, ◌<◌, Bool, true, false, List, [], ◌++◌, Option, Result, Ok, Err, IsTrue}
 use Rattle.std.specs.Io.KnownBytes.{Appends}
-use Rattle.edit_io.specs.Causes.{Rose}
+use Rattle.edit_io.specs.Causes.{next_count}
 use Rattle.line_engine.specs.declared.status.Status.{Status}
 use Rattle.line_engine.specs.declared.status.Stop.{Stop}
 use Rattle.line_engine.specs.declared.status.Stop.TheVariants as stops
@@ -37,7 +37,14 @@ pub record Closes {F : Type 0} (m : Meaning F) (old new : F)
   pub appends : Appends sink_old sink_new written
   pub leaves : IsTrue (is_whole status) → m.leaves old cut [] new
 
--- a count never falls, and a run is stopped by a write only where it rose
+-- a sink's count of faults after a step that answered so
+abbrev pub stop_faults_after : {T : Type 0} → ℕ → Result T Stop → ℕ
+stop_faults_after before (Ok x) = before
+stop_faults_after before (Err stops.WriteFault) = next_count before
+stop_faults_after before (Err stops.BadInput) = before
+stop_faults_after before (Err stops.NoMemory) = before
+
+-- a sink's count never falls: a step that a write stops counts one more, and another leaves it
 pub record StopCause {T : Type 0} (before now : ℕ) (result : Result T Stop) : Type 0 where
   pub later : before ≤ now
-  pub rose : IsErrOf result stops.WriteFault → Rose before now
+  pub counted : now ≡ stop_faults_after before result
