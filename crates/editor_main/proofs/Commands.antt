@@ -33,7 +33,7 @@ ran_read command output part Leaves l r a b status reads outputs parts heads (in
     appends = ran.appends;
     ends = subst (Ends status written) (sym (outputs input)) ran.ends;
     at_end = λ reader done. ran.at_end done;
-    read_fault = λ fault. let f = ran.read_fault fault in (f.0, f.1, parts f.0 ∙ f.2);
+    read_fault = λ fault. let f = ran.read_fault fault in (f.0, f.1, f.2, parts f.0 ∙ f.3);
     kept = λ silent. absurd (true≢false (sym reads ∙ silent));
     headline = heads input;
   },

@@ -1,6 +1,7 @@
 -- What the top call writes.
-use Rattle.std.specs.Prelude.{◌≡◌, ℕ, Bool, true, false, List, Option, Some, None, codes}
+use Rattle.std.specs.Prelude.{◌≡◌, ℕ, ◌≤◌, Bool, true, false, List, Option, Some, None, length, codes}
 use Rattle.std.specs.Io.KnownBytes.{Appends, Consumes, IsAtEnd, Keeps}
+use Rattle.line_engine.specs.declared.limits.TheConstants.{MAX_INPUT}
 use Rattle.line_engine.specs.declared.status.Status.{Status}
 use Rattle.line_engine.specs.declared.status.Status.TheVariants.{Done, Usage, ReadFault}
 use Rattle.line_engine.specs.Output.{Output, Ends, line_of}
@@ -54,8 +55,9 @@ pub record RanPlain (command : Option Command) (left_old left_new sink_old sink_
   pub ends : Ends status written (plain_output command input)
   -- with Done a command that reads has read its input to the end
   pub at_end : is_reader command ≡ true → status ≡ Done → IsAtEnd left_new
-  -- where reading failed, the bytes are the part of what was read, and nothing in that is bad
-  pub read_fault : status ≡ ReadFault → (read : List ℕ) × Consumes left_old left_new read × (plain_part command read ≡ Some written)
+  -- where reading failed, all that was read counts, the bytes are the part of it, and nothing in it is bad
+  pub read_fault : status ≡ ReadFault
+      → (read : List ℕ) × Consumes left_old left_new read × (length read ≤ MAX_INPUT) × (plain_part command read ≡ Some written)
   -- a command that reads nothing leaves the source as it is
   pub kept : is_reader command ≡ false → Keeps left_old left_new
   -- what the output of `replay` says of the texts that are shown
