@@ -32,11 +32,11 @@ struct Sticky {
 }
 
 impl Write for Sticky {
-    fn write(&mut self, piece: &[u8]) -> io::Result<usize> {
+    fn write(&mut self, chunk: &[u8]) -> io::Result<usize> {
         self.calls = self.calls.saturating_add(1);
         match self.calls {
             1 => Err(Error::from(ErrorKind::Interrupted)),
-            2 if piece == b"ab".as_slice() => Ok(2),
+            2 if chunk == b"ab".as_slice() => Ok(2),
             _ => Ok(0),
         }
     }
@@ -47,7 +47,7 @@ impl Write for Sticky {
 }
 
 #[test]
-fn memory_gives_and_keeps_in_pieces(rt: HostRuntime) -> Result<(), Fail> {
+fn memory_gives_and_keeps_in_chunks(rt: HostRuntime) -> Result<(), Fail> {
     let alloc = rt.alloc();
     let mut source = MemSource::new(Vec::from_slice(alloc, b"abc")?, 2, vec![in alloc; 2]?);
     let mut sink = MemSink::new(alloc, 2, vec![in alloc; 2]?);

@@ -3,12 +3,15 @@ ghost use Rattle.std.specs.Prelude.{◌≡◌, ◌≢◌, ℕ, ◌<◌, length, 
 
 use memchr::memchr;
 
+/// The byte that ends a line: LF.
+pub const LINE_END: u8 = b'\n';
+
 /// Where the first line end is.
 pub(crate) fn find_lf(bytes: &[u8]) -> Option<usize>
     ensures within { IfSome result (λ i. i < length bytes.now) }
-    ensures found { IfSome result (λ i. slice_index bytes.now i ≡ 10) }
-    ensures first { IfSome result (λ i. (k : ℕ) → k < i → slice_index bytes.now k ≢ 10) }
-    ensures none { IfNone result ((k : ℕ) → k < length bytes.now → slice_index bytes.now k ≢ 10) }
+    ensures found { IfSome result (λ i. slice_index bytes.now i ≡ LINE_END) }
+    ensures first { IfSome result (λ i. (k : ℕ) → k < i → slice_index bytes.now k ≢ LINE_END) }
+    ensures none { IfNone result ((k : ℕ) → k < length bytes.now → slice_index bytes.now k ≢ LINE_END) }
 {
-    memchr(b'\n', bytes)
+    memchr(LINE_END, bytes)
 }

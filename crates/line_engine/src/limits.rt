@@ -7,4 +7,4 @@ pub const MAX_INPUT: usize = 67_108_864;
 pub const MAX_LINE: usize = 1_024;
 
 /// How many bytes are asked for at once at most: 64 KiB.
-pub const PIECE: usize = 65_536;
+pub const MAX_CHUNK: usize = 65_536;

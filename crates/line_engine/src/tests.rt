@@ -1,8 +1,9 @@
 //! What no contract says: that memory is found, that a line is answered before more is read, that an
 //! answer is offered whole, and what the limits are.
-ghost use Rattle.std.specs.Prelude.{◌≡◌, ◌<◌, ◌==◌, ◌++◌, ◌∷◌, [], None, Some, codes, decimal, length, option_map, OnOk, if◌then◌else◌};
+ghost use Rattle.std.specs.Prelude.{◌≡◌, ◌<◌, ◌==◌, ◌++◌, None, Some, codes, decimal, length, option_map, OnOk, if◌then◌else◌};
+ghost use Rattle.line_engine.specs.Output.{line_of};
 
-use crate::{LineFail, Lines, Status, run_world, say};
+use crate::{LINE_END, LineFail, Lines, Status, run_world, say};
 use edit_io::{MemSink, MemSource};
 use std::alloc::{AllocError, Global};
 use std::process::Abort;
@@ -16,17 +17,17 @@ struct Lengths {
 
 // Appends a number and a line end.
 fn put_number(alloc: Global, number: usize, out: &mut Vec<u8>) -> Result<(), AllocError>
-    ensures { OnOk result (out.new.items ≡ out.old.items ++ (decimal number ++ 10 ∷ [])) }
+    ensures { OnOk result (out.new.items ≡ out.old.items ++ line_of (decimal number)) }
 {
     let text = number.to_string(alloc)?;
     out.extend_from_slice(text.as_bytes())?;
-    out.push(b'\n')?;
+    out.push(LINE_END)?;
     Ok(())
 }
 
 // Appends the line of the end.
 fn put_last(alloc: Global, number: usize, out: &mut Vec<u8>) -> Result<(), AllocError>
-    ensures { OnOk result (out.new.items ≡ out.old.items ++ (codes "last " ++ (decimal number ++ 10 ∷ []))) }
+    ensures { OnOk result (out.new.items ≡ out.old.items ++ line_of (codes "last " ++ decimal number)) }
 {
     out.extend_from_slice(b"last ")?;
     put_number(alloc, number, out)
@@ -34,9 +35,9 @@ fn put_last(alloc: Global, number: usize, out: &mut Vec<u8>) -> Result<(), Alloc
 
 impl Lines for Lengths {
     ghost turn = { λ w line. if length line == 0 then None
-        else Some (record { reply = decimal (length line) ++ 10 ∷ []; world = record { last = Some (length line) } }) };
+        else Some (record { reply = line_of (decimal (length line)); world = record { last = Some (length line) } }) };
 
-    ghost closing = { λ w. option_map (λ number. codes "last " ++ (decimal number ++ 10 ∷ [])) w.last };
+    ghost closing = { λ w. option_map (λ number. line_of (codes "last " ++ decimal number)) w.last };
 
     fn line(&mut self, alloc: Global, line: &[u8], out: &mut Vec<u8>) -> Result<(), LineFail> {
         if line.is_empty() {
@@ -65,16 +66,16 @@ impl Lines for Lengths {
 // How many bytes come or are taken at once, and the call that fails; 0 for none.
 #[derive(Clone, Copy)]
 struct Calls {
-    piece: usize,
+    chunk: usize,
     fails: u64,
 }
 
 const WHOLE: Calls = Calls {
-    piece: 2_000,
+    chunk: 2_000,
     fails: 0,
 };
 
-const BY_ONE: Calls = Calls { piece: 1, fails: 0 };
+const BY_ONE: Calls = Calls { chunk: 1, fails: 0 };
 
 // Runs the world on a script, and looks at the status and at what was written.
 fn check(
@@ -85,13 +86,13 @@ fn check(
     status: Status,
     wanted: &[u8],
 ) -> Result<(), AllocError>
-    requires source { 0 < source.piece }
-    requires sink { 0 < sink.piece }
+    requires source { 0 < source.chunk }
+    requires sink { 0 < sink.chunk }
 {
     let alloc = rt.alloc();
     let bytes = Vec::from_slice(alloc, script)?;
-    let mut from = MemSource::new(bytes, source.piece, vec![in alloc; source.fails]?);
-    let mut to = MemSink::new(alloc, sink.piece, vec![in alloc; sink.fails]?);
+    let mut from = MemSource::new(bytes, source.chunk, vec![in alloc; source.fails]?);
+    let mut to = MemSink::new(alloc, sink.chunk, vec![in alloc; sink.fails]?);
     let (_, answer) = run_world(alloc, Lengths { last: None }, &mut from, &mut to);
     assert_eq!(rt; to.written(), wanted);
     assert_eq!(rt; answer, status);
@@ -99,7 +100,7 @@ fn check(
 }
 
 #[test]
-fn lines_are_answered_whatever_the_pieces(rt: HostRuntime) -> Result<(), Fail> {
+fn lines_are_answered_whatever_the_chunks(rt: HostRuntime) -> Result<(), Fail> {
     let rt = &rt;
     check(rt, b"", WHOLE, WHOLE, Status::BadInput, b"bad line 1\n")?;
     check(
@@ -125,7 +126,7 @@ fn lines_are_answered_whatever_the_pieces(rt: HostRuntime) -> Result<(), Fail> {
 #[test]
 fn failures_stop_in_mid_stream(rt: HostRuntime) -> Result<(), Fail> {
     let rt = &rt;
-    let fifth = Calls { piece: 1, fails: 5 };
+    let fifth = Calls { chunk: 1, fails: 5 };
     check(rt, b"ab\ncd\nef\n", fifth, WHOLE, Status::ReadFault, b"2\n")?;
     check(
         rt,
@@ -138,7 +139,7 @@ fn failures_stop_in_mid_stream(rt: HostRuntime) -> Result<(), Fail> {
 
     // A line is offered in one write.
     let second = Calls {
-        piece: 2_000,
+        chunk: 2_000,
         fails: 2,
     };
     check(
