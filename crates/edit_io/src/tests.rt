@@ -1,5 +1,8 @@
 //! What no contract says: that memory is found, and what is done with a real stream's errors.
-use crate::{Failed, MemSink, MemSource, OutFail, ReadSource, Sink, Source, WriteSink};
+use crate::{
+    Door, Failed, Link, MemDoor, MemLink, MemSink, MemSource, OutFail, ReadSource, Sink, Source,
+    WriteSink,
+};
 use std::io;
 use std::io::{Error, ErrorKind, Read, Write};
 use std::test::Fail;
@@ -86,5 +89,42 @@ fn streams_go_on_after_an_interruption_and_flush(rt: HostRuntime) -> Result<(), 
     for wanted in [Ok(2), Ok(2), Err(OutFail::Failed)] {
         assert_eq!(rt; sink.write(b"ab"), wanted);
     }
+    Ok(())
+}
+
+fn is_message(call: &Result<Option<Vec<u8>>, OutFail>, message: &[u8]) -> bool {
+    match call {
+        Ok(Some(came)) => came.as_slice() == message,
+        _ => false,
+    }
+}
+
+#[test]
+fn a_link_goes_through_a_door_and_back(rt: HostRuntime) -> Result<(), Fail> {
+    let alloc = rt.alloc();
+    let mut incoming = Vec::new(alloc);
+    incoming.push(Vec::from_slice(alloc, b"ab")?)?;
+    let mut links = Vec::new(alloc);
+    links.push(Some(MemLink::new(alloc, incoming, vec![in alloc; 2]?)))?;
+    let mut door = MemDoor::new(links, Vec::new(alloc));
+    assert_eq!(rt; door.listen(7_000), Ok(()));
+    match door.accept() {
+        Ok(line) => {
+            assert!(rt; door.connect(7_000).is_err());
+            let mut line = line;
+            assert!(rt; is_message(&line.recv(), b"ab"));
+            assert_eq!(rt; line.send(b"x"), Err(OutFail::Failed));
+            assert_eq!(rt; line.send(b"x"), Ok(()));
+            assert!(rt; matches!(&line.recv(), Ok(None)));
+            door.back(line);
+        }
+        Err(_) => assert!(rt; false),
+    }
+    let Some(line) = door.used(0) else {
+        return Err(Fail::from("no link came back"));
+    };
+    assert_eq!(rt; line.sent().len(), 1);
+    assert_eq!(rt; line.faults(), 1);
+    assert_eq!(rt; line.closes(), 1);
     Ok(())
 }
