@@ -10,7 +10,7 @@ returns c =
       set = c.same_sets.ensures;
       sound_world = c.sound_worlds.ensures.after;
       fresh_world_sound = c.sound_worlds.ensures.fresh;
-      formed = c.formed.ensures.script;
+      formed = c.formed.ensures;
       opening = c.taken.ensures.opening;
       taken = c.taken.ensures.later;
     } in
