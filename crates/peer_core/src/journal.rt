@@ -1,5 +1,5 @@
 //! The journal, with what is kept of it.
-ghost use Rattle.std.specs.Prelude.{◌≡◌, ◌<◌, ◌≤◌, [], ◌∷◌, ◌++◌, None, length, slice_get, option_map, filter_map, IfOk, OnOk, OnErr};
+ghost use Rattle.std.specs.Prelude.{◌≡◌, ◌<◌, ◌≤◌, [], ◌∷◌, ◌++◌, length, slice_get, option_map, IfOk, OnOk, OnErr};
 ghost use Rattle.std.specs.Option.{option_copied};
 ghost use Rattle.element_name.specs.declared.limits.TheConstants.{MAX_STAMP, MAX_VERSION};
 ghost use Rattle.coop_request.specs.declared.request.TheConstants.{MAX_REQUESTS};
@@ -9,25 +9,25 @@ ghost use Rattle.edit_message.specs.Message.{find_key, requests_of, entries_of};
 ghost use Rattle.edit_message.specs.Missing.{missing_end};
 ghost use Rattle.admin_log.specs.Log.{entry_fault};
 ghost use Rattle.check_local.specs.Local.{with_version as local_verdict};
-ghost use Rattle.check_remote.specs.State.{verdict_at, state_by};
+ghost use Rattle.check_remote.specs.State.{verdict_at};
 ghost use Rattle.peer_core.specs.Peer.{is_full_journal, state_in, cell_in, shown_in, text_in, missing_in, undone_between};
-ghost use Rattle.tomb_seq.specs.Slots.{names_in};
-ghost use Rattle.peer_core.specs.Kept.{piece_by, judged_by, IsGivenState};
+ghost use Rattle.peer_core.specs.Kept.{IsGivenState};
 ghost use Rattle.peer_core.specs.Sound.{FollowsJournal, IsWithin};
 ghost use Rattle.peer_core.specs.Local.{greatest_stamp};
 ghost use Rattle.peer_core.specs.Answers.{least_awaiting};
 
 use crate::advance::advance;
 use crate::items::Items;
-use crate::join::join;
+use crate::join::{join, judged, validated_state};
 use crate::missing::{missing, missing_end};
 use crate::sweep::Sweep;
+use crate::text::text_of;
 use admin_log::AdminLog;
-use auth_match::{Judged, Verdict};
+use auth_match::Verdict;
 use check_local::{LocalVerdict, check_local};
-use coop_request::{Edit, MAX_REQUESTS, Piece, Request};
+use coop_request::{MAX_REQUESTS, Request};
 use edit_message::{Key, Message, Missing};
-use elem_show::{Cell, ElemTable, shown};
+use elem_show::{Cell, ElemTable};
 use element_name::{Name, NoMemory};
 use packed_message::PackedMessage;
 use peer_step::Text;
@@ -292,49 +292,4 @@ impl Journal {
             }
         }
     }
-}
-
-// The state of a granted request, by the version that validates it.
-fn validated_state(validation: Option<u32>) -> State
-    ensures { result ≡ state_by None validation }
-{
-    match validation {
-        Some(at) => State::Valid { at },
-        None => State::Tentative,
-    }
-}
-
-// What a request is judged on: the new element, or its target.
-fn judged(request: Request) -> Judged
-    ensures { result ≡ judged_by request.id request.edit }
-{
-    match request.edit() {
-        Edit::Insert { after, .. } => Judged::Fresh {
-            name: request.id(),
-            after,
-        },
-        Edit::Delete { target } => Judged::There(target),
-        Edit::Update { target, .. } => Judged::There(target),
-    }
-}
-
-// The piece that shows of an element.
-fn piece_of(cells: &ElemTable, element: Name) -> Option<Piece>
-    ensures { result ≡ piece_by cells.now element }
-{
-    let cell = cells.cell(element)?;
-    shown(cell)
-}
-
-fn text_of(alloc: Global, seq: &TombSeq, cells: &ElemTable) -> Result<Text, NoMemory>
-    ensures { IfOk result (λ text. text ≡ filter_map (piece_by cells.now) (names_in seq.now)) }
-{
-    let mut text = Text::new(alloc);
-    let names = seq.names()?;
-    for name in &names {
-        if let Some(piece) = piece_of(cells, *name) {
-            text.push(piece)?;
-        }
-    }
-    Ok(text)
 }
