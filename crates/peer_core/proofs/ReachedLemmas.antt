@@ -1,8 +1,8 @@
 -- The elements of the requests that a new version may undo.
-use Rattle.std.proofs.Common.{◌≡◌, ◌⊎◌, ℕ, ◌+◌, ◌<◌, inl, inr, ⊎_elim, Bool, true, false, ◌&&◌, ◌||◌, List, [], ◌∷◌, ◌++◌, length, None, Some, refl, sym, ap, subst, ◌∙◌, arith, filter, map}
-use Rattle.std.specs.Prelude.{find, flat_map, nat_eq, option_map, slice_get, take, if◌then◌else◌}
+use Rattle.std.proofs.Common.{◌≡◌, ℕ, inl, inr, ⊎_elim, Bool, true, false, ◌&&◌, ◌||◌, List, [], ◌∷◌, ◌++◌, None, Some, refl, sym, ap, subst, ◌∙◌, filter, map}
+use Rattle.std.specs.Prelude.{find, nat_eq, option_map, if◌then◌else◌}
 use Rattle.std.specs.declared.option.Option.{Option}
-use Rattle.std.specs.List.{list_all, list_any, AllByRecursion}
+use Rattle.std.specs.List.{list_all, AllByRecursion}
 use Rattle.std.proofs.lemmas.Bool.{and_parts, cases_Bool, or_left, or_right, eq-eqb, eqb-true}
 use Rattle.element_name.specs.Name.{Name, start, name_eq, name_lt, has_name}
 use Rattle.element_name.proofs.NameOrder.{same_name, name_eq-refl, name_eq-comm, name_lt-irrefl, name_lt-asym, name_lt-trans}

@@ -1,7 +1,6 @@
 use Rattle.std.proofs.Common.{List, [], ◌∷◌, ◌++◌, length, ap, sym, ◌∙◌, append_assoc, arith}
 use Rattle.std.proofs.lemmas.List.{append-nil}
 use Rattle.element_name.specs.Name.{Name}
-use Rattle.coop_request.specs.Request.{element_of}
 use Rattle.peer_core.specs.Reached.{elements_above}
 use Rattle.peer_core.proofs.ReachedLemmas.{elements_step, elements_end}
 use Rattle.peer_core.proofs.reached.add_elements.Goals as goal

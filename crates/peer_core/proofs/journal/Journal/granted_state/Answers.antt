@@ -1,5 +1,4 @@
 use Rattle.std.proofs.Common.{◌≡◌, List, [], ◌∷◌, ◌++◌, None, length, ap, sym, subst, ◌∙◌}
-use Rattle.std.specs.declared.option.Option.{Option}
 use Rattle.element_name.specs.Name.{Name}
 use Rattle.coop_request.specs.History.{text_order}
 use Rattle.edit_message.specs.declared.message.Message.{Message}

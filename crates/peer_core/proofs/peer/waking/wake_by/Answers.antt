@@ -1,4 +1,4 @@
-use Rattle.std.proofs.Common.{◌≡◌, true, subst, refl}
+use Rattle.std.proofs.Common.{◌≡◌, true, subst}
 use Rattle.hold_back.specs.Hold.{messages_of}
 use Rattle.peer_core.specs.Waiting.{wait_rightly, woken_for}
 use Rattle.peer_core.proofs.Waits.{all_later}
