@@ -11,7 +11,8 @@ use peer_step::Step;
 use replay_net::{Line, MAX_PEERS};
 use std::alloc::Global;
 use step_read::{
-    is_alone, is_line, read_local_edit, read_message, read_name, read_operation, read_wide, words_of,
+    is_alone, is_line, read_local_edit, read_message, read_name, read_operation, read_wide,
+    words_of,
 };
 
 // A step of a peer's own.
