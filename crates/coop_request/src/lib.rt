@@ -9,6 +9,3 @@ mod request;
 pub use edit::{Edit, Right};
 pub use piece::{MAX_PIECE, Piece};
 pub use request::{MAX_REQUESTS, Request, RequestFault};
-
-#[cfg(test)]
-mod tests;

@@ -5,6 +5,3 @@ pub mod laws;
 mod message;
 
 pub use message::{Key, Message, Missing};
-
-#[cfg(test)]
-mod tests;

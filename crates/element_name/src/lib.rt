@@ -11,6 +11,3 @@ pub use limits::{MAX_STAMP, MAX_VERSION};
 pub use name::Name;
 pub use no_memory::NoMemory;
 pub use places::Places;
-
-#[cfg(test)]
-mod tests;

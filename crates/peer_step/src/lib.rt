@@ -8,6 +8,3 @@ mod text;
 pub use answer::{Answer, Outcome};
 pub use step::{LocalEdit, Step};
 pub use text::Text;
-
-#[cfg(test)]
-mod tests;

@@ -1,5 +1,5 @@
 use Rattle.std.proofs.Common.{◌+◌, ◌*◌, ◌≤◌, ◌<◌, length}
-use Rattle.edit_frame.proofs.tests.split.Given as goal
+use Rattle.form_tests.proofs.of_edit_frame.split.Given as goal
 
 abbrev pub invariant-all : goal.invariant-all
 invariant-all l = (l.splitter.offset + length l.splitter.rest + length l.rest ≤ 1000) × (0 < l.size)

@@ -1,8 +1,8 @@
 //! What no clause says: worked frames, written and read; which fault of damaged ones comes first; streams however cut.
 ghost use Rattle.std.specs.Prelude.{◌≤◌, ◌<◌, length};
 
-use crate::{DecodeFail, Frame, FrameFault, FrameKind, Splitter, decode, encode};
 use coop_request::{Edit, Piece, Request};
+use edit_frame::{DecodeFail, Frame, FrameFault, FrameKind, Splitter, decode, encode};
 use edit_message::Message;
 use element_name::Name;
 use policy_book::{AdminOp, Auth, Entry, Extent, NameList, NumList, Rights, UserSet};

@@ -1,0 +1,27 @@
+//! Tests of the public calls of one peer, and of the crates that it stands on: what no clause says of them.
+//!
+//! They stand in a crate of their own, since a crate with tests is proved twice.
+#![tactic(auto)]
+
+#[cfg(test)]
+mod of_admin_log;
+#[cfg(test)]
+mod of_coop_request;
+#[cfg(test)]
+mod of_edit_message;
+#[cfg(test)]
+mod of_element_name;
+#[cfg(test)]
+mod of_packed_message;
+#[cfg(test)]
+mod of_packed_request;
+#[cfg(test)]
+mod of_peer_core;
+#[cfg(test)]
+mod of_peer_step;
+#[cfg(test)]
+mod of_policy_book;
+#[cfg(test)]
+mod of_request_state;
+#[cfg(test)]
+mod of_tomb_seq;
