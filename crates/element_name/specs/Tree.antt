@@ -19,7 +19,7 @@ path_in (p ∷ older) e = if name_eq p.name e then path_in older p.anchor ++ p.n
 abbrev pub path : List Placed → Name → List Name
 path placed e = path_in (reverse placed) e
 
--- the first path is a proper front of the second, or has the greater name at their first difference
+-- the first path is a proper prefix of the second, or has the greater name at their first difference
 abbrev pub path_before : List Name → List Name → Bool
 path_before [] [] = false
 path_before [] (f ∷ fs) = true

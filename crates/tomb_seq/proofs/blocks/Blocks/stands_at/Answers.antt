@@ -18,7 +18,7 @@ returns-in-Some-clause-there c = λ t.
     let seen : slice_get (names_in b.slots) c.args.spot.place ≡ Some c.args.n =
     ap (λ (ss : List Slot). slice_get (names_in ss) c.args.spot.place) (sym c.slots.ensures.value) ∙ sym c.name_at.ensures ∙ c.in-Some.is ∙ ap (λ (m : Name). Some m) e in
     subst (λ (bs : List Run). IsThere bs c.args.n c.args.spot) c.self.view_is
-    (seen_there runs c.args.spot b c.args.n l c.index.ensures seen c.self.invariant.elements.distinct)
+    (seen_there runs c.args.spot b c.args.n l c.index.ensures seen c.self.invariant.runs.elements.distinct)
 
 pub returns-in-Some-clause-found : goal.returns-in-Some-clause-found
 returns-in-Some-clause-found c = λ t.
