@@ -1,5 +1,6 @@
 -- Whose requests an operation may deny.
-use Rattle.std.specs.Prelude.{ℕ, Bool, true, false, [], ◌∷◌, is_some, slice_get, if◌then◌else◌}
+use Rattle.std.specs.Prelude.{ℕ, Bool, true, false, not, [], ◌∷◌, is_some, slice_get, if◌then◌else◌}
+use Rattle.std.specs.List.{list_any}
 use Rattle.std.specs.Option.{option_map_or}
 use Rattle.policy_book.specs.declared.auth.UserSet.{UserSet}
 use Rattle.policy_book.specs.declared.auth.UserSet.TheVariants.{All, Listed, Groups}
@@ -9,7 +10,7 @@ use Rattle.policy_book.specs.declared.op.AdminOp.TheVariants.{AddUser, DelUser, 
 use Rattle.policy_book.specs.declared.op.AdminOp.TheVariants.{DelAuth, Validate}
 use Rattle.policy_book.specs.declared.reach.Reach.{Reach}
 use Rattle.policy_book.specs.declared.reach.Reach.TheVariants.{Nobody, Users, Everyone}
-use Rattle.policy_book.specs.Policy.{Policy, policy_fault}
+use Rattle.policy_book.specs.Policy.{Policy, policy_fault, is_object}
 use Rattle.policy_book.specs.Lists.{has_number}
 
 -- those of whom a set speaks; the members of groups may come and go
@@ -42,6 +43,20 @@ reach_of_legal p (Validate request) = Nobody
 -- whose requests an operation may deny: everyone's, where it isn't legal
 abbrev pub reach_of : Policy → AdminOp → Reach
 reach_of p op = if is_some (policy_fault p op) then Everyone else reach_of_legal p op
+
+-- none of the authorization's objects is there
+abbrev pub lacks_objects : Policy → Auth → Bool
+lacks_objects p a = not (list_any (is_object p) a.objects)
+
+-- the operation adds or removes an authorization none of whose objects is there
+abbrev pub is_vacuous : Policy → AdminOp → Bool
+is_vacuous p (AddAuth place auth) = lacks_objects p auth
+is_vacuous p (DelAuth place) = option_map_or (λ a. lacks_objects p a.auth) (slice_get p.auths place) false
+is_vacuous p op = false
+
+-- whose requests a legal operation may deny, by what is there: an authorization without objects matches nothing
+abbrev pub narrowed_reach : Policy → AdminOp → Reach
+narrowed_reach p op = if is_vacuous p op then Nobody else reach_of p op
 
 -- the user is one of those
 abbrev pub is_reached : Reach → ℕ → Bool

@@ -23,6 +23,3 @@ pub use op::{AdminOp, Entry};
 pub use parts::{Group, Members, NumberedAuth, Object};
 pub use policy::Policy;
 pub use reach::{Reach, UserRow};
-
-#[cfg(test)]
-mod tests;

@@ -22,7 +22,7 @@ impl Numbered for u16 {
     }
 }
 
-// How many from the front have no greater number.
+// How many from the beginning have no greater number.
 fn place_for<T: Numbered>(items: &[T], number: u16) -> usize
     ensures { result ≡ length (take_while (λ x. nat_le (T.number_of x) number) items.now) }
 {

@@ -1,10 +1,11 @@
 //! Policies.
 ghost use Rattle.std.specs.Prelude.{◌≡◌, IfOk, IfErr, OnOk, OnErr, ◌==◌, [], ◌∷◌, not, nat_le, nat_lt, length, slice_get, option_map};
 ghost use Rattle.element_name.specs.Cases.{when, first_of};
+ghost use Rattle.std.specs.List.{list_any};
 ghost use Rattle.std.specs.Option.{option_copied};
 ghost use Rattle.policy_book.specs.Policy.{IsWithinLimits, IsLegal, IsRefusal, first_policy, policy_after, is_user, extent_of, members_of, is_object};
 ghost use Rattle.policy_book.specs.Policy.{is_group, is_member, is_full, is_full_group, policy_fault};
-ghost use Rattle.policy_book.specs.Reach.{reach_of, reach_of_legal};
+ghost use Rattle.policy_book.specs.Reach.{reach_of, reach_of_legal, lacks_objects, is_vacuous, narrowed_reach};
 
 use crate::auth::{Auth, Extent};
 use crate::fault::{ApplyFault, EntryFault};
@@ -80,6 +81,12 @@ impl Policy {
             .iter()
             .find(|o| o.number == number)
             .map(|o| &o.extent)
+    }
+
+    fn object(&self, number: u16) -> bool
+        ensures { result ≡ is_object self.now number }
+    {
+        self.extent(number).is_some()
     }
 
     /// Whether there is a group of this number.
@@ -267,6 +274,49 @@ impl Policy {
         ensures { result ≡ reach_of self.now op.now }
     {
         self.reach_of_change(op)
+    }
+
+    /// Whose requests a legal operation may deny, by the objects that are there: nobody's where it adds or removes
+    /// an authorization none of whose objects is there, which matches nothing, and otherwise as [`Policy::reach`]
+    /// says. Takes no memory, and a look-up of each of at most [`MAX_NUMBERS`](crate::MAX_NUMBERS) objects.
+    pub fn narrowed_reach(&self, op: &AdminOp) -> Reach
+        requires { IsLegal self.now op.now }
+        ensures { result ≡ narrowed_reach self.now op.now }
+    {
+        if self.is_vacuous(op) {
+            return Reach::Nobody;
+        }
+        self.reach(op)
+    }
+
+    fn is_vacuous(&self, op: &AdminOp) -> bool
+        ensures { result ≡ is_vacuous self.now op.now }
+    {
+        match op {
+            AdminOp::AddAuth(_, auth) => self.lacks_objects(auth),
+            AdminOp::DelAuth(place) => match self.tables.auths.get(usize::from(*place)) {
+                Some(a) => self.lacks_objects(&a.auth),
+                None => false,
+            },
+            _ => false,
+        }
+    }
+
+    fn lacks_objects(&self, auth: &Auth) -> bool
+        ensures { result ≡ lacks_objects self.now auth.now }
+    {
+        !self.has_any_object(auth.objects.as_slice())
+    }
+
+    fn has_any_object(&self, objects: &[u16]) -> bool
+        ensures { result ≡ list_any (is_object self.now) objects.now }
+    {
+        for object in objects {
+            if self.object(*object) {
+                return true;
+            }
+        }
+        false
     }
 
     fn reach_of_change(&self, op: &AdminOp) -> Reach
