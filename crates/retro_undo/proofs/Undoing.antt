@@ -13,9 +13,8 @@ use Rattle.request_state.specs.declared.state.State.TheVariants.{Tentative, Inva
 use Rattle.request_state.specs.declared.kept.Kept.{Kept}
 use Rattle.request_state.specs.State.{is_invalid}
 use Rattle.request_state.specs.Table.{kept_of, with_state, is_in_order}
-use Rattle.elem_show.specs.Cell.{Cell}
-use Rattle.elem_show.specs.Table.{except, IsCounted}
-use Rattle.retro_undo.specs.Undo.{state_after_verdict, kept_after, is_denied, is_undone, counted_of, ShowsCounted, states_after_in}
+use Rattle.elem_show.specs.Table.{Table, except}
+use Rattle.retro_undo.specs.Undo.{state_after_verdict, kept_after, is_denied, is_undone, counted_of, with_counted, states_after_in}
 use Rattle.retro_undo.specs.Part.{is_named}
 use Rattle.retro_undo.proofs.Parts.{all_by, states_same, states_of_none, IsSameFor}
 use Rattle.retro_undo.proofs.Found.{found_at, alone}
@@ -55,9 +54,13 @@ counted_without (k ∷ table) n at a = by (name_eq k.request.id n) refl (is_inva
     by false apart true denied rest = rw denied rest
     by false apart false counts rest = rw (counts, apart) (ap (λ qs. k.request ∷ qs) rest)
 
--- the cells know it as counted
-pub is_counted : (cells : List (Name × Cell)) (table : List Kept) (q : Request) → ShowsCounted cells table → kept_of table q.id ≡ Some (record { request = q; state = Tentative }) → IsCounted cells q
-is_counted cells table q shows there = record { requests = shows.0; counted = counted_of table; table = shows.1; member = tentative_counts q table there }
+-- a table that counts them is not changed by counting them
+pub counted_again : (t : Table) (table : List Kept) → t.counted ≡ counted_of table → t ≡ with_counted t table
+counted_again t table counts = ap (λ (counted : List Request). record t { counted = counted }) counts
+
+-- what is counted last is counted
+pub counted_last : (old new last : Table) (middle table : List Kept) → new ≡ with_counted old middle → last ≡ with_counted new table → last ≡ with_counted old table
+counted_last old new last middle table first second = second ∙ ap (λ (t : Table). with_counted t table) first
 
 -- ---- the states
 

@@ -13,8 +13,7 @@ use Rattle.request_state.specs.declared.state.State.{State}
 use Rattle.request_state.specs.declared.state.State.TheVariants.{Tentative, Valid, Invalid}
 use Rattle.request_state.specs.declared.kept.Kept.{Kept}
 use Rattle.request_state.specs.State.{is_tentative, is_invalid}
-use Rattle.elem_show.specs.Table.{IsTableOf}
-use Rattle.elem_show.specs.Cell.{Cell}
+use Rattle.elem_show.specs.Table.{Table}
 
 -- the state after the version, by the verdict of its policy: a Tentative request that is denied becomes Invalid, and every other state stays
 abbrev pub state_after_verdict : State → ℕ → Verdict → State
@@ -69,10 +68,6 @@ have_elements names table = list_all (λ k. has_name names (element_of k.request
 abbrev pub are_reached : Reach → List Name → Policy → List Kept → Bool
 are_reached reach names p table = list_all (λ k. not (is_undone names p k) || is_reached reach (user_of k.request)) table
 
--- for some inserts, the cells show the requests that count
-abbrev pub ShowsCounted : List (Name × Cell) → List Kept → Type 0
-ShowsCounted cells table = (requests : List Request) × IsTableOf cells requests (counted_of table)
-
--- of whatever inserts the old cells showed the requests that counted, the new cells show those that count now
-abbrev pub IsShownAfter : List (Name × Cell) → List Kept → List (Name × Cell) → List Kept → Type 0
-IsShownAfter old_cells old new_cells new = (requests : List Request) → IsTableOf old_cells requests (counted_of old) → IsTableOf new_cells requests (counted_of new)
+-- the table of elements, with the requests that count
+abbrev pub with_counted : Table → List Kept → Table
+with_counted t table = record t { counted = counted_of table }

@@ -3,7 +3,7 @@ use Rattle.auth_match.specs.declared.verdict.Verdict.TheVariants.{Granted, Denie
 use Rattle.auth_match.specs.Verdict.{verdict}
 use Rattle.coop_request.specs.Edit.{right_of}
 use Rattle.coop_request.specs.Request.{user_of, element_of}
-use Rattle.retro_undo.proofs.Undoing.{judged_granted, judged_denied}
+use Rattle.retro_undo.proofs.Undoing.{counted_again, judged_granted, judged_denied}
 use Rattle.retro_undo.proofs.judge.judge.Goals as goal
 
 pub returns-in-Granted-clause-states : goal.returns-in-Granted-clause-states
@@ -19,3 +19,6 @@ returns-in-Denied-clause-states g c =
     let q = c.args.request in
     let denied : verdict names c.args.policy.now (user_of q) (right_of q.edit) (element_of q) ≡ Denied c.in-Denied.by = cc (c.decide.ensures, c.user.ensures, c.right.ensures, c.element.ensures, c.in-Denied.is) in
     c.undo.ensures.states ∙ sym (judged_denied names c.args.policy.now c.args.version q c.args.states.now c.requires.order c.requires.tentative c.in-Denied.by denied)
+
+pub returns-in-Granted-clause-cells : goal.returns-in-Granted-clause-cells
+returns-in-Granted-clause-cells g c = counted_again c.args.table.now c.args.states.now c.requires.counted

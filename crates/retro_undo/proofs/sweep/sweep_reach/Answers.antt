@@ -1,5 +1,6 @@
 use Rattle.std.proofs.Common.{sym, ◌∙◌}
 use Rattle.policy_book.specs.declared.reach.Reach.TheVariants.{Nobody, Users}
+use Rattle.retro_undo.proofs.Undoing.{counted_again}
 use Rattle.retro_undo.proofs.Parts.{states_of_none, undone_of_none}
 use Rattle.retro_undo.proofs.Steps.{states_reached, undone_reached}
 use Rattle.retro_undo.proofs.sweep.sweep_reach.Goals as goal
@@ -11,7 +12,7 @@ returns-in-Nobody g c =
     record {
       states = sym (states_of_none names p c.args.version c.args.states.now)
           ∙ states_reached names p c.args.version c.args.reach Nobody c.args.states.now c.in-Nobody.is c.requires.outside;
-      cells = λ requests shown. shown;
+      cells = counted_again c.args.table.now c.args.states.now c.requires.tables.counted;
       count = sym (undone_of_none names p c.args.version c.args.states.now)
           ∙ undone_reached names p c.args.version c.args.reach Nobody c.args.states.now c.in-Nobody.is c.requires.outside;
     }

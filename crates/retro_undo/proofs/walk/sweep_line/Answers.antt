@@ -3,6 +3,8 @@ use Rattle.element_name.specs.Name.{Name}
 use Rattle.request_state.specs.declared.kept.Kept.{Kept}
 use Rattle.retro_undo.specs.Undo.{have_elements, states_after_in, undone_in}
 use Rattle.retro_undo.specs.Part.{is_in, is_above, is_named}
+use Rattle.elem_show.specs.Table.{Table}
+use Rattle.retro_undo.proofs.Undoing.{counted_again, counted_last}
 use Rattle.retro_undo.proofs.Parts.{few_undone, elements_after}
 use Rattle.retro_undo.proofs.Steps.{one_counted, next_kept, kept_element, states_at_start, undone_at_start, states_at_end, undone_at_end, walk_smaller, walk_states, walk_count}
 use Rattle.retro_undo.proofs.walk.sweep_line.Goals as goal
@@ -18,7 +20,7 @@ loop-request-init g c =
           let all = undone_at_start names p c.args.version c.args.states.now c.args.line c.below_all-above.ensures.absent in
           let same = ap (λ (n : Name). undone_in (is_above c.args.line n) names p c.args.states.now) c.below_all-above.ensures.value in
           omega (arith, all, same);
-      cells = λ requests shown. shown;
+      cells = counted_again c.args.table.now c.args.states.now c.requires.counted;
       elements = c.requires.elements;
     }
 
@@ -32,7 +34,7 @@ judge-requires-clause-element g c =
     (next_kept c.loop-request.states c.args.line c.loop-request.above c.in-Some.request c.next.ensures.in_order (sym c.next.ensures.found ∙ c.in-Some.is))
 
 pub judge-requires-clause-counted : goal.judge-requires-clause-counted
-judge-requires-clause-counted g c = (c.requires.counted.0, c.loop-request.invariant.cells c.requires.counted.0 c.requires.counted.1)
+judge-requires-clause-counted g c = ap (λ (t : Table). t.counted) c.loop-request.invariant.cells
 
 pub overflow_add-count : goal.overflow_add-count
 overflow_add-count g c =
@@ -62,7 +64,7 @@ loop-request-preserved g c =
           ∙ walk_states names p c.args.version c.args.line c.loop-request.above c.id-above.result c.in-Some.request c.loop-request.states c.judge.new.states
           c.next.ensures.in_order found c.id-above.ensures.value c.judge.ensures.states;
       count = omega (arith, step, one, c.loop-request.invariant.count);
-      cells = λ requests shown. c.judge.ensures.cells requests (c.loop-request.invariant.cells requests shown);
+      cells = counted_last c.args.table.now c.loop-request.table c.judge.new.table c.loop-request.states c.judge.new.states c.loop-request.invariant.cells c.judge.ensures.cells;
       elements = ap (λ (t : List Kept). have_elements names t) c.judge.ensures.states
           ∙ elements_after names p c.args.version (is_named c.in-Some.request.id) c.loop-request.states ∙ c.loop-request.invariant.elements;
     }
