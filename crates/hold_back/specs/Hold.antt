@@ -48,6 +48,10 @@ waiting_at i need held = elim (slice_get held i) [
 abbrev pub woken_from : ℕ → List Held → Option ℕ
 woken_from from held = option_map (λ k. from + k) (position is_woken (drop from held))
 
+-- the least place at or above `from` where one waits under the need
+abbrev pub waiting_from : Need → ℕ → List Held → Option ℕ
+waiting_from need from held = option_map (λ k. from + k) (position (waits_for need) (drop from held))
+
 -- the least place where one is due
 abbrev pub due_at : (Message → Bool) → List Held → Option ℕ
 due_at is_due held = position (λ h. is_due h.message) held

@@ -5,7 +5,7 @@ ghost use Rattle.std.specs.Option.{option_copied};
 ghost use Rattle.hold_back.specs.declared.fault.HoldFault.TheVariants.{NoMemory as no_memory};
 ghost use Rattle.element_name.specs.Growing.{EachAfter};
 ghost use Rattle.edit_message.specs.Message.{key_of, key_eq};
-ghost use Rattle.hold_back.specs.Hold.{find_held, keep_fault, woken_by, waiting_at, woken_from, due_at, only_woken_due, is_woken, waits_for, IsNewKey, keys_of};
+ghost use Rattle.hold_back.specs.Hold.{find_held, keep_fault, woken_by, waiting_at, woken_from, waiting_from, due_at, only_woken_due, is_woken, waits_for, IsNewKey, keys_of};
 
 use crate::fault::HoldFault;
 use crate::held::Held;
@@ -127,6 +127,15 @@ impl HoldBack {
         Some(from + k as u32)
     }
 
+    /// The least place at or above `from` whose message waits under the need.
+    pub fn waiting(&self, need: Need, from: u32) -> Option<u32>
+        ensures { result ≡ waiting_from need from self.now }
+    {
+        let rest = self.held.get(from as usize..)?;
+        let k = first_waiting(rest, need)?;
+        Some(from + k as u32)
+    }
+
     /// The place of the earliest message that is due. Only woken messages are asked about, each at most once.
     pub fn first_due<T: Due>(&self, test: &T) -> Option<u32>
         requires { IsTrue (only_woken_due (T.is_due test.now) self.now) }
@@ -209,6 +218,12 @@ fn first_woken(held: &[Parcel]) -> Option<usize>
     ensures { result ≡ position is_woken held.now }
 {
     held.iter().position(|h| h.is_woken())
+}
+
+fn first_waiting(held: &[Parcel], need: Need) -> Option<usize>
+    ensures { result ≡ position (waits_for need) held.now }
+{
+    held.iter().position(|h| h.waits_for(need))
 }
 
 // The first that is both woken and due.

@@ -81,6 +81,6 @@ pub(super) fn wake_by(hold: &mut HoldBack, journal: &Journal, come: Option<Need>
 {
     let _ = journal.len();
     if let Some(need) = come {
-        wake(hold, journal, need);
+        wake(hold, journal, &need);
     }
 }

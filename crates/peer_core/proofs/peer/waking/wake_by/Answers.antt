@@ -1,6 +1,7 @@
-use Rattle.std.proofs.Common.{◌≡◌, true, subst}
+use Rattle.std.proofs.Common.{◌≡◌, true, false, subst}
+use Rattle.std.specs.Option.{option_map_or}
 use Rattle.hold_back.specs.Hold.{messages_of}
-use Rattle.peer_core.specs.Waiting.{wait_rightly, woken_for}
+use Rattle.peer_core.specs.Waiting.{is_unmet, wait_rightly, woken_for}
 use Rattle.peer_core.proofs.Waits.{all_later}
 use Rattle.peer_core.proofs.peer.waking.wake_by.Goals as goal
 
@@ -11,3 +12,6 @@ wake-requires-clause-waiting c =
 pub wake-requires-clause-later : goal.wake-requires-clause-later
 wake-requires-clause-later c =
     all_later c.args.journal.now (messages_of c.args.hold.now) c.len.ensures.within.journal_is c.requires.keys c.requires.formed
+
+pub wake-requires-clause-met : goal.wake-requires-clause-met
+wake-requires-clause-met c = subst (λ o. option_map_or (is_unmet c.args.journal.now) o false ≡ false) c.in-Some.is c.requires.met
