@@ -1,4 +1,4 @@
--- A stream that comes in pieces: how far its frames were given, and the bytes that were fed since.
+-- A stream that comes in chunks: how far its frames were given, and the bytes that were fed since.
 use Rattle.std.specs.Prelude.{◌≡◌, ℕ, ◌+◌, ◌≤◌, Bool, true, false, IsTrue, List, [], ◌∷◌, ◌++◌, Option, Some, None, Result, Ok, Err, length, drop}
 use Rattle.std.specs.List.{flat_map, list_all}
 use Rattle.edit_frame.specs.declared.frame.Frame.{Frame}

@@ -17,6 +17,3 @@ pub use frame::{DecodeFail, Frame, FrameFault, FrameKind};
 pub use limits::{MAX_LENGTH, MIN_LENGTH};
 pub use splitter::Splitter;
 pub use writing::encode;
-
-#[cfg(test)]
-mod tests;

@@ -1,4 +1,4 @@
-//! Frames of a stream that comes in pieces.
+//! Frames of a stream that comes in chunks.
 ghost use Rattle.std.specs.Prelude.{◌≡◌, ℕ, ◌+◌, ◌^◌, ◌<◌, List, [], ◌++◌, length, OnOk, OnErr, MatchResult};
 ghost use Rattle.edit_frame.specs.declared.frame.Frame.{Frame};
 ghost use Rattle.edit_frame.specs.declared.frame.FrameKind.TheVariants.{Truncated};
@@ -13,7 +13,7 @@ use element_name::NoMemory;
 use std::alloc::Global;
 use std::marker::Model;
 
-/// Takes a stream apart, which comes in pieces, into frames.
+/// Takes a stream apart, which comes in chunks, into frames.
 ///
 /// It keeps the bytes from the first frame on that wasn't given yet, and is seen as these and the place where they
 /// begin. Nothing else is kept of a fault: it is the first frame's, so that it is told again.
@@ -49,7 +49,7 @@ impl Splitter {
         }
     }
 
-    /// Takes the next piece of the stream, in time in its length but for the times when room is made.
+    /// Takes the next chunk of the stream, in time in its length but for the times when room is made.
     pub fn feed(&mut self, piece: &[u8]) -> Result<(), NoMemory>
         requires { self.old.offset + length self.old.rest + length piece.now < 2 ^ 64 }
         ensures ok { OnOk result (self.new ≡ record { offset = self.old.offset; rest = self.old.rest ++ piece.now }) }

@@ -32,19 +32,19 @@ same_feeding f p s a b = ap (λ (q : Peer). feeding q f.splitter) a ∙ ap (feed
 
 -- ---- what comes is held
 
-held_more : (old : Feeding) (piece : List ℕ)
-    → Follows feed_meaning old (feeding old.peer (record { offset = old.splitter.offset; rest = old.splitter.rest ++ piece })) piece []
-held_more old piece =
+held_more : (old : Feeding) (chunk : List ℕ)
+    → Follows feed_meaning old (feeding old.peer (record { offset = old.splitter.offset; rest = old.splitter.rest ++ chunk })) chunk []
+held_more old chunk =
     let rest = old.splitter.rest in
     record {
-      outputs = λ cut more. ap (output_from cut old.peer old.splitter.offset) (sym (append_assoc rest piece more));
-      parts = λ more. ap (part_from old.peer) (sym (append_assoc rest piece more)) ∙ after_none (part_from old.peer ((rest ++ piece) ++ more));
-      ends = λ cut more last left. left ∙ ap (peer_fed old.peer) (append_assoc rest piece more);
+      outputs = λ cut more. ap (output_from cut old.peer old.splitter.offset) (sym (append_assoc rest chunk more));
+      parts = λ more. ap (part_from old.peer) (sym (append_assoc rest chunk more)) ∙ after_none (part_from old.peer ((rest ++ chunk) ++ more));
+      ends = λ cut more last left. left ∙ ap (peer_fed old.peer) (append_assoc rest chunk more);
     }
 
-pub follows_piece : (old new : Feeding) (piece : List ℕ) → new.peer ≡ old.peer
-    → new.splitter ≡ record { offset = old.splitter.offset; rest = old.splitter.rest ++ piece } → Follows feed_meaning old new piece []
-follows_piece old new piece peer splitter = subst (λ (f : Feeding). Follows feed_meaning old f piece []) (sym (same_feeding new _ _ peer splitter)) (held_more old piece)
+pub follows_chunk : (old new : Feeding) (chunk : List ℕ) → new.peer ≡ old.peer
+    → new.splitter ≡ record { offset = old.splitter.offset; rest = old.splitter.rest ++ chunk } → Follows feed_meaning old new chunk []
+follows_chunk old new chunk peer splitter = subst (λ (f : Feeding). Follows feed_meaning old f chunk []) (sym (same_feeding new _ _ peer splitter)) (held_more old chunk)
 
 -- ---- a frame is answered
 

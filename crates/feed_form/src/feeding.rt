@@ -39,8 +39,8 @@ impl Form for Feeding {
 
     ghost load = { λ f. f.splitter.offset + length f.splitter.rest };
 
-    fn feed(&mut self, _alloc: Global, piece: &[u8]) -> Result<(), AllocError> {
-        match self.splitter.feed(piece) {
+    fn feed(&mut self, _alloc: Global, chunk: &[u8]) -> Result<(), AllocError> {
+        match self.splitter.feed(chunk) {
             Ok(()) => Ok(()),
             Err(NoMemory) => Err(AllocError),
         }
@@ -108,7 +108,7 @@ impl Feeding {
 /// the line that says so ends the run. Of a stream that is longer than [`MAX_INPUT`](line_engine::MAX_INPUT) bytes the
 /// frames that end within these are answered.
 ///
-/// It takes the time of the peer's steps and of the frames' bytes, and the memory of the peer, a piece, a frame and
+/// It takes the time of the peer's steps and of the frames' bytes, and the memory of the peer, a chunk of input, a frame and
 /// the answers to one frame. The peer is the one after the frames that were answered. After a failure of the sink or
 /// for want of memory nothing is said of it.
 pub fn feed_peer<S: Source, K: Sink>(

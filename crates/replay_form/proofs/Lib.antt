@@ -1,2 +1,3 @@
 mod Shows
 mod Sounds
+pub mod Samples

@@ -1,6 +1,7 @@
 //! What a script's run tells of the texts that it shows.
 ghost use Rattle.std.specs.Prelude.{ℕ, List};
 ghost use Rattle.replay_form.specs.Headline.{Headline};
+ghost use Rattle.replay_form.specs.Samples.{ShowsOfScript, TextOfScript};
 
 /// Each `show` line writes the text of its peer at that point, and two such lines whose peers have the same requests
 /// and the same log write the same bytes.
@@ -12,3 +13,10 @@ pub fn headline()
     script_text::laws::formed();
     script_text::laws::taken();
 }
+
+/// What the definitions compute on a small script: it has one `show` line, behind the answer to its edit, and the text
+/// of that line's peer is the letter that was written.
+pub fn sample_shows()
+    ensures shows { ShowsOfScript }
+    ensures texts { TextOfScript }
+{}

@@ -11,7 +11,7 @@ use std::alloc::Global;
 /// Plays the script that a source gives, and writes what its lines are answered into a sink.
 ///
 /// A line is answered as soon as its line end was read. A bad line, or none at all, ends the run, by the line that
-/// says so. It takes the time of the peers' steps, and the memory of the world, a piece of input, a line and its answer.
+/// says so. It takes the time of the peers' steps, and the memory of the world, a chunk of input, a line and its answer.
 pub fn replay<S: Source, K: Sink>(alloc: Global, source: &mut S, sink: &mut K) -> Status
     ensures ran { (input : List ℕ) × (written : List ℕ) ×
         RanReplay (S.left source.old) (S.left source.new) (K.written sink.old) (K.written sink.new) result input written }

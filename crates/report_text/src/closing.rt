@@ -74,7 +74,7 @@ fn put_each(lines: &mut Vec<u8>, peer: &Peer) -> Result<(), NoMemory>
 }
 
 /// Appends how many messages a peer holds, and what each waits for, in order of arrival. Takes time in the number of
-/// held messages, and for each in that of the elements.
+/// held messages, and for each time logarithmic in the number of elements.
 pub fn held_lines(alloc: Global, peer: &Peer, out: &mut Vec<u8>) -> Result<(), NoMemory>
     ensures ok { OnOk result (out.new.items ≡ out.old.items ++ held_lines peer.now) }
     ensures unchanged { OnErr result (out.new.items ≡ out.old.items) }
