@@ -1,0 +1,13 @@
+//! Laws of runs.
+ghost use Rattle.peer_lock.specs.Laws.{AnswerLaw, StepLaw};
+
+/// A step that was answered gives its caller one more answer in the run, and the answer is this one: what the plain peer
+/// answers to the caller's steps along the run grows by it alone.
+pub fn one_more_answer()
+    ensures { AnswerLaw }
+{}
+
+/// A run whose callers are all below a number has as many steps as these have together.
+pub fn all_steps()
+    ensures { StepLaw }
+{}

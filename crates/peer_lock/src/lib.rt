@@ -1,0 +1,21 @@
+//! One peer shared by threads. Each call that steps it takes the gate, makes one step, counts it and frees the gate.
+#![tactic(auto)]
+
+mod call;
+mod dealing;
+mod fail;
+mod history;
+pub mod laws;
+mod limits;
+mod lock_table;
+mod pass;
+mod recorder;
+mod rule;
+mod shared_peer;
+mod view;
+
+pub use fail::{StepFail, TryFail};
+pub use history::History;
+pub use limits::{MAX_PASSES, MAX_RUN};
+pub use pass::Pass;
+pub use shared_peer::SharedPeer;

@@ -1,0 +1,75 @@
+//! A peer that records its steps: what the slot has. Its type keeps that the peer is what the record leads to.
+ghost use Rattle.std.specs.Prelude.{◌≡◌, ◌++◌, ◌∷◌, [], IfOk, OnOk, OnErr, length};
+ghost use Rattle.peer_core.specs.Peer.{fresh_peer};
+ghost use Rattle.peer_core.specs.Answers.{answer_of};
+ghost use Rattle.peer_lock.specs.Run.{call, peer_after_run, recorded};
+
+use crate::call::Call;
+use element_name::NoMemory;
+use packed_step::PackedStep;
+use peer_core::{Peer, Sweep};
+use peer_step::{Answer, Step};
+use std::alloc::Global;
+use std::marker::Model;
+
+/// A peer, its site, and the steps that it has made since it was fresh, each with its caller.
+#[derive(Drop)]
+pub struct Recorder {
+    peer: Peer,
+    site: u16,
+    run: Vec<Call>,
+}
+
+impl Model for Recorder {
+    ghost use Rattle.std.specs.Prelude.{◌≡◌};
+    ghost use Rattle.peer_core.specs.Peer.{fresh_peer};
+    ghost use Rattle.peer_lock.specs.Run.{Recorded, recorded, peer_after_run};
+
+    ghost Value = { Recorded };
+
+    ghost view = { λ r. recorded r.site r.run.items };
+
+    ghost invariant = { λ r. r.peer ≡ peer_after_run (fresh_peer r.site) r.run.items };
+}
+
+impl Recorder {
+    /// The fresh peer of a site, with an empty run.
+    pub fn new(alloc: Global, site: u16) -> Result<Recorder, NoMemory>
+        ensures { IfOk result (λ r. r ≡ recorded site []) }
+    {
+        Ok(Recorder {
+            peer: Peer::new(alloc, site)?,
+            site,
+            run: Vec::new(alloc),
+        })
+    }
+
+    pub fn len(&self) -> usize
+        ensures { result ≡ length self.now.run }
+    {
+        self.run.len()
+    }
+
+    /// Makes one step and records it. The room for the record is taken before the step is made.
+    pub fn make<W: Sweep>(&mut self, caller: u32, step: Step, sweep: &W) -> Result<Answer, NoMemory>
+        ensures answer { IfOk result (λ a. a ≡ answer_of (peer_after_run (fresh_peer self.old.site) self.old.run) step) }
+        ensures ok { OnOk result (self.new ≡ recorded self.old.site (self.old.run ++ call caller step ∷ [])) }
+        ensures err { OnErr result (self.new ≡ self.old) }
+    {
+        self.run.reserve(1)?;
+        let copy = step.copied()?;
+        let kept = PackedStep::of(*self.run.allocator(), copy)?;
+        let answer = self.peer.step_by(step, sweep)?;
+        self.run.push_reserved(Call { caller, step: kept });
+        Ok(answer)
+    }
+
+    /// The peer, and its run.
+    pub fn into_parts(self) -> (Peer, Vec<Call>)
+        ensures peer { result.0 ≡ peer_after_run (fresh_peer self.site) self.run }
+        ensures run { result.1.items ≡ self.run }
+    {
+        let Recorder { peer, site: _, run } = self;
+        (peer, run)
+    }
+}
