@@ -1,0 +1,27 @@
+use Rattle.std.proofs.Common.{inl, inr}
+use Rattle.race_run.proofs.Full.{never_full}
+use Rattle.race_run.proofs.racing.race_lists.Goals as goal
+
+pub unreachable-requires : goal.unreachable-requires
+unreachable-requires g c =
+    let dealt = c.in_ok-shared.ensures in
+    let zero = c.join-zero.ensures.first in
+    let others = c.join-zero.ensures.second in
+    never_full c.args.site _ _ _ _ _ _ _ _ _ _ dealt.zero.1 dealt.one.1 dealt.two.1 zero.0 others.0.0 others.1.0
+    c.join.ensures.joins c.join-2.ensures.joins c.close-peer.ensures.closes _ _ _ _ _ _ zero.1 others.0.1 others.1.1 c.requires (inl c.in-Full.is)
+
+pub unreachable-requires-in-Full-one_ended : goal.unreachable-requires-in-Full-one_ended
+unreachable-requires-in-Full-one_ended g c =
+    let dealt = c.in_ok-shared.ensures in
+    let zero = c.join-zero.ensures.first in
+    let others = c.join-zero.ensures.second in
+    never_full c.args.site _ _ _ _ _ _ _ _ _ _ dealt.zero.1 dealt.one.1 dealt.two.1 zero.0 others.0.0 others.1.0
+    c.join.ensures.joins c.join-2.ensures.joins c.close-peer.ensures.closes _ _ _ _ _ _ zero.1 others.0.1 others.1.1 c.requires (inr (inl c.in-Full-one_ended.is))
+
+pub unreachable-requires-in-Full-two_ended : goal.unreachable-requires-in-Full-two_ended
+unreachable-requires-in-Full-two_ended g c =
+    let dealt = c.in_ok-shared.ensures in
+    let zero = c.join-zero.ensures.first in
+    let others = c.join-zero.ensures.second in
+    never_full c.args.site _ _ _ _ _ _ _ _ _ _ dealt.zero.1 dealt.one.1 dealt.two.1 zero.0 others.0.0 others.1.0
+    c.join.ensures.joins c.join-2.ensures.joins c.close-peer.ensures.closes _ _ _ _ _ _ zero.1 others.0.1 others.1.1 c.requires (inr (inr c.in-Full-two_ended.is))

@@ -1,0 +1,51 @@
+//! One worker.
+ghost use Rattle.std.specs.Prelude.{◌≡◌, ◌≤◌, length};
+ghost use Rattle.peer_lock.specs.declared.limits.TheConstants.{MAX_RUN};
+ghost use Rattle.race_run.specs.Work.{IsSameWorker, Works};
+
+use crate::gate::Gate;
+use peer_lock::{Pass, SharedPeer, StepFail};
+use peer_step::Step;
+use std::sync::Wait;
+
+/// How a worker ended.
+#[derive(Clone, Copy, Drop)]
+pub(crate) enum Ended {
+    /// It made all its steps.
+    Done,
+    /// The run was full.
+    Full,
+    /// Memory was wanting.
+    Short,
+}
+
+/// Makes all steps of a list, in their order, and tells the gate of each.
+pub(crate) fn work<R: Wait, G: Gate>(
+    rt: &R,
+    shared: &SharedPeer,
+    mut pass: Pass,
+    steps: &[Step],
+    gate: &G,
+) -> (Pass, Ended)
+    requires own { pass.table ≡ shared.now }
+    requires few { length steps.now ≤ MAX_RUN }
+    ensures same { IsSameWorker pass result.0 }
+    ensures works { Works pass.view result.0.view steps.now result.1 }
+{
+    let worker = pass.number();
+    let mut made = 0;
+    for step in steps {
+        gate.pass(worker, made);
+        let Ok(copy) = step.copied() else {
+            return (pass, Ended::Short);
+        };
+        match shared.step(rt, &mut pass, copy) {
+            Ok(_) => {}
+            Err(StepFail::RunFull) => return (pass, Ended::Full),
+            Err(StepFail::NoMemory) => return (pass, Ended::Short),
+        }
+        made += 1;
+    }
+    gate.pass(worker, made);
+    (pass, Ended::Done)
+}
