@@ -27,3 +27,12 @@ command_of (name ∷ []) = replay_by name
 command_of (name ∷ site ∷ []) = feed_by name site
 command_of (name ∷ seed ∷ edits ∷ []) = make_by name seed edits
 command_of words = None
+
+-- SITE
+abbrev pub race_by : List ℕ → List ℕ → Option ℕ
+race_by name site = given (bytes_eq name (codes "race")) (read_number MAX_SITE site)
+
+-- the site of the race that words ask for
+abbrev pub race_site : List (List ℕ) → Option ℕ
+race_site (name ∷ site ∷ []) = race_by name site
+race_site words = None

@@ -1,7 +1,8 @@
 //! The commands, by their words.
 ghost use Rattle.std.specs.Prelude.{◌≡◌, ◌≤◌, ℕ, Some};
 ghost use Rattle.edit_make.specs.declared.limits.TheConstants.{MAX_EDITS};
-ghost use Rattle.editor_main.specs.Command.{command_of, replay_by, feed_by, make_by};
+ghost use Rattle.step_read.specs.Numbers.{read_number};
+ghost use Rattle.editor_main.specs.Command.{command_of, replay_by, feed_by, make_by, race_by, race_site};
 
 use crate::word::Word;
 use edit_make::MAX_EDITS;
@@ -34,14 +35,20 @@ fn replay_by(name: &[u8]) -> Option<Command>
     }
 }
 
+fn read_site(word: &[u8]) -> Option<u16>
+    ensures { result ≡ read_number MAX_SITE word.now }
+{
+    let site = read_number(MAX_SITE, word)?;
+    Some(site as u16)
+}
+
 fn feed_by(name: &[u8], site: &[u8]) -> Option<Command>
     ensures { result ≡ feed_by name.now site.now }
 {
     if name != b"feed".as_slice() {
         return None;
     }
-    let site = read_number(MAX_SITE, site)?;
-    Some(Command::Feed(site as u16))
+    Some(Command::Feed(read_site(site)?))
 }
 
 fn make_by(name: &[u8], seed: &[u8], edits: &[u8]) -> Option<Command>
@@ -70,4 +77,23 @@ pub(crate) fn command_of(words: &[Word]) -> Option<Command>
         [name, seed, edits] => make_by(name.bytes(), seed.bytes(), edits.bytes()),
         _ => None,
     }
+}
+
+fn race_by(name: &[u8], site: &[u8]) -> Option<u16>
+    ensures { result ≡ race_by name.now site.now }
+{
+    if name != b"race".as_slice() {
+        return None;
+    }
+    read_site(site)
+}
+
+/// The site of the race that words ask for, if they ask for one.
+pub(crate) fn race_site(words: &[Word]) -> Option<u16>
+    ensures { result ≡ race_site words.now }
+{
+    let [name, site] = words else {
+        return None;
+    };
+    race_by(name.bytes(), site.bytes())
 }

@@ -2,12 +2,15 @@
 #![tactic(auto)]
 
 mod command;
+mod editor_call;
 mod plain_call;
 mod word;
 
-use edit_io::{ReadSource, WriteSink};
+use edit_io::{MemDoor, ReadSource, WriteSink};
+pub use editor_call::editor;
 use line_engine::Status;
 pub use plain_call::plain;
+use race_run::FreeGate;
 use std::process::ExitCode;
 use std::rt::Env;
 use std::{env, io};
@@ -36,6 +39,16 @@ fn main(rt: HostRuntime) -> ExitCode {
     };
     let mut source = ReadSource::new(rt.stdin());
     let mut sink = WriteSink::new(rt.stdout());
-    let status = plain(rt.alloc(), &words, &mut source, &mut sink);
+    // No command asks for a link yet.
+    let mut door = MemDoor::new(Vec::new(rt.alloc()), Vec::new(rt.alloc()));
+    let status = editor(
+        &rt,
+        rt.alloc(),
+        &words,
+        &mut source,
+        &mut sink,
+        &mut door,
+        &FreeGate,
+    );
     ExitCode::from(status.code())
 }

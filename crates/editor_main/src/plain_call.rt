@@ -32,7 +32,7 @@ fn make<K: Sink>(alloc: Global, seed: u32, edits: u32, sink: &mut K) -> Status
 
 /// Runs the command that the words name over a source and a sink, and waits for nobody else.
 ///
-/// A line is answered as soon as its line end was read. Reading is in pieces of at most 64 KiB.
+/// A line is answered as soon as its line end was read. Reading is in chunks of at most 64 KiB.
 pub fn plain<S: Source, K: Sink>(
     alloc: Global,
     words: &[Word],

@@ -1,9 +1,12 @@
 //! The forms by their words, over sources and sinks that come in pieces and fail.
-use crate::{Word, plain};
-use edit_io::{MemSink, MemSource};
+use crate::{Word, editor};
+use edit_io::{MemDoor, MemSink, MemSource};
 use line_engine::Status;
+use race_run::FreeGate;
 use std::alloc::{AllocError, Global};
+use std::sync::Wait;
 use std::test::Fail;
+use std::thread::Threads;
 
 const LEAST: &[u8] = b"peers 1\n0 insert 0 a\nshow 0\n";
 
@@ -52,6 +55,12 @@ const MADE: &[u8] = b"made 7 0\nmessages 4 entries 4\n\
     peer 2 valid 0 tentative 0 invalid 0 length 0 head\n\
     peer 3 valid 0 tentative 0 invalid 0 length 0 head\n";
 
+// Two messages, of which the second lets the first be due.
+const RACED: &[u8] = b"run 2\n\
+    1 message entry 2 deluser 3 => held version 1\n\
+    1 message entry 1 adduser 1 => version 1 undone 0\n\
+    show\nheld 1\nwaits entry 2 for settle\n";
+
 fn fails(alloc: Global, call: u64) -> Result<Vec<u64>, AllocError> {
     let mut calls = Vec::new(alloc);
     if call > 0 {
@@ -60,7 +69,11 @@ fn fails(alloc: Global, call: u64) -> Result<Vec<u64>, AllocError> {
     Ok(calls)
 }
 
-fn run(alloc: Global, row: &Row) -> Result<(Status, Vec<u8>), AllocError> {
+fn run<R: Threads + Wait + Sync>(
+    rt: &R,
+    alloc: Global,
+    row: &Row,
+) -> Result<(Status, Vec<u8>), AllocError> {
     let mut words = Vec::new(alloc);
     for word in row.words {
         words.push(Word::new(Vec::from_slice(alloc, word)?))?;
@@ -68,7 +81,16 @@ fn run(alloc: Global, row: &Row) -> Result<(Status, Vec<u8>), AllocError> {
     let bytes = Vec::from_slice(alloc, row.input)?;
     let mut source = MemSource::new(bytes, row.reads.max(1), fails(alloc, row.read_fails)?);
     let mut sink = MemSink::new(alloc, row.writes.max(1), fails(alloc, row.write_fails)?);
-    let status = plain(alloc, &words, &mut source, &mut sink);
+    let mut door = MemDoor::new(Vec::new(alloc), Vec::new(alloc));
+    let status = editor(
+        rt,
+        alloc,
+        &words,
+        &mut source,
+        &mut sink,
+        &mut door,
+        &FreeGate,
+    );
     Ok((status, Vec::from_slice(alloc, sink.written())?))
 }
 
@@ -106,9 +128,27 @@ fn forms(rt: HostRuntime) -> Result<(), Fail> {
         ),
         call(&[b"feed", b"65535"], b"", Status::Done, b"show\nheld 0\n"),
         call(&[b"make", b"7", b"0"], b"", Status::Done, MADE),
+        call(
+            &[b"race", b"0"],
+            b"",
+            Status::Done,
+            b"run 0\nshow\nheld 0\n",
+        ),
+        call(
+            &[b"race", b"1"],
+            b"message entry 2 deluser 3\nmessage entry 1 adduser 1\n",
+            Status::Done,
+            RACED,
+        ),
+        call(
+            &[b"race", b"65535"],
+            b"show\n\n",
+            Status::BadInput,
+            b"bad line 2\n",
+        ),
     ];
     for row in rows {
-        let (status, written) = run(rt.alloc(), &row)?;
+        let (status, written) = run(&rt, rt.alloc(), &row)?;
         assert_eq!(rt; written.as_slice(), row.written);
         assert_eq!(rt; status, row.status);
     }
@@ -117,7 +157,7 @@ fn forms(rt: HostRuntime) -> Result<(), Fail> {
 
 #[test]
 fn words_that_name_no_form(rt: HostRuntime) -> Result<(), Fail> {
-    let rows: [&[&[u8]]; 12] = [
+    let rows: [&[&[u8]]; 15] = [
         &[],
         &[b"replay", b"now"],
         &[b"Replay"],
@@ -129,10 +169,13 @@ fn words_that_name_no_form(rt: HostRuntime) -> Result<(), Fail> {
         &[b"make", b"7", b"100001"],
         &[b"make", b"4294967296", b"0"],
         &[b"make", b"+7", b"0"],
-        &[b"race", b"0"],
+        &[b"race"],
+        &[b"race", b"65536"],
+        &[b"serve", b"0", b"7000", b"1"],
+        &[b"dial", b"0", b"7000", b"1"],
     ];
     for words in rows {
-        let (status, written) = run(rt.alloc(), &call(words, b"", Status::Usage, USAGE))?;
+        let (status, written) = run(&rt, rt.alloc(), &call(words, b"", Status::Usage, USAGE))?;
         assert_eq!(rt; written.as_slice(), USAGE);
         assert_eq!(rt; status, Status::Usage);
     }
