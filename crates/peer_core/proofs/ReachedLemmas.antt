@@ -24,7 +24,7 @@ use Rattle.retro_undo.proofs.Found.{IsAbove, IsAt, found_at, none_found, never_s
 use Rattle.tomb_seq.proofs.Has.{Has}
 use Rattle.tomb_seq.specs.declared.slot.Slot.{Slot}
 use Rattle.tomb_seq.specs.Slots.{names_in, slot_by, slots_by, with_mark}
-use Rattle.peer_core.specs.Reached.{is_tentative_above, elements_above, elements_of_users, reached_elements, marked_among}
+use Rattle.peer_core.specs.Reached.{is_tentative_above, elements_above, elements_of_users, reached_elements, slots_marked}
 
 -- ---- the walk
 
@@ -186,14 +186,14 @@ module _ (test : Name → Bool) (table : List Kept) (all : list_all (λ k. test 
 
 -- ---- marks
 
-pub none_marked : (test : Name → Bool) (slots : List Slot) → slots ≡ marked_among [] test slots
+pub none_marked : (test : Name → Bool) (slots : List Slot) → slots ≡ slots_marked [] test slots
 none_marked test [] = refl
 none_marked test (s ∷ slots) = ap (λ (rest : List Slot). s ∷ rest) (none_marked test slots)
 
-pub names_among : (names : List Name) (test : Name → Bool) (slots : List Slot) → names_in (marked_among names test slots) ≡ names_in slots
+pub names_among : (names : List Name) (test : Name → Bool) (slots : List Slot) → names_in (slots_marked names test slots) ≡ names_in slots
 names_among names test [] = refl
 names_among names test (s ∷ slots) =
-    ap (λ (n : Name). n ∷ names_in (marked_among names test slots)) (by (has_name names s.name)) ∙ ap (λ (ns : List Name). s.name ∷ ns) (names_among names test slots)
+    ap (λ (n : Name). n ∷ names_in (slots_marked names test slots)) (by (has_name names s.name)) ∙ ap (λ (ns : List Name). s.name ∷ ns) (names_among names test slots)
   where
     by : (b : Bool) → (if b then slot_by test s.name else s).name ≡ s.name
     by true = refl
@@ -212,10 +212,10 @@ has_push (x ∷ names) n m = ap (λ b. name_eq m x || b) (has_push names n m) �
     by false b = refl
 
 -- one more name, marked by itself
-pub marked_more : (names : List Name) (test : Name → Bool) (n : Name) (slots : List Slot) → with_mark (marked_among names test slots) n (test n) ≡ marked_among (names ++ n ∷ []) test slots
+pub marked_more : (names : List Name) (test : Name → Bool) (n : Name) (slots : List Slot) → with_mark (slots_marked names test slots) n (test n) ≡ slots_marked (names ++ n ∷ []) test slots
 marked_more names test n [] = refl
 marked_more names test n (s ∷ slots) =
-    ap (λ (t : Slot). t ∷ with_mark (marked_among names test slots) n (test n))
+    ap (λ (t : Slot). t ∷ with_mark (slots_marked names test slots) n (test n))
     (by (has_name names s.name) (name_eq n s.name) refl refl
     (has_push names n s.name ∙ ap (λ b. b || has_name names s.name) (name_eq-comm s.name n)))
     ∙ ap (λ (rest : List Slot). (if has_name (names ++ n ∷ []) s.name then slot_by test s.name else s) ∷ rest) (marked_more names test n slots)
@@ -230,10 +230,10 @@ marked_more names test n (s ∷ slots) =
 
 -- of slots that a test marks
 pub among_by : (names : List Name) (test other : Name → Bool) (order : List Name)
-    → marked_among names test (slots_by other order) ≡ slots_by (λ n. if has_name names n then test n else other n) order
+    → slots_marked names test (slots_by other order) ≡ slots_by (λ n. if has_name names n then test n else other n) order
 among_by names test other [] = refl
 among_by names test other (n ∷ order) =
-    ap (λ (s : Slot). s ∷ marked_among names test (slots_by other order)) (by (has_name names n))
+    ap (λ (s : Slot). s ∷ slots_marked names test (slots_by other order)) (by (has_name names n))
     ∙ ap (λ (rest : List Slot). slot_by (λ m. if has_name names m then test m else other m) n ∷ rest) (among_by names test other order)
   where
     by : (b : Bool) → ◌≡◌ {A = Slot} (if b then slot_by test n else slot_by other n) (record { name = n; shows = if b then test n else other n })

@@ -29,5 +29,5 @@ reached_elements (Users users) table = elements_of_users users table
 reached_elements Everyone table = elements_above None start table
 
 -- the elements of these names marked as the test says, and the others as before
-abbrev pub marked_among : List Name → (Name → Bool) → List Slot → List Slot
-marked_among names test slots = map (λ s. if has_name names s.name then slot_by test s.name else s) slots
+abbrev pub slots_marked : List Name → (Name → Bool) → List Slot → List Slot
+slots_marked names test slots = map (λ s. if has_name names s.name then slot_by test s.name else s) slots

@@ -5,7 +5,7 @@ ghost use Rattle.element_name.specs.Name.{start, has_name};
 ghost use Rattle.request_state.specs.Table.{is_in_order};
 ghost use Rattle.tomb_seq.specs.Slots.{names_in};
 ghost use Rattle.peer_core.specs.Kept.{shows_by};
-ghost use Rattle.peer_core.specs.Reached.{is_tentative_above, elements_above, elements_of_users, reached_elements, marked_among};
+ghost use Rattle.peer_core.specs.Reached.{is_tentative_above, elements_above, elements_of_users, reached_elements, slots_marked};
 
 use crate::join::mark;
 use coop_request::Request;
@@ -77,7 +77,7 @@ pub(crate) fn reached_elements(
 /// Marks these elements by whether their cells show.
 pub(crate) fn mark_elements(seq: &mut TombSeq, cells: &ElemTable, elements: &[Name])
     requires { IsTrue (list_all (has_name (names_in seq.old)) elements.now) }
-    ensures { seq.new ≡ marked_among elements.now (shows_by cells.now) seq.old }
+    ensures { seq.new ≡ slots_marked elements.now (shows_by cells.now) seq.old }
 {
     for element in elements {
         mark(seq, cells, *element);

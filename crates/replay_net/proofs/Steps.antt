@@ -29,7 +29,7 @@ use Rattle.peer_step.specs.declared.answer.Answer.TheVariants.{AlreadyInvalid, N
 use Rattle.peer_step.specs.declared.answer.Answer.TheVariants.{Dropped, Settled, Quiet}
 use Rattle.peer_step.proofs.Rows.{table_has, when_has, map_has, given_has}
 use Rattle.peer_core.specs.Peer.{Peer, history, log, shown_elements, missing, finds_no_room, is_due}
-use Rattle.peer_core.specs.Local.{has_place, greatest_stamp, new_request}
+use Rattle.peer_core.specs.Local.{fits_text, greatest_stamp, new_request}
 use Rattle.peer_core.specs.Answers.{rows_of_edit, rows_of_log, rows_of_operation, is_full_history, is_full_log, is_full_hold, answer_by_verdict, own_verdict, answer_edit, validated_by, missing_request, invalid_state, next_entry, answer_issued, answer_administer, least_awaiting, answer_validate_next}
 use Rattle.peer_core.specs.Answers.{answer_known, answer_own, fault_in, is_next_entry, answer_taken, answer_missing, answer_receive, outcome_of, answer_due, answer_settle}
 use Rattle.peer_core.specs.After.{changed_by}
@@ -45,7 +45,7 @@ pub edit_held : (p : Peer) (edit : LocalEdit) → StaysHeld p (Edit edit) (answe
 edit_held p edit =
     let P : Answer → Type 0 = StaysHeld p (Edit edit) in
     table_has P (rows_of_edit p edit) (answer_by_verdict (new_request p edit) (own_verdict p (new_request p edit))) (
-      when_has P (not (has_place (length (shown_elements p)) edit)) (BadPlace (length (shown_elements p))) (λ h. refl),
+      when_has P (not (fits_text (length (shown_elements p)) edit)) (BadPlace (length (shown_elements p))) (λ h. refl),
       (
         when_has P (nat_eq (greatest_stamp (history p)) MAX_STAMP) ClockEnd (λ h. refl),
         (when_has P (is_full_history p) HistoryFull (λ h. refl), tt),

@@ -7,7 +7,7 @@ ghost use Rattle.peer_core.specs.Peer.{front, history, shown_elements, integrate
 ghost use Rattle.peer_core.specs.Waiting.{MayIntegrate};
 ghost use Rattle.peer_core.specs.Answers.{answer_edit, answer_denied, own_verdict};
 ghost use Rattle.peer_core.specs.After.{changed_by, takes_none};
-ghost use Rattle.peer_core.specs.Local.{has_place, greatest_stamp, anchor_at, edit_of, new_request};
+ghost use Rattle.peer_core.specs.Local.{fits_text, greatest_stamp, anchor_at, edit_of, new_request};
 
 use super::Peer;
 use auth_match::Verdict;
@@ -62,7 +62,7 @@ impl Peer {
 
     // The request of an edit in place, where the clock and the history have room.
     fn new_request(&self, edit: &LocalEdit) -> Request
-        requires place { IsTrue (has_place (length (shown_elements self.now)) edit.now) }
+        requires place { IsTrue (fits_text (length (shown_elements self.now)) edit.now) }
         requires clock { (greatest_stamp (history self.now) == MAX_STAMP) ≡ false }
         requires room { length (history self.now) < MAX_REQUESTS }
         ensures value { result ≡ new_request self.now edit.now }

@@ -2,7 +2,7 @@
 ghost use Rattle.std.specs.Prelude.{◌≡◌, Some};
 ghost use Rattle.element_name.specs.Cases.{first_of};
 ghost use Rattle.peer_core.specs.Answers.{rows_of_edit, rows_of_log, rows_of_validation, rows_of_operation, rows_of_administer, rows_of_message};
-ghost use Rattle.peer_core.specs.Local.{has_place};
+ghost use Rattle.peer_core.specs.Local.{fits_text};
 
 use super::Peer;
 use crate::advance::validated_by;
@@ -18,7 +18,7 @@ impl Peer {
         ensures { result ≡ first_of (rows_of_edit self.now edit.now) }
     {
         let len = self.journal.shown();
-        if !has_place(len, *edit) {
+        if !fits_text(len, *edit) {
             return Some(Answer::BadPlace(len));
         }
         if self.journal.stamp() == MAX_STAMP {
@@ -116,8 +116,8 @@ impl Peer {
     }
 }
 
-fn has_place(len: u32, edit: LocalEdit) -> bool
-    ensures { result ≡ has_place len edit }
+fn fits_text(len: u32, edit: LocalEdit) -> bool
+    ensures { result ≡ fits_text len edit }
 {
     match edit {
         LocalEdit::Insert { at, .. } => at <= len,

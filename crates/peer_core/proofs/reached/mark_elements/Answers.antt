@@ -5,7 +5,7 @@ use Rattle.element_name.specs.Name.{Name, has_name}
 use Rattle.tomb_seq.specs.declared.slot.Slot.{Slot}
 use Rattle.tomb_seq.specs.Slots.{names_in, with_mark}
 use Rattle.peer_core.specs.Kept.{shows_by}
-use Rattle.peer_core.specs.Reached.{marked_among}
+use Rattle.peer_core.specs.Reached.{slots_marked}
 use Rattle.peer_core.proofs.ReachedLemmas.{none_marked, names_among, marked_more}
 use Rattle.peer_core.proofs.Waits.{all_at}
 use Rattle.peer_core.proofs.reached.mark_elements.Goals as goal
@@ -34,9 +34,9 @@ loop-element-preserved c =
     c.mark.ensures
     ∙ ap (λ (slots : List Slot). with_mark slots n (test n)) c.loop-element.invariant
     ∙ marked_more (take i names) test n c.args.seq.now
-    ∙ ap (λ (some : List Name). marked_among some test c.args.seq.now) (sym more)
+    ∙ ap (λ (some : List Name). slots_marked some test c.args.seq.now) (sym more)
 
 pub returns : goal.returns
 returns c =
     c.loop-element.invariant
-    ∙ ap (λ (names : List Name). marked_among names (shows_by c.args.cells.now) c.args.seq.now) (take_all c.loop-element.element-index c.args.elements.now c.loop-element-test.false)
+    ∙ ap (λ (names : List Name). slots_marked names (shows_by c.args.cells.now) c.args.seq.now) (take_all c.loop-element.element-index c.args.elements.now c.loop-element-test.false)
