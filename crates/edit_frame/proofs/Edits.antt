@@ -19,9 +19,9 @@ use Rattle.coop_request.specs.declared.edit.Edit.TheVariants.{Insert, Delete, Up
 use Rattle.coop_request.specs.Request.{Request}
 use Rattle.policy_book.specs.Entry.{Entry, is_entry_version, is_entry}
 use Rattle.policy_book.specs.declared.op.AdminOp.{AdminOp}
-use Rattle.edit_frame.specs.Fields.{Field, as_value, both, then_by, when_passes, number_at, byte_at, short_at, name_at, char_at, bytes_at, is_long_piece, long_piece_at, letter_at, edit_at, operation_at}
-use Rattle.edit_frame.specs.Reading.{request_of_fields, request_at, entry_of, entry_at}
-use Rattle.edit_frame.specs.Spelling.{request_fields, entry_fields, short_bytes, name_bytes, is_one_char, letter_bytes, letter_version, edit_version, edit_kind, edit_bytes, number_of, operation_fields}
+use Rattle.edit_frame.specs.Fields.{Field, as_value, both, then_by, when_passes, big_endian_at, byte_at, short_at, name_at, char_at, bytes_at, is_long_piece, long_piece_at, letter_at, edit_at, operation_at}
+use Rattle.edit_frame.specs.Reading.{request_of_fields, request_at, entry_of, entry_fields_at}
+use Rattle.edit_frame.specs.Spelling.{request_fields, entry_fields, short_bytes, name_bytes, is_one_char, letter_bytes, letter_version, edit_version, edit_kind, edit_bytes, operation_number, operation_fields}
 use Rattle.edit_frame.specs.Spells.{IsBytes}
 use Rattle.edit_frame.proofs.Readers.{IsBytes-drop, Took, Reads, ReadsBy, reads_both, reads_passing, reads_via, reads_same, reads_leading, TakesRows, no_rows, more_rows, row_of, row_again, wide32, reads_number}
 use Rattle.edit_frame.proofs.Parts.{reads_short, reads_name, reads_operation}
@@ -76,8 +76,8 @@ char_here p h =
 
 reads_char : Reads (List ℕ) char_at letter_bytes (λ p. is_piece p && is_one_char p)
 unfolding char_at
-reads_char = reads_via encode_utf8 (λ p. slice_index (chars p) 0) (when_passes scalar (number_at w32)) (to_be_bytes w32) (λ n. scalar n && nat_lt n 4294967296) letter_bytes (λ p. is_piece p && is_one_char p)
-    (reads_passing scalar (number_at w32) (to_be_bytes w32) (λ n. nat_lt n 4294967296) (reads_number w32 4294967296 wide32)) char_there char_here
+reads_char = reads_via encode_utf8 (λ p. slice_index (chars p) 0) (when_passes scalar (big_endian_at w32)) (to_be_bytes w32) (λ n. scalar n && nat_lt n 4294967296) letter_bytes (λ p. is_piece p && is_one_char p)
+    (reads_passing scalar (big_endian_at w32) (to_be_bytes w32) (λ n. nat_lt n 4294967296) (reads_number w32 4294967296 wide32)) char_there char_here
 
 -- ---- more than one
 
@@ -241,20 +241,20 @@ small_by n h = grind arith
 abbrev fits_entry : ℕ × AdminOp → Bool
 fits_entry x = is_entry_version x.0 && (is_short x.0 && is_operation x.1)
 
-entry_there : (x : ℕ × AdminOp) → fits_entry x ≡ true → (entry_fields (entry_of x) ≡ short_bytes x.0 ++ (number_of x.1 ∷ operation_fields x.1)) × (is_entry (entry_of x) ≡ true)
+entry_there : (x : ℕ × AdminOp) → fits_entry x ≡ true → (entry_fields (entry_of x) ≡ short_bytes x.0 ++ (operation_number x.1 ∷ operation_fields x.1)) × (is_entry (entry_of x) ≡ true)
 entry_there x h =
     let hs = and_parts (is_entry_version x.0) (is_short x.0 && is_operation x.1) h in
     (refl, and_from (is_entry_version x.0) (is_operation x.1) hs.0 (and_parts (is_short x.0) (is_operation x.1) hs.1).1)
 
-entry_here : (e : Entry) → is_entry e ≡ true → (entry_of (entry_back e) ≡ e) × (short_bytes e.version ++ (number_of e.op ∷ operation_fields e.op) ≡ entry_fields e) × (fits_entry (entry_back e) ≡ true)
+entry_here : (e : Entry) → is_entry e ≡ true → (entry_of (entry_back e) ≡ e) × (short_bytes e.version ++ (operation_number e.op ∷ operation_fields e.op) ≡ entry_fields e) × (fits_entry (entry_back e) ≡ true)
 entry_here e h =
     let hs = and_parts (is_entry_version e.version) (is_operation e.op) h in
     (refl, refl, and_from (is_entry_version e.version) (is_short e.version && is_operation e.op) hs.0 (and_from (is_short e.version) (is_operation e.op) (small_by e.version hs.0) hs.1))
 
-pub reads_entry : Reads Entry entry_at entry_fields is_entry
-unfolding entry_at
+pub reads_entry : Reads Entry entry_fields_at entry_fields is_entry
+unfolding entry_fields_at
 reads_entry = reads_via entry_of entry_back (when_passes (λ x. is_entry_version x.0) (both short_at operation_at))
-    (λ x. short_bytes x.0 ++ (number_of x.1 ∷ operation_fields x.1)) fits_entry entry_fields is_entry
-    (reads_passing (λ x. is_entry_version x.0) (both short_at operation_at) (λ x. short_bytes x.0 ++ (number_of x.1 ∷ operation_fields x.1)) (λ x. is_short x.0 && is_operation x.1)
-    (reads_both short_at operation_at short_bytes (λ op. number_of op ∷ operation_fields op) is_short is_operation reads_short reads_operation))
+    (λ x. short_bytes x.0 ++ (operation_number x.1 ∷ operation_fields x.1)) fits_entry entry_fields is_entry
+    (reads_passing (λ x. is_entry_version x.0) (both short_at operation_at) (λ x. short_bytes x.0 ++ (operation_number x.1 ∷ operation_fields x.1)) (λ x. is_short x.0 && is_operation x.1)
+    (reads_both short_at operation_at short_bytes (λ op. operation_number op ∷ operation_fields op) is_short is_operation reads_short reads_operation))
     entry_there entry_here

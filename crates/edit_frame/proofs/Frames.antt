@@ -21,7 +21,7 @@ use Rattle.edit_frame.specs.declared.frame.Frame.TheVariants.{Item, Turn, End}
 use Rattle.edit_frame.specs.declared.frame.FrameKind.{FrameKind}
 use Rattle.edit_frame.specs.declared.frame.FrameKind.TheVariants.{BadKind, BadField, LeftOver, BadRequest}
 use Rattle.edit_frame.specs.Fields.{Field, constant, as_value}
-use Rattle.edit_frame.specs.Reading.{request_at, entry_at, other_at, is_kind, fault_or, request_frame, unless_left_over, frame_by, frame_of, length_field, cut_fault, inner, prefix_frame, frame_at, decoded_frame}
+use Rattle.edit_frame.specs.Reading.{request_at, entry_fields_at, other_at, is_kind, fault_or, request_frame, unless_left_over, frame_by, frame_of, length_field, cut_fault, inner, prefix_frame, frame_at, decoded_frame}
 use Rattle.edit_frame.specs.Spelling.{request_fields, entry_fields, is_one_char, edit_version, edit_kind, version_of, kind_of, fields, body, spelling}
 use Rattle.edit_frame.specs.Spells.{IsBytes, is_frame, Spells}
 use Rattle.edit_frame.proofs.Readers.{IsBytes-drop, IsBytes-take, IsBytes-rest, chosen, TakesRows, no_rows, more_rows, row_of, row_constant, wide32}
@@ -60,7 +60,7 @@ accepted_by (Some r) q f e = absurd (no_frame (BadRequest r) f e)
 
 -- ---- frames that are no requests
 
-other_rows : TakesRows Frame kind_of fields is_frame ((4, as_value (λ e. Item (Admin e)) entry_at) ∷ (5, constant Turn) ∷ (6, constant End) ∷ [])
+other_rows : TakesRows Frame kind_of fields is_frame ((4, as_value (λ e. Item (Admin e)) entry_fields_at) ∷ (5, constant Turn) ∷ (6, constant End) ∷ [])
 unfolding fields
 other_rows =
     more_rows kind_of fields is_frame 4 _ _ (row_of (λ e. Item (Admin e)) 4 _ _ _ kind_of fields is_frame reads_entry (λ x. refl) (λ x. refl) (λ x. refl))
@@ -186,7 +186,7 @@ frame_again (Item (Coop q)) h =
     let read : request_at v k (request_fields q) ≡ Some (q, []) = ap (request_at v k) (sym (append-nil (request_fields q))) ∙ (reads_request v k).again q [] fit in
     rw (kinds.0, kinds.1, read) (fault_free q b.1)
 frame_again (Item (Admin e)) h =
-    let read : entry_at (entry_fields e) ≡ Some (e, []) = ap entry_at (sym (append-nil (entry_fields e))) ∙ reads_entry.again e [] h in
+    let read : entry_fields_at (entry_fields e) ≡ Some (e, []) = ap entry_fields_at (sym (append-nil (entry_fields e))) ∙ reads_entry.again e [] h in
     rw read refl
 frame_again Turn h = refl
 frame_again End h = refl

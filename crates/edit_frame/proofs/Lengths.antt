@@ -27,7 +27,7 @@ use Rattle.policy_book.specs.declared.op.AdminOp.TheVariants.{AddUser, DelUser, 
 use Rattle.edit_message.specs.declared.message.Message.TheVariants.{Coop, Admin}
 use Rattle.edit_frame.specs.declared.frame.Frame.{Frame}
 use Rattle.edit_frame.specs.declared.frame.Frame.TheVariants.{Item, Turn, End}
-use Rattle.edit_frame.specs.Spelling.{short_bytes, name_bytes, extent_bytes, user_set_bytes, rights_bytes, objects_bytes, auth_bytes, number_of, operation_fields, is_one_char, letter_bytes, edit_bytes, fields, body}
+use Rattle.edit_frame.specs.Spelling.{short_bytes, name_bytes, extent_bytes, user_set_bytes, rights_bytes, objects_bytes, auth_bytes, operation_number, operation_fields, is_one_char, letter_bytes, edit_bytes, fields, body}
 use Rattle.edit_frame.specs.Spells.{is_frame}
 use native.Mathlib.Numerals.{unary_clauses}
 
@@ -124,6 +124,6 @@ short_body (Item (Coop q)) h =
     omega (arith, length-append (name_bytes q.id) (short_bytes q.version ++ edit_bytes q.edit), length-append (short_bytes q.version) (edit_bytes q.edit), length_name q.id, length_short q.version, short_edit q.edit b.0)
 short_body (Item (Admin e)) h =
     let a = and_parts (is_entry_version e.version) (is_operation e.op) h in
-    omega (arith, length-append (short_bytes e.version) (number_of e.op ∷ operation_fields e.op), length_short e.version, short_operation e.op a.1)
+    omega (arith, length-append (short_bytes e.version) (operation_number e.op ∷ operation_fields e.op), length_short e.version, short_operation e.op a.1)
 short_body Turn h = omega arith
 short_body End h = omega arith

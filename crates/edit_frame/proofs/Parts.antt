@@ -19,8 +19,8 @@ use Rattle.policy_book.specs.declared.auth.UserSet.TheVariants as users
 use Rattle.policy_book.specs.declared.auth.Auth.{Auth}
 use Rattle.policy_book.specs.declared.op.AdminOp.{AdminOp}
 use Rattle.policy_book.specs.declared.op.AdminOp.TheVariants.{AddUser, DelUser, AddObj, DelObj, AddGroup, DelGroup, AddMember, DelMember, AddAuth, DelAuth, Validate}
-use Rattle.edit_frame.specs.Fields.{Reader, constant, as_value, both, then_by, when_passes, number_at, byte_at, short_at, name_of, name_at, numbers_at, names_at, extent_by, extent_at, user_set_by, user_set_at, sign_at, rights_of_byte, rights_at, auth_of, objects_at, auth_at, operation_rows, operation_by, operation_at}
-use Rattle.edit_frame.specs.Spelling.{short_bytes, name_bytes, extent_bytes, user_set_bytes, flag, rights_bytes, objects_bytes, auth_bytes, number_of, operation_fields}
+use Rattle.edit_frame.specs.Fields.{Reader, constant, as_value, both, then_by, when_passes, big_endian_at, byte_at, short_at, name_of_number, name_at, numbers_at, names_at, extent_by, extent_at, user_set_by, user_set_at, sign_at, rights_of_byte, rights_at, auth_of, objects_at, auth_at, operation_rows, operation_by, operation_at}
+use Rattle.edit_frame.specs.Spelling.{short_bytes, name_bytes, extent_bytes, user_set_bytes, flag, rights_bytes, objects_bytes, auth_bytes, operation_number, operation_fields}
 use Rattle.edit_frame.specs.Spells.{IsBytes}
 use Rattle.edit_frame.proofs.Readers.{IsBytes-rest, Took, Reads, ReadsBy, some_is, chosen, reads_both, reads_passing, reads_test, reads_via, reads_same, reads_leading, TakesRows, no_rows, more_rows, row_of, row_constant, row_again, reads_list, wide16, wide64, reads_number}
 
@@ -48,14 +48,14 @@ number_of_name n = n.stamp * 2 ^ 16 + n.site
 abbrev is_pair : Name → Bool
 is_pair n = nat_lt (number_of_name n) 18446744073709551616 && is_short n.site
 
-pair_there : (n : ℕ) → nat_lt n 18446744073709551616 ≡ true → (name_bytes (name_of n) ≡ to_be_bytes w64 n) × (is_pair (name_of n) ≡ true)
+pair_there : (n : ℕ) → nat_lt n 18446744073709551616 ≡ true → (name_bytes (name_of_number n) ≡ to_be_bytes w64 n) × (is_pair (name_of_number n) ≡ true)
 unfolding name_bytes
 pair_there n h =
     let same : (n / 2 ^ 16) * 2 ^ 16 + n % 2 ^ 16 ≡ n = omega arith in
     let site : is_short (n % 2 ^ 16) ≡ true = lt-ltb _ _ (omega arith) in
     (ap (to_be_bytes w64) same, rw (same, h, site) refl)
 
-pair_here : (n : Name) → is_pair n ≡ true → (name_of (number_of_name n) ≡ n) × (to_be_bytes w64 (number_of_name n) ≡ name_bytes n) × (nat_lt (number_of_name n) 18446744073709551616 ≡ true)
+pair_here : (n : Name) → is_pair n ≡ true → (name_of_number (number_of_name n) ≡ n) × (to_be_bytes w64 (number_of_name n) ≡ name_bytes n) × (nat_lt (number_of_name n) 18446744073709551616 ≡ true)
 unfolding name_bytes
 pair_here n h =
     let hs = and_parts (nat_lt (number_of_name n) 18446744073709551616) (is_short n.site) h in
@@ -64,8 +64,8 @@ pair_here n h =
     let low : (n.stamp * 2 ^ 16 + n.site) % 2 ^ 16 ≡ n.site = omega arith in
     (rw (high, low) refl, refl, hs.0)
 
-reads_pair : Reads Name (as_value name_of (number_at w64)) name_bytes is_pair
-reads_pair = reads_via name_of number_of_name (number_at w64) (to_be_bytes w64) (λ n. nat_lt n 18446744073709551616) name_bytes is_pair
+reads_pair : Reads Name (as_value name_of_number (big_endian_at w64)) name_bytes is_pair
+reads_pair = reads_via name_of_number number_of_name (big_endian_at w64) (to_be_bytes w64) (λ n. nat_lt n 18446744073709551616) name_bytes is_pair
     (reads_number w64 18446744073709551616 wide64) pair_there pair_here
 
 -- a name's number has eight bytes
@@ -80,7 +80,7 @@ pair_by n h =
 
 pub reads_name : Reads Name name_at name_bytes is_name
 unfolding name_at
-reads_name = reads_test is_name (as_value name_of (number_at w64)) name_bytes is_pair reads_pair pair_by
+reads_name = reads_test is_name (as_value name_of_number (big_endian_at w64)) name_bytes is_pair reads_pair pair_by
 
 -- ---- lists
 
@@ -298,11 +298,11 @@ reads_member : Reads (ℕ × ℕ) (both short_at short_at) (λ x. short_bytes x.
 reads_member = reads_both short_at short_at short_bytes short_bytes is_short is_short reads_short reads_short
 
 operation_row : {A : Type 0} (f : A → AdminOp) (n : ℕ) (p : Reader A) (sp : A → List ℕ) (fp : A → Bool) (rows : List (ℕ × Reader AdminOp)) → Reads A p sp fp
-    → ((x : A) → number_of (f x) ≡ n) → ((x : A) → operation_fields (f x) ≡ sp x) → ((x : A) → is_operation (f x) ≡ fp x)
-    → TakesRows AdminOp number_of operation_fields is_operation rows → TakesRows AdminOp number_of operation_fields is_operation ((n, as_value f p) ∷ rows)
-operation_row f n p sp fp rows P a b c Rs = more_rows number_of operation_fields is_operation n (as_value f p) rows (row_of f n p sp fp number_of operation_fields is_operation P a b c) Rs
+    → ((x : A) → operation_number (f x) ≡ n) → ((x : A) → operation_fields (f x) ≡ sp x) → ((x : A) → is_operation (f x) ≡ fp x)
+    → TakesRows AdminOp operation_number operation_fields is_operation rows → TakesRows AdminOp operation_number operation_fields is_operation ((n, as_value f p) ∷ rows)
+operation_row f n p sp fp rows P a b c Rs = more_rows operation_number operation_fields is_operation n (as_value f p) rows (row_of f n p sp fp operation_number operation_fields is_operation P a b c) Rs
 
-operations_taken : TakesRows AdminOp number_of operation_fields is_operation operation_rows
+operations_taken : TakesRows AdminOp operation_number operation_fields is_operation operation_rows
 unfolding operation_fields
 operations_taken =
     operation_row AddUser 1 _ _ _ _ reads_short (λ x. refl) (λ x. refl) (λ x. refl)
@@ -316,9 +316,9 @@ operations_taken =
     (operation_row DelGroup 9 _ _ _ _ reads_short (λ x. refl) (λ x. refl) (λ x. refl)
     (operation_row (λ x. AddMember x.0 x.1) 10 _ _ _ _ reads_member (λ x. refl) (λ x. refl) (λ x. refl)
     (operation_row (λ x. DelMember x.0 x.1) 11 _ _ _ _ reads_member (λ x. refl) (λ x. refl) (λ x. refl)
-    (no_rows number_of operation_fields is_operation)))))))))))
+    (no_rows operation_number operation_fields is_operation)))))))))))
 
-operation_again : (op : AdminOp) (rest : List ℕ) → is_operation op ≡ true → operation_by (number_of op) (operation_fields op ++ rest) ≡ Some (op, rest)
+operation_again : (op : AdminOp) (rest : List ℕ) → is_operation op ≡ true → operation_by (operation_number op) (operation_fields op ++ rest) ≡ Some (op, rest)
 unfolding operation_by operation_fields
 operation_again (AddUser u) rest h = row_again AddUser short_at short_bytes is_short u rest reads_short h
 operation_again (DelUser u) rest h = row_again DelUser short_at short_bytes is_short u rest reads_short h
@@ -332,6 +332,6 @@ operation_again (DelGroup g) rest h = row_again DelGroup short_at short_bytes is
 operation_again (AddMember g u) rest h = row_again (λ (y : ℕ × ℕ). AddMember y.0 y.1) (both short_at short_at) (λ y. short_bytes y.0 ++ short_bytes y.1) (λ y. is_short y.0 && is_short y.1) (g, u) rest reads_member h
 operation_again (DelMember g u) rest h = row_again (λ (y : ℕ × ℕ). DelMember y.0 y.1) (both short_at short_at) (λ y. short_bytes y.0 ++ short_bytes y.1) (λ y. is_short y.0 && is_short y.1) (g, u) rest reads_member h
 
-pub reads_operation : Reads AdminOp operation_at (λ op. number_of op ∷ operation_fields op) is_operation
+pub reads_operation : Reads AdminOp operation_at (λ op. operation_number op ∷ operation_fields op) is_operation
 unfolding operation_at operation_by
-reads_operation = reads_leading operation_by number_of operation_fields is_operation (record { takes = operations_taken.takes; again = operation_again })
+reads_operation = reads_leading operation_by operation_number operation_fields is_operation (record { takes = operations_taken.takes; again = operation_again })

@@ -10,7 +10,7 @@ use Rattle.std.proofs.lemmas.Nat.{be_bytes_2, be_bytes_4, be_bytes_8, from_be_by
 use Rattle.element_name.specs.Cases.{when, ◌>>=◌}
 use Rattle.element_name.proofs.CaseLemmas.{bind-Some, when-Some}
 use Rattle.edit_frame.specs.Spells.{IsBytes}
-use Rattle.edit_frame.specs.Fields.{Reader, constant, as_value, both, then_by, when_passes, choose, items_at, byte_at, number_at}
+use Rattle.edit_frame.specs.Fields.{Reader, constant, as_value, both, then_by, when_passes, choose, items_at, byte_at, big_endian_at}
 
 pub IsBytes-drop : (n : ℕ) (bytes : List ℕ) → IsBytes bytes → IsBytes (drop n bytes)
 IsBytes-drop n bytes h i = rw get_or-drop (h (n + i))
@@ -256,7 +256,7 @@ wide64 = record {
   below = λ bytes fits. omega (arith, fits 0, fits 1, fits 2, fits 3, fits 4, fits 5, fits 6, fits 7);
 }
 
-pub reads_number : (w : Width) (limit : ℕ) → IsWide w limit → Reads ℕ (number_at w) (to_be_bytes w) (λ n. nat_lt n limit)
+pub reads_number : (w : Width) (limit : ℕ) → IsWide w limit → Reads ℕ (big_endian_at w) (to_be_bytes w) (λ n. nat_lt n limit)
 reads_number w limit wide = record {
   takes = λ bytes x fits e.
       let g = when-Some (nat_le (byte_len w) (length bytes)) (from_be_bytes w (take (byte_len w) bytes), drop (byte_len w) bytes) x e in

@@ -64,8 +64,8 @@ items_at item (suc n) bytes = item bytes >>= λ x. items_at item n x.1 >>= λ xs
 -- ---- numbers and names
 
 -- a number of so many bytes, the highest first
-abbrev pub number_at : Width → Reader ℕ
-number_at w bytes = when (nat_le (byte_len w) (length bytes)) (from_be_bytes w (take (byte_len w) bytes), drop (byte_len w) bytes)
+abbrev pub big_endian_at : Width → Reader ℕ
+big_endian_at w bytes = when (nat_le (byte_len w) (length bytes)) (from_be_bytes w (take (byte_len w) bytes), drop (byte_len w) bytes)
 
 -- one byte
 unfoldable pub byte_at : Reader ℕ
@@ -74,15 +74,15 @@ byte_at (b ∷ bytes) = Some (b, bytes)
 
 -- two bytes
 unfoldable pub short_at : Reader ℕ
-short_at bytes = number_at w16 bytes
+short_at bytes = big_endian_at w16 bytes
 
 -- the stamp above the lower 16 bits, and the site in them
-abbrev pub name_of : ℕ → Name
-name_of n = record { stamp = n / 2 ^ 16; site = n % 2 ^ 16 }
+abbrev pub name_of_number : ℕ → Name
+name_of_number n = record { stamp = n / 2 ^ 16; site = n % 2 ^ 16 }
 
 -- eight bytes that are a name: with stamp 0 only eight zero bytes are one
 unfoldable pub name_at : Reader Name
-name_at bytes = when_passes is_name (as_value name_of (number_at w64)) bytes
+name_at bytes = when_passes is_name (as_value name_of_number (big_endian_at w64)) bytes
 
 -- ---- lists
 
@@ -180,7 +180,7 @@ has_lists bytes = (slice_index bytes 0 == ADD_AUTH) || ((slice_index bytes 0 == 
 
 -- four bytes that are a scalar value, as the piece of it alone
 unfoldable pub char_at : Reader (List ℕ)
-char_at bytes = as_value encode_utf8 (when_passes scalar (number_at w32)) bytes
+char_at bytes = as_value encode_utf8 (when_passes scalar (big_endian_at w32)) bytes
 
 -- so many bytes
 unfoldable pub bytes_at : ℕ → Reader (List ℕ)

@@ -31,13 +31,13 @@ abbrev pub entry_of : ℕ × AdminOp → Entry
 entry_of x = record { version = x.0; op = x.1 }
 
 -- a version that an entry can make, and an operation
-unfoldable pub entry_at : Reader Entry
-entry_at bytes = as_value entry_of (when_passes (λ x. is_entry_version x.0) (both short_at operation_at)) bytes
+unfoldable pub entry_fields_at : Reader Entry
+entry_fields_at bytes = as_value entry_of (when_passes (λ x. is_entry_version x.0) (both short_at operation_at)) bytes
 
 -- the frame of a kind that is no request
 unfoldable pub other_at : ℕ → Reader Frame
 other_at kind bytes = choose kind (
-    (ENTRY_KIND, as_value (λ e. Item (Admin e)) entry_at)
+    (ENTRY_KIND, as_value (λ e. Item (Admin e)) entry_fields_at)
     ∷ (TURN_KIND, constant Turn)
     ∷ (END_KIND, constant End)
     ∷ []) bytes

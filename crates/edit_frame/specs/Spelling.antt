@@ -62,18 +62,18 @@ unfoldable pub auth_bytes : Auth → List ℕ
 auth_bytes a = (flag ALLOWING a.grant ∷ []) ++ (rights_bytes a.rights ++ (user_set_bytes a.users ++ objects_bytes a.objects))
 
 -- an operation's number
-abbrev pub number_of : AdminOp → ℕ
-number_of (AddUser u) = ADD_USER
-number_of (DelUser u) = DEL_USER
-number_of (AddObj n x) = ADD_OBJECT
-number_of (DelObj n) = DEL_OBJECT
-number_of (AddAuth place a) = ADD_AUTH
-number_of (DelAuth place) = DEL_AUTH
-number_of (Validate n) = VALIDATE
-number_of (AddGroup g) = ADD_GROUP
-number_of (DelGroup g) = DEL_GROUP
-number_of (AddMember g u) = ADD_MEMBER
-number_of (DelMember g u) = DEL_MEMBER
+abbrev pub operation_number : AdminOp → ℕ
+operation_number (AddUser u) = ADD_USER
+operation_number (DelUser u) = DEL_USER
+operation_number (AddObj n x) = ADD_OBJECT
+operation_number (DelObj n) = DEL_OBJECT
+operation_number (AddAuth place a) = ADD_AUTH
+operation_number (DelAuth place) = DEL_AUTH
+operation_number (Validate n) = VALIDATE
+operation_number (AddGroup g) = ADD_GROUP
+operation_number (DelGroup g) = DEL_GROUP
+operation_number (AddMember g u) = ADD_MEMBER
+operation_number (DelMember g u) = DEL_MEMBER
 
 -- what stands after its number
 unfoldable pub operation_fields : AdminOp → List ℕ
@@ -143,7 +143,7 @@ request_fields q = name_bytes q.id ++ (short_bytes q.version ++ edit_bytes q.edi
 
 -- a version, a number and the operation's fields
 abbrev pub entry_fields : Entry → List ℕ
-entry_fields e = short_bytes e.version ++ (number_of e.op ∷ operation_fields e.op)
+entry_fields e = short_bytes e.version ++ (operation_number e.op ∷ operation_fields e.op)
 
 -- a frame's fields: none of a turn or an end
 unfoldable pub fields : Frame → List ℕ

@@ -69,9 +69,9 @@ abbrev pub IsAllOf : List ℕ → List Frame → List ℕ → Type 0
 IsAllOf fed frames rest = stream fed ≡ record { frames = frames; rest = rest }
 
 -- where these frames of what was fed were given before: the next one, or that these are all, with the fault of the rest
-abbrev pub Follows : List ℕ → List Frame → Result (Option Frame) DecodeFail → Splitting → Type 0
-Follows fed frames (Ok (Some f)) new = IsSplit fed (frames ++ f ∷ []) new
-Follows fed frames (Ok None) new = IsSplit fed frames new × IsAllOf fed frames new.rest
-Follows fed frames (Err (decodes.Fault fault)) new =
+abbrev pub GivesNextFrame : List ℕ → List Frame → Result (Option Frame) DecodeFail → Splitting → Type 0
+GivesNextFrame fed frames (Ok (Some f)) new = IsSplit fed (frames ++ f ∷ []) new
+GivesNextFrame fed frames (Ok None) new = IsSplit fed frames new × IsAllOf fed frames new.rest
+GivesNextFrame fed frames (Err (decodes.Fault fault)) new =
     IsSplit fed frames new × IsAllOf fed frames new.rest × (rest_fault new.rest ≡ Some fault.kind) × (is_truncated fault.kind ≡ false)
-Follows fed frames (Err decodes.NoMemory) new = IsSplit fed frames new
+GivesNextFrame fed frames (Err decodes.NoMemory) new = IsSplit fed frames new

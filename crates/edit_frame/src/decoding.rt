@@ -3,7 +3,7 @@ ghost use Rattle.std.specs.Prelude.{◌≡◌, ◌≤◌, ◌+◌, ◌&&◌, ◌
 ghost use Rattle.edit_frame.specs.declared.frame.Frame.{Frame};
 ghost use Rattle.edit_frame.specs.declared.fail.FieldFail.TheVariants.{NoMemory as no_memory};
 ghost use Rattle.edit_frame.specs.Gives.{MayGive, GivesDraft, GivesFrame, GivesAt, request_of_draft};
-ghost use Rattle.edit_frame.specs.Reading.{is_kind, request_at, entry_at, other_at, request_frame, frame_by, frame_of, cut_fault};
+ghost use Rattle.edit_frame.specs.Reading.{is_kind, request_at, entry_fields_at, other_at, request_frame, frame_by, frame_of, cut_fault};
 ghost use Rattle.edit_frame.specs.Reading.{length_field, inner, prefix_frame, decoded_frame, has_listing, takes_memory};
 ghost use Rattle.edit_frame.specs.Fields.{has_lists};
 ghost use Rattle.edit_frame.specs.Spells.{Spells};
@@ -40,9 +40,9 @@ fn draft_of(version: u8, kind: u8, rest: &mut &[u8]) -> Result<Draft, Bad>
     })
 }
 
-#[tactic(auto, unfolding(crate::specs::Reading::entry_at))]
+#[tactic(auto, unfolding(crate::specs::Reading::entry_fields_at))]
 fn entry_of(alloc: Global, rest: &mut &[u8]) -> Result<Entry, FieldFail>
-    ensures read { MayGive result rest.new.now (entry_at rest.old.now) }
+    ensures read { MayGive result rest.new.now (entry_fields_at rest.old.now) }
     ensures memory { result ≡ Err no_memory → has_lists (drop 2 rest.old.now) ≡ true }
 {
     let version = short_of(rest)?;

@@ -5,7 +5,7 @@ ghost use Rattle.std.specs.Int.{w32, w64};
 ghost use Rattle.element_name.specs.Cases.{when};
 ghost use Rattle.coop_request.specs.Piece.{is_piece};
 ghost use Rattle.edit_frame.specs.Spelling.{is_one_char};
-ghost use Rattle.edit_frame.specs.Fields.{number_at, byte_at, short_at, name_at, numbers_at, names_at, extent_at};
+ghost use Rattle.edit_frame.specs.Fields.{big_endian_at, byte_at, short_at, name_at, numbers_at, names_at, extent_at};
 ghost use Rattle.edit_frame.specs.Fields.{user_set_at, sign_at, has_bit, rights_at, objects_at, auth_at, has_lists, operation_at, char_at, bytes_at};
 ghost use Rattle.edit_frame.specs.Fields.{long_piece_at, letter_at, edit_at, when_passes};
 ghost use Rattle.edit_frame.specs.declared.fail.FieldFail.TheVariants.{NoMemory as no_memory};
@@ -41,13 +41,13 @@ pub fn short_of(rest: &mut &[u8]) -> Result<u16, Bad>
 }
 
 fn u32_of(rest: &mut &[u8]) -> Result<u32, Bad>
-    ensures { Gives result rest.new.now (number_at w32 rest.old.now) }
+    ensures { Gives result rest.new.now (big_endian_at w32 rest.old.now) }
 {
     Ok(rest.try_get_u32()?)
 }
 
 fn u64_of(rest: &mut &[u8]) -> Result<u64, Bad>
-    ensures { Gives result rest.new.now (number_at w64 rest.old.now) }
+    ensures { Gives result rest.new.now (big_endian_at w64 rest.old.now) }
 {
     Ok(rest.try_get_u64()?)
 }

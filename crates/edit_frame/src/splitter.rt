@@ -2,7 +2,7 @@
 ghost use Rattle.std.specs.Prelude.{◌≡◌, ℕ, ◌+◌, ◌^◌, ◌<◌, List, [], ◌++◌, length, OnOk, OnErr, MatchResult};
 ghost use Rattle.edit_frame.specs.declared.frame.Frame.{Frame};
 ghost use Rattle.edit_frame.specs.declared.frame.FrameKind.TheVariants.{Truncated};
-ghost use Rattle.edit_frame.specs.Splitting.{NextGives, IsSplit, IsWaiting, Follows, FirstGives, Shortens, is_truncated};
+ghost use Rattle.edit_frame.specs.Splitting.{NextGives, IsSplit, IsWaiting, GivesNextFrame, FirstGives, Shortens, is_truncated};
 
 use crate::decoding::{cut_fault, length_of, whole_frame};
 use crate::fail::FrameFail;
@@ -70,7 +70,7 @@ impl Splitter {
         ensures counted { self.new.offset + length self.new.rest ≡ self.old.offset + length self.old.rest }
         ensures shortens { Shortens self.old result self.new }
         ensures follows { (fed : List ℕ) (frames : List Frame)
-            → IsSplit fed frames self.old → Follows fed frames result self.new }
+            → IsSplit fed frames self.old → GivesNextFrame fed frames result self.new }
     {
         match first_frame(self.alloc, self.buffer.as_slice()) {
             Ok(Some((frame, len))) => {

@@ -1,7 +1,7 @@
 //! The bytes of frames.
 ghost use Rattle.std.specs.Prelude.{◌≡◌, ◌+◌, ◌≤◌, true, ◌∷◌, ◌++◌, length, OnOk, OnErr, IfOk};
 ghost use Rattle.std.specs.List.{flat_map};
-ghost use Rattle.edit_frame.specs.Spelling.{short_bytes, name_bytes, extent_bytes, user_set_bytes, flag, rights_bytes, auth_bytes, number_of, operation_fields};
+ghost use Rattle.edit_frame.specs.Spelling.{short_bytes, name_bytes, extent_bytes, user_set_bytes, flag, rights_bytes, auth_bytes, operation_number, operation_fields};
 ghost use Rattle.edit_frame.specs.Spelling.{letter_bytes, letter_version, edit_version, edit_kind, edit_bytes, request_fields, entry_fields};
 ghost use Rattle.edit_frame.specs.Spelling.{body, spelling};
 ghost use Rattle.edit_frame.specs.Spells.{is_frame, Spells};
@@ -108,8 +108,8 @@ fn put_auth(out: &mut Vec<u8>, a: &Auth) -> Result<(), AllocError>
     put_numbers(out, 0, &a.objects)
 }
 
-fn number_of(op: &AdminOp) -> u8
-    ensures { result ≡ number_of op.now }
+fn operation_number(op: &AdminOp) -> u8
+    ensures { result ≡ operation_number op.now }
 {
     match op {
         AdminOp::AddUser(_) => ADD_USER,
@@ -230,7 +230,7 @@ fn put_entry(out: &mut Vec<u8>, e: &Entry) -> Result<(), AllocError>
     out.put_u8(PLAIN_VERSION)?;
     out.put_u8(ENTRY_KIND)?;
     put_short(out, e.version() as u16)?;
-    out.put_u8(number_of(e.op()))?;
+    out.put_u8(operation_number(e.op()))?;
     put_operation(out, e.op())
 }
 
