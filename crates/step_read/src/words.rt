@@ -6,9 +6,9 @@ ghost use Rattle.step_read.specs.Words.{is_line, parts, words, are_none, is_alon
 
 use bstr::ByteSlice;
 use element_name::NoMemory;
-use line_engine::MAX_LINE;
+use line_engine::{LINE_END, MAX_LINE};
 use std::alloc::{AllocError, Global};
-use step_spelling::{LINE_END, SPACE};
+use step_spelling::SPACE;
 
 fn is_text(bytes: &[u8]) -> bool
     ensures { result ≡ is_utf8 bytes.now }
