@@ -1,4 +1,4 @@
-//! Tests of the public calls of one peer, and of the crates that it stands on: what no clause says of them.
+//! Tests of the public calls of the crates that one peer stands on: what no clause says of them.
 //!
 //! They stand in a crate of their own, since a crate with tests is proved twice.
 #![tactic(auto)]
@@ -15,8 +15,6 @@ mod of_element_name;
 mod of_packed_message;
 #[cfg(test)]
 mod of_packed_request;
-#[cfg(test)]
-mod of_peer_core;
 #[cfg(test)]
 mod of_peer_step;
 #[cfg(test)]
