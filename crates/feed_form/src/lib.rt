@@ -6,6 +6,3 @@ pub mod laws;
 mod turn;
 
 pub use feeding::{feed, feed_peer};
-
-#[cfg(test)]
-mod tests;

@@ -8,4 +8,12 @@ mod of_edit_frame;
 #[cfg(test)]
 mod of_edit_io;
 #[cfg(test)]
+mod of_edit_make;
+#[cfg(test)]
+mod of_feed_form;
+#[cfg(test)]
 mod of_line_engine;
+#[cfg(test)]
+mod of_replay_form;
+#[cfg(test)]
+mod of_replay_net;

@@ -1,14 +1,12 @@
-//! What no clause says: worked frames, written and read; which fault of damaged ones comes first; streams however cut.
+//! What no clause says: worked frames, read and written again; which fault of damaged ones comes first; streams however cut.
 ghost use Rattle.std.specs.Prelude.{◌≤◌, ◌<◌, length};
 
-use coop_request::{Edit, Piece, Request};
-use edit_frame::{DecodeFail, Frame, FrameFault, FrameKind, Splitter, decode, encode};
-use edit_message::Message;
-use element_name::Name;
-use policy_book::{AdminOp, Auth, Entry, Extent, NameList, NumList, Rights, UserSet};
+use edit_frame::{DecodeFail, Frame, FrameFault, Splitter, decode, encode};
+use peer_step::Step;
 use std::alloc::Global;
 use std::process::Abort;
 use std::test::Fail;
+use step_write::step_text;
 
 // The bytes that pairs of hexadecimal digits stand for; spaces are left out.
 fn bytes_of(alloc: Global, text: &str) -> Result<Vec<u8>, Fail> {
@@ -31,143 +29,68 @@ fn bytes_of(alloc: Global, text: &str) -> Result<Vec<u8>, Fail> {
     Ok(bytes)
 }
 
-fn name(stamp: u64, site: u16) -> Name {
-    Name::read(stamp, site).unwrap_or(Name::start())
-}
-
-fn request(id: Name, version: u32, edit: Edit) -> Result<Frame, Fail> {
-    let request = Request::checked(id, version, edit);
-    Ok(Frame::Item(Message::Coop(request.ok().ok_or("a request")?)))
-}
-
-fn entry(version: u32, op: AdminOp) -> Result<Frame, Fail> {
-    let entry = Entry::checked(version, op).ok_or("an entry")?;
-    Ok(Frame::Item(Message::Admin(entry)))
-}
-
-fn numbers(alloc: Global, items: &[u16]) -> Result<NumList, Fail> {
-    let items = Vec::from_slice(alloc, items)?;
-    Ok(NumList::checked(items).ok_or("numbers")?)
-}
-
-fn names(alloc: Global, items: &[Name]) -> Result<NameList, Fail> {
-    let items = Vec::from_slice(alloc, items)?;
-    Ok(NameList::checked(items).ok_or("names")?)
-}
-
-// That these users may insert everywhere, or may do anything.
-fn auth(alloc: Global, users: UserSet, all: bool) -> Result<Auth, Fail> {
-    Ok(Auth {
-        users,
-        rights: Rights::checked(true, all, all).ok_or("rights")?,
-        objects: numbers(alloc, &[0])?,
-        grant: true,
-    })
-}
-
-fn is_same(a: &Frame, b: &Frame) -> bool {
-    match (a, b) {
-        (Frame::Item(a), Frame::Item(b)) => a.same(b),
-        (Frame::Turn, Frame::Turn) | (Frame::End, Frame::End) => true,
-        (_, _) => false,
-    }
-}
-
-// The frame is written as these bytes, and is read from them.
-fn check<R: Abort>(rt: &R, alloc: Global, frame: Frame, text: &str) -> Result<(), Fail> {
-    let bytes = bytes_of(alloc, text)?;
-    let mut out = Vec::new(alloc);
-    encode(alloc, &frame, &mut out)?;
-    assert_eq!(rt; out.as_slice(), bytes.as_slice(), "{text}");
-    let read = decode(alloc, &bytes)?;
-    assert!(rt; is_same(&read, &frame), "{text}");
-    Ok(())
-}
-
-#[test]
-fn requests_and_turns(rt: HostRuntime) -> Result<(), Fail> {
-    let (start, letter) = (Name::start(), Piece::of('x'));
-    let insert = Edit::Insert {
-        after: start,
-        letter,
-    };
-    check(
-        &rt,
-        rt.alloc(),
-        request(name(1, 1), 0, insert)?,
+// Frames, and what they say: the line of a step that receives the message, or the frame's name.
+const FRAMES: [(&str, &str); 11] = [
+    (
         "00000018 01 01 0000000000010001 0000 0000000000000000 00000078",
-    )?;
-    let target = name(1, 0);
-    check(
-        &rt,
-        rt.alloc(),
-        request(name(2, 1), 3, Edit::Delete { target })?,
+        "message request 1.1 0 insert 0.0 x",
+    ),
+    (
         "00000014 01 02 0000000000020001 0003 0000000000010000",
-    )?;
-    let letter = Piece::checked(b"ab").ok_or("a piece")?;
-    let insert = Edit::Insert {
-        after: start,
-        letter,
-    };
-    check(
-        &rt,
-        rt.alloc(),
-        request(name(1, 0), 0, insert)?,
+        "message request 2.1 3 delete 1.0",
+    ),
+    (
         "00000017 02 01 0000000000010000 0000 0000000000000000 02 6162",
-    )?;
-    let letter = Piece::checked(b"\xc3\xa9!").ok_or("a piece")?;
-    check(
-        &rt,
-        rt.alloc(),
-        request(name(2, 1), 16_383, Edit::Update { target, letter })?,
+        "message request 1.0 0 insert 0.0 ab",
+    ),
+    (
         "00000018 02 03 0000000000020001 3FFF 0000000000010000 03 C3A921",
-    )?;
-    check(&rt, rt.alloc(), Frame::Turn, "00000002 01 05")?;
-    check(&rt, rt.alloc(), Frame::End, "00000002 01 06")
+        "message request 2.1 16383 update 1.0 \u{e9}!",
+    ),
+    ("00000007 01 04 0001 01 0001", "message entry 1 adduser 1"),
+    (
+        "0000000F 01 04 0002 05 0000 01 07 01 0001 01 0000",
+        "message entry 2 addauth 0 + 1 idu 0",
+    ),
+    (
+        "0000000F 01 04 0003 05 0000 01 01 11 0007 01 0000",
+        "message entry 3 addauth 0 + @7 i 0",
+    ),
+    (
+        "00000009 01 04 0004 0A 0007 0001",
+        "message entry 4 addmember 7 1",
+    ),
+    (
+        "00000019 01 04 0005 03 0001 02 02 0000000000010002 0000000000020001",
+        "message entry 5 addobj 1 elems 1.2,2.1",
+    ),
+    ("00000002 01 05", "turn"),
+    ("00000002 01 06", "end"),
+];
+
+fn text_of(alloc: Global, frame: Frame) -> Result<Vec<u8>, Fail> {
+    let mut text = Vec::new(alloc);
+    match frame {
+        Frame::Item(message) => step_text(alloc, &Step::Receive(message), &mut text)?,
+        Frame::Turn => text.extend_from_slice(b"turn")?,
+        Frame::End => text.extend_from_slice(b"end")?,
+    }
+    Ok(text)
 }
 
 #[test]
-fn entries(rt: HostRuntime) -> Result<(), Fail> {
+fn frames(rt: HostRuntime) -> Result<(), Fail> {
     let alloc = rt.alloc();
-    let everyone = AdminOp::AddAuth(
-        0,
-        auth(alloc, UserSet::Listed(numbers(alloc, &[1])?), true)?,
-    );
-    let group = AdminOp::AddAuth(
-        0,
-        auth(alloc, UserSet::Groups(numbers(alloc, &[7])?), false)?,
-    );
-    let pair = AdminOp::AddObj(1, Extent::Elems(names(alloc, &[name(1, 2), name(2, 1)])?));
-    check(
-        &rt,
-        alloc,
-        entry(1, AdminOp::AddUser(1))?,
-        "00000007 01 04 0001 01 0001",
-    )?;
-    check(
-        &rt,
-        alloc,
-        entry(2, everyone)?,
-        "0000000F 01 04 0002 05 0000 01 07 01 0001 01 0000",
-    )?;
-    check(
-        &rt,
-        alloc,
-        entry(3, group)?,
-        "0000000F 01 04 0003 05 0000 01 01 11 0007 01 0000",
-    )?;
-    check(
-        &rt,
-        alloc,
-        entry(4, AdminOp::AddMember { group: 7, user: 1 })?,
-        "00000009 01 04 0004 0A 0007 0001",
-    )?;
-    check(
-        &rt,
-        alloc,
-        entry(5, pair)?,
-        "00000019 01 04 0005 03 0001 02 02 0000000000010002 0000000000020001",
-    )
+    for (text, wanted) in FRAMES {
+        let bytes = bytes_of(alloc, text)?;
+        let frame = decode(alloc, &bytes)?;
+        let mut out = Vec::new(alloc);
+        encode(alloc, &frame, &mut out)?;
+        assert_eq!(rt; out.as_slice(), bytes.as_slice(), "{text}");
+        let said = text_of(alloc, frame)?;
+        assert_eq!(rt; said.as_slice(), wanted.as_bytes(), "{text}");
+    }
+    Ok(())
 }
 
 // Streams, and what is found in each: how many frames it begins with, and the fault of its rest.
@@ -286,18 +209,22 @@ fn streams(rt: HostRuntime) -> Result<(), Fail> {
     Ok(())
 }
 
-// The bytes aren't one frame, and this is their fault.
-fn check_fault<R: Abort>(rt: &R, alloc: Global, text: &str, kind: FrameKind) -> Result<(), Fail> {
-    let bytes = bytes_of(alloc, text)?;
-    let fault = DecodeFail::Fault(FrameFault { offset: 0, kind });
-    assert_eq!(rt; decode(alloc, &bytes).err(), Some(fault), "{text}");
-    Ok(())
-}
+// Bytes that aren't one frame, and their fault.
+const DAMAGED: [(&str, &str); 3] = [
+    ("", "0, Truncated at 0"),
+    ("00000002 0105 00", "0, LeftOver at 0"),
+    ("00000002 0107 00", "0, BadKind at 0"),
+];
 
 #[test]
 fn all_of_the_bytes(rt: HostRuntime) -> Result<(), Fail> {
     let alloc = rt.alloc();
-    check_fault(&rt, alloc, "", FrameKind::Truncated)?;
-    check_fault(&rt, alloc, "00000002 0105 00", FrameKind::LeftOver)?;
-    check_fault(&rt, alloc, "00000002 0107 00", FrameKind::BadKind)
+    for (text, wanted) in DAMAGED {
+        let Err(DecodeFail::Fault(fault)) = decode(alloc, &bytes_of(alloc, text)?) else {
+            return Err("a fault".into());
+        };
+        let found = found(alloc, 0, Some(fault))?;
+        assert_eq!(rt; found.as_str(), wanted, "{text}");
+    }
+    Ok(())
 }

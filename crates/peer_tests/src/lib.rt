@@ -8,17 +8,11 @@ mod of_admin_log;
 #[cfg(test)]
 mod of_coop_request;
 #[cfg(test)]
-mod of_edit_message;
-#[cfg(test)]
-mod of_element_name;
-#[cfg(test)]
 mod of_packed_message;
 #[cfg(test)]
 mod of_packed_request;
 #[cfg(test)]
 mod of_peer_step;
-#[cfg(test)]
-mod of_policy_book;
 #[cfg(test)]
 mod of_request_state;
 #[cfg(test)]

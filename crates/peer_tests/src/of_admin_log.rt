@@ -22,11 +22,10 @@ fn long_log(alloc: Global) -> Result<AdminLog, Fail> {
 #[test]
 fn policies_of_a_long_log(rt: HostRuntime) -> Result<(), Fail> {
     let log = long_log(rt.alloc())?;
-    for (from, to) in [(0, 0), (1, 2), (2, 66), (1, 66), (0, 129), (129, 130)] {
-        assert!(rt; from <= to && to <= log.len());
-        let mut policy = log.policy_at(from)?;
-        log.advance(&mut policy, from, to)?;
-        assert_eq!(rt; policy.user(9), to % 2 == 1, "from {from} to {to}");
+    for version in [0, 1, 64, 65, 66, 129, 130] {
+        assert!(rt; version <= log.len());
+        let policy = log.policy_at(version)?;
+        assert_eq!(rt; policy.user(9), version % 2 == 1, "{version}");
     }
     Ok(())
 }

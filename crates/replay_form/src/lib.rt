@@ -7,6 +7,3 @@ mod run;
 
 pub use play::Replay;
 pub use run::replay;
-
-#[cfg(test)]
-mod tests;

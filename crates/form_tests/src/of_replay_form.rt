@@ -5,9 +5,9 @@ mod grammar;
 mod limits;
 mod rows;
 
-use crate::replay;
 use edit_io::{MemSink, MemSource};
 use line_engine::Status;
+use replay_form::replay;
 use std::alloc::{AllocError, Global};
 
 /// At how many bytes a call a source gives and a sink takes, and the call of each that fails; 0 for none.
