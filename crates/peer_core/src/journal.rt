@@ -17,6 +17,7 @@ ghost use Rattle.peer_core.specs.Local.{greatest_stamp};
 ghost use Rattle.peer_core.specs.Answers.{least_awaiting};
 
 use crate::advance::advance;
+use crate::item::{JournalItem, item_of};
 use crate::items::Items;
 use crate::join::{join, judged, validated_state};
 use crate::missing::{missing, missing_end};
@@ -29,7 +30,6 @@ use coop_request::{MAX_REQUESTS, Request};
 use edit_message::{Key, Message, Missing};
 use elem_show::{Cell, ElemTable};
 use element_name::{Name, NoMemory};
-use packed_message::PackedMessage;
 use peer_step::Text;
 use policy_book::{AdminOp, Entry, EntryFault};
 use request_state::{State, StateTable, Undone};
@@ -90,16 +90,16 @@ impl Journal {
         self.items.len() as u32
     }
 
-    pub(crate) fn at(&self, i: u32) -> Option<&PackedMessage>
-        ensures { option_copied result ≡ slice_get self.now i }
+    pub(crate) fn at(&self, i: u32) -> Option<JournalItem<'_>>
+        ensures { result ≡ slice_get self.now i }
     {
-        self.items.at(i as usize)
+        self.find(self.items.key(i as usize)?)
     }
 
-    pub(crate) fn find(&self, key: Key) -> Option<&PackedMessage>
-        ensures { option_copied result ≡ find_key key self.now }
+    pub(crate) fn find(&self, key: Key) -> Option<JournalItem<'_>>
+        ensures { result ≡ find_key key self.now }
     {
-        self.items.find(key)
+        item_of(&self.states, &self.log, key)
     }
 
     /// The version of its policy.
@@ -242,7 +242,7 @@ impl Journal {
         ensures state { IfOk result (λ state. state ≡ state_in (requests_of self.old ++ request ∷ []) (entries_of self.old) request) }
         ensures unchanged { OnErr result (self.new ≡ self.old) }
     {
-        self.items.push(Message::Coop(request))?;
+        self.items.push(&Message::Coop(request))?;
         match join(
             &self.log,
             &mut self.seq,
@@ -274,15 +274,18 @@ impl Journal {
         ensures undone { IfOk result (λ undone. undone.count ≡ undone_between (requests_of self.old) (entries_of self.old) (entries_of self.old ++ entry ∷ [])) }
         ensures unchanged { OnErr result (self.new ≡ self.old) }
     {
-        let copy = entry.copied()?;
-        self.items.push(Message::Admin(entry))?;
+        let message = Message::Admin(entry);
+        self.items.push(&message)?;
+        let Message::Admin(entry) = message else {
+            unreachable!()
+        };
         match advance(
             self.alloc,
             &mut self.log,
             &mut self.seq,
             &mut self.cells,
             &mut self.states,
-            copy,
+            entry,
             sweep,
         ) {
             Ok(undone) => Ok(undone),
