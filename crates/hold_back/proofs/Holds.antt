@@ -47,7 +47,7 @@ messages_waiting i need held = elim (slice_get held i) as (λ x. slice_get held 
 
 -- ---- keys
 
-new_key : (held : List Held) (key : Key) → find_held key held ≡ None → IsNewKey (keys_of held) key
+pub new_key : (held : List Held) (key : Key) → find_held key held ≡ None → IsNewKey (keys_of held) key
 new_key [] key none = refl
 new_key (h ∷ held) key none = elim (key_eq (key_of h.message) key) as (λ b. key_eq (key_of h.message) key ≡ b
     → list_any (λ k. key_eq k key) (key_of h.message ∷ keys_of held) ≡ false) [
@@ -57,11 +57,11 @@ new_key (h ∷ held) key none = elim (key_eq (key_of h.message) key) as (λ b. k
           ap (λ b. b || list_any (λ k. key_eq k key) (keys_of held)) other ∙ new_key held key (ap found (sym other) ∙ none)
     ] refl
 
-keys_push : (held : List Held) (h : Held) → keys_of (held ++ h ∷ []) ≡ keys_of held ++ key_of h.message ∷ []
+pub keys_push : (held : List Held) (h : Held) → keys_of (held ++ h ∷ []) ≡ keys_of held ++ key_of h.message ∷ []
 keys_push [] h = refl
 keys_push (x ∷ held) h = ap (λ keys. key_of x.message ∷ keys) (keys_push held h)
 
-new_to_more : (keys : List Key) (l k : Key) → IsNewKey (keys ++ l ∷ []) k
+pub new_to_more : (keys : List Key) (l k : Key) → IsNewKey (keys ++ l ∷ []) k
     → (list_any (λ m. key_eq m k) keys ≡ false) × (list_any (λ m. key_eq m k) (l ∷ []) ≡ false)
 new_to_more keys l k new =
     let joined = list_any-append (λ m. key_eq m k) keys (l ∷ []) in

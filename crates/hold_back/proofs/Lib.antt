@@ -1,1 +1,4 @@
 pub mod Holds
+pub mod Indexed
+pub mod Counted
+pub mod Indexes

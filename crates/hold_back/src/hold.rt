@@ -1,14 +1,17 @@
 //! The hold.
 ghost use Rattle.std.specs.Prelude.{◌≡◌, ◌&&◌, ◌≤◌, ◌<◌, ◌++◌, [], ◌∷◌, None, Some, length, remove, slice_get, position, find};
 ghost use Rattle.std.specs.Prelude.{unwrap_or, option_map, IfOk, IfErr, OnOk, OnErr, IsTrue};
+ghost use Rattle.std.specs.List.{count_by};
 ghost use Rattle.std.specs.Option.{option_copied};
 ghost use Rattle.hold_back.specs.declared.fault.HoldFault.TheVariants.{NoMemory as no_memory};
 ghost use Rattle.element_name.specs.Growing.{EachAfter};
 ghost use Rattle.edit_message.specs.Message.{key_of, key_eq};
 ghost use Rattle.hold_back.specs.Hold.{find_held, keep_fault, woken_by, waiting_at, woken_from, waiting_from, due_at, only_woken_due, is_woken, waits_for, IsNewKey, keys_of};
 
+use crate::census::Census;
 use crate::fault::HoldFault;
 use crate::held::Held;
+use crate::keys::HeldKeys;
 use crate::need::Need;
 use crate::parcel::Parcel;
 use edit_message::{Key, Message};
@@ -32,23 +35,26 @@ pub trait Due {
 }
 
 /// Held messages in order of arrival, each waiting under its need, or woken. Each lies behind a pointer,
-/// so that little moves where one is taken out; it takes about 360 bytes.
+/// so that little moves where one is taken out; it takes about 400 bytes. The keys stand in an order of their own, and
+/// those that wait and those that are woken are counted, so that no message is looked at where none can be meant.
 #[derive(Drop)]
 pub struct HoldBack {
     alloc: Global,
     held: Vec<Parcel>,
+    keys: HeldKeys,
+    census: Census,
 }
 
 impl Model for HoldBack {
     ghost use Rattle.std.specs.Prelude.{List};
     ghost use Rattle.hold_back.specs.declared.held.Held.{Held};
-    ghost use Rattle.hold_back.specs.Hold.{IsHold};
+    ghost use Rattle.hold_back.specs.Index.{IsIndexed};
 
     ghost Value = { List Held };
 
     ghost view = { λ h. h.held.items };
 
-    ghost invariant = { λ h. IsHold h.held.items };
+    ghost invariant = { λ h. IsIndexed h.held.items h.keys h.census };
 }
 
 impl HoldBack {
@@ -59,6 +65,8 @@ impl HoldBack {
         HoldBack {
             alloc,
             held: Vec::new(alloc),
+            keys: HeldKeys::new(alloc),
+            census: Census::new(),
         }
     }
 
@@ -79,15 +87,20 @@ impl HoldBack {
         Some(held.message())
     }
 
-    /// The message of a key. Takes time in the number of held messages.
+    /// The message of a key. Where there is none, this takes time logarithmic in the number of held messages; else time
+    /// in that number.
     pub fn find(&self, key: Key) -> Option<&Message>
         ensures { option_copied result ≡ find_held key self.now }
     {
-        let held = find_in(&self.held, key)?;
+        if !self.keys.has(&key) {
+            return None;
+        }
+        let held = find_in(&self.held, &key)?;
         Some(held.message())
     }
 
-    /// Puts a message last, waiting under its need, in constant time but for the times when room is doubled.
+    /// Puts a message last, waiting under its need, in time logarithmic in the number of held messages but for the times
+    /// when room is doubled.
     pub fn keep(&mut self, message: Message, need: Need) -> Result<(), HoldFault>
         requires new { find_held (key_of message) self.old ≡ None }
         ensures room { OnOk result (keep_fault self.old ≡ None) }
@@ -98,16 +111,34 @@ impl HoldBack {
         if self.held.len() >= MAX_HELD {
             return Err(HoldFault::Full);
         }
-        let need = Some(need);
-        put(&mut self.held, self.alloc, Held { message, need })?;
-        Ok(())
+        let key = message.key();
+        let waits = Some(need);
+        self.keys.enter(&key)?;
+        match put(&mut self.held, self.alloc, message, &need) {
+            Ok(()) => {
+                self.census.add(&waits, 1);
+                Ok(())
+            }
+            Err(fault) => {
+                self.keys.leave(&key);
+                Err(fault)
+            }
+        }
     }
 
-    /// Wakes the messages that wait under the need. Takes no memory, and time in the number of held messages.
+    /// Wakes the messages that wait under the need. Takes no memory. Where no message waits for an element, or for a
+    /// front, one that came costs nothing; else it takes time in the number of held messages.
     pub fn arrived(&mut self, need: Need)
         ensures { self.new ≡ woken_by need self.old }
     {
+        let waits = Some(need);
+        if self.census.of(&waits) == 0 {
+            return;
+        }
+        let woken = count_waiting(&self.held, &need);
         wake(&mut self.held, &need);
+        self.census.sub(&waits, woken);
+        self.census.add(&None, woken);
     }
 
     /// Has the message at a place wait under a need. Takes no memory.
@@ -115,32 +146,49 @@ impl HoldBack {
         requires { i < length self.old }
         ensures { self.new ≡ waiting_at i need self.old }
     {
-        set_need(&mut self.held, i as usize, need);
+        let waits = Some(need);
+        let left = need_at(&self.held, i as usize);
+        set_need(&mut self.held, i as usize, &need);
+        self.census.sub(&left, 1);
+        self.census.add(&waits, 1);
     }
 
-    /// The least place at or above `from` whose message is woken. Takes time in the number of messages from there on.
+    /// The least place at or above `from` whose message is woken. Takes no time where none is; else time in the number of
+    /// messages from there on.
     pub fn woken(&self, from: u32) -> Option<u32>
         ensures { result ≡ woken_from from self.now }
     {
+        if self.census.of(&None) == 0 {
+            return None;
+        }
         let rest = self.held.get(from as usize..)?;
         let k = first_woken(rest)?;
         Some(from + k as u32)
     }
 
-    /// The least place at or above `from` whose message waits under the need.
+    /// The least place at or above `from` whose message waits under the need. Takes no time where none waits for an
+    /// element, or for a front; else time in the number of messages from there on.
     pub fn waiting(&self, need: Need, from: u32) -> Option<u32>
         ensures { result ≡ waiting_from need from self.now }
     {
+        let waits = Some(need);
+        if self.census.of(&waits) == 0 {
+            return None;
+        }
         let rest = self.held.get(from as usize..)?;
-        let k = first_waiting(rest, need)?;
+        let k = first_waiting(rest, &need)?;
         Some(from + k as u32)
     }
 
-    /// The place of the earliest message that is due. Only woken messages are asked about, each at most once.
+    /// The place of the earliest message that is due. Only woken messages are asked about, each at most once; where none
+    /// is woken this takes no time.
     pub fn first_due<T: Due>(&self, test: &T) -> Option<u32>
         requires { IsTrue (only_woken_due (T.is_due test.now) self.now) }
         ensures { result ≡ due_at (T.is_due test.now) self.now }
     {
+        if self.census.of(&None) == 0 {
+            return None;
+        }
         let place = first_woken_due(&self.held, test)?;
         Some(place as u32)
     }
@@ -152,14 +200,18 @@ impl HoldBack {
         ensures taken { option_map (λ h. h.message) (slice_get self.old i) ≡ Some result }
         ensures rest { self.new ≡ remove self.old i }
     {
-        take_out(&mut self.held, i as usize)
+        let held = take_out(&mut self.held, i as usize);
+        let key = held.message.key();
+        self.keys.leave(&key);
+        self.census.sub(&held.need, 1);
+        held.message
     }
 }
 
-fn find_in(held: &[Parcel], key: Key) -> Option<&Parcel>
-    ensures { option_copied result ≡ find (λ h. key_eq (key_of h.message) key) held.now }
+fn find_in<'a>(held: &'a [Parcel], key: &Key) -> Option<&'a Parcel>
+    ensures { option_copied result ≡ find (λ h. key_eq (key_of h.message) key.now) held.now }
 {
-    held.iter().find(|h| h.has_key(key))
+    held.iter().find(|h| h.has_key(*key))
 }
 
 fn wrap(alloc: Global, held: Held) -> Result<Parcel, HoldFault>
@@ -182,27 +234,40 @@ fn push(held: &mut Vec<Parcel>, parcel: Parcel) -> Result<(), HoldFault>
     }
 }
 
-fn put(held: &mut Vec<Parcel>, alloc: Global, h: Held) -> Result<(), HoldFault>
-    ensures ok { OnOk result (held.new.items ≡ held.old.items ++ h ∷ []) }
+fn put(
+    held: &mut Vec<Parcel>,
+    alloc: Global,
+    message: Message,
+    need: &Need,
+) -> Result<(), HoldFault>
+    ensures ok { OnOk result (held.new.items ≡ held.old.items ++ (record { message = message; need = Some need.now }) ∷ []) }
     ensures err { IfErr result (λ fault. (fault ≡ no_memory) × (held.new.items ≡ held.old.items)) }
 {
-    let parcel = wrap(alloc, h)?;
+    let need = Some(*need);
+    let parcel = wrap(alloc, Held { message, need })?;
     push(held, parcel)
 }
 
-fn set_need(held: &mut Vec<Parcel>, i: usize, need: Need)
-    requires { i < length held.old.items }
-    ensures { held.new.items ≡ waiting_at i need held.old.items }
+fn need_at(held: &[Parcel], i: usize) -> Option<Need>
+    requires { i < length held.now }
+    ensures { option_map (λ h. h.need) (slice_get held.now i) ≡ Some result }
 {
-    held[i].wait(need);
+    held[i].need()
 }
 
-fn take_out(held: &mut Vec<Parcel>, i: usize) -> Message
+fn set_need(held: &mut Vec<Parcel>, i: usize, need: &Need)
     requires { i < length held.old.items }
-    ensures taken { option_map (λ h. h.message) (slice_get held.old.items i) ≡ Some result }
+    ensures { held.new.items ≡ waiting_at i need.now held.old.items }
+{
+    held[i].wait(*need);
+}
+
+fn take_out(held: &mut Vec<Parcel>, i: usize) -> Held
+    requires { i < length held.old.items }
+    ensures taken { slice_get held.old.items i ≡ Some result }
     ensures rest { held.new.items ≡ remove held.old.items i }
 {
-    held.remove(i).into_message()
+    held.remove(i).into_held()
 }
 
 // Wakes those that wait under the need.
@@ -214,16 +279,23 @@ fn wake(held: &mut Vec<Parcel>, need: &Need)
     }
 }
 
+fn count_waiting(held: &[Parcel], need: &Need) -> u32
+    requires { length held.now ≤ MAX_HELD }
+    ensures { result ≡ count_by (waits_for need.now) held.now }
+{
+    held.iter().filter(|h| h.waits_for(*need)).count() as u32
+}
+
 fn first_woken(held: &[Parcel]) -> Option<usize>
     ensures { result ≡ position is_woken held.now }
 {
     held.iter().position(|h| h.is_woken())
 }
 
-fn first_waiting(held: &[Parcel], need: Need) -> Option<usize>
-    ensures { result ≡ position (waits_for need) held.now }
+fn first_waiting(held: &[Parcel], need: &Need) -> Option<usize>
+    ensures { result ≡ position (waits_for need.now) held.now }
 {
-    held.iter().position(|h| h.waits_for(need))
+    held.iter().position(|h| h.waits_for(*need))
 }
 
 // The first that is both woken and due.

@@ -1,9 +1,11 @@
 //! Messages that came before what they need.
 #![tactic(auto)]
 
+mod census;
 mod fault;
 mod held;
 mod hold;
+mod keys;
 pub mod laws;
 mod need;
 mod parcel;

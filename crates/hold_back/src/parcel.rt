@@ -38,10 +38,10 @@ impl Parcel {
         &self.inside.message
     }
 
-    pub(crate) fn into_message(self) -> Message
-        ensures { result ≡ self.message }
+    pub(crate) fn into_held(self) -> Held
+        ensures { result ≡ self }
     {
-        Box::into_inner(self.inside).message
+        Box::into_inner(self.inside)
     }
 
     // Whether its message has this key.
@@ -65,6 +65,12 @@ impl Parcel {
             Some(own) => own == need,
             None => false,
         }
+    }
+
+    pub(crate) fn need(&self) -> Option<Need>
+        ensures { result ≡ self.now.need }
+    {
+        self.inside.need
     }
 
     // Woken, if it waits for this.

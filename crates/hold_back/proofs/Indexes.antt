@@ -1,0 +1,136 @@
+-- Held messages with their keys and their census, as they change.
+use Rattle.std.proofs.Common.{◌≡◌, ℕ, ◌+◌, ◌<◌, ◌≤◌, Bool, true, false, not, cond, ◌||◌, ◌&&◌, List, [], ◌∷◌, ◌++◌, Option, None, Some, length}
+use Rattle.std.proofs.Common.{remove, refl, sym, ap, subst, ◌∙◌, arith}
+use Rattle.std.specs.Prelude.{map, slice_get, option_map}
+use Rattle.std.specs.List.{count_by, list_any}
+use Rattle.std.proofs.lemmas.List.Sums.{count_by-le-length}
+use Rattle.edit_message.specs.Message.{key_of, key_eq}
+use Rattle.edit_message.specs.declared.message.Key.{Key}
+use Rattle.hold_back.specs.declared.census.Census.{Census}
+use Rattle.hold_back.specs.declared.held.Held.{Held}
+use Rattle.hold_back.specs.declared.hold.TheConstants.{MAX_HELD}
+use Rattle.hold_back.specs.declared.keys.HeldKeys.{HeldKeys}
+use Rattle.hold_back.specs.declared.need.Need.{Need}
+use Rattle.hold_back.specs.declared.need.Need.TheVariants.{Element, Front}
+use Rattle.hold_back.specs.Hold.{find_held, waits_for, woken_by, waiting_at, keys_of}
+use Rattle.hold_back.specs.Index.{keeps_key, is_like, in_census, held_like, IsIndexed}
+use Rattle.hold_back.proofs.Holds.{IsHold-keep, IsHold-remove, IsHold-woken, IsHold-waiting, messages_woken, messages_waiting}
+use Rattle.hold_back.proofs.Indexed.{IsKeyed, none_found, keyed-push, keyed-back, keyed-remove}
+use Rattle.hold_back.proofs.Counted.{IsCounted, one_if, weight, sum_without, counted-push, counted-remove, counted-waiting, counted-woken, waits-le-like}
+
+abbrev pub Entered : Key → HeldKeys → HeldKeys → Type 0
+Entered key old new = (k : Key) → keeps_key new k ≡ (key_eq key k || keeps_key old k)
+
+abbrev pub Left : Key → HeldKeys → HeldKeys → Type 0
+Left key old new = (k : Key) → keeps_key new k ≡ (not (key_eq key k) && keeps_key old k)
+
+abbrev pub More : Option Need → ℕ → Census → Census → Type 0
+More need n old new = (other : Option Need) → in_census new other ≡ in_census old other + cond (is_like need other) n 0
+
+abbrev pub Fewer : Option Need → ℕ → Census → Census → Type 0
+Fewer need n old new = (other : Option Need) → in_census new other + cond (is_like need other) n 0 ≡ in_census old other
+
+-- ---- what changes leave
+
+pub IsIndexed-keep : (held : List Held) (h : Held) (key : Key) (old new : HeldKeys) (census more : Census) → IsIndexed held old census → find_held (key_of h.message) held ≡ None
+    → length held < MAX_HELD → key ≡ key_of h.message → Entered key old new → More h.need 1 census more → IsIndexed (held ++ h ∷ []) new more
+IsIndexed-keep held h key old new census more is none room same up counted = record {
+  hold = IsHold-keep held h is.hold none room;
+  keyed = keyed-push held h old new is.keyed (subst (λ (l : Key). Entered l old new) same up);
+  counted = counted-push held h census more is.counted counted;
+}
+
+pub IsIndexed-back : (held : List Held) (key : Key) (old mid new : HeldKeys) (census : Census) → IsIndexed held old census → find_held key held ≡ None
+    → Entered key old mid → Left key mid new → IsIndexed held new census
+IsIndexed-back held key old mid new census is none up down = record {
+  hold = is.hold;
+  keyed = keyed-back held key old mid new is.keyed none up down;
+  counted = is.counted;
+}
+
+pub IsIndexed-remove : (held : List Held) (i : ℕ) (h : Held) (key : Key) (old new : HeldKeys) (census fewer : Census) → IsIndexed held old census → slice_get held i ≡ Some h
+    → i < length held → key ≡ key_of h.message → Left key old new → Fewer h.need 1 census fewer → IsIndexed (remove held i) new fewer
+IsIndexed-remove held i h key old new census fewer is there within same down counted = record {
+  hold = IsHold-remove held i is.hold within;
+  keyed = keyed-remove held i h old new is.hold.distinct there is.keyed (subst (λ (l : Key). Left l old new) same down);
+  counted = counted-remove held i h census fewer there is.counted counted;
+}
+
+-- the keys are the same
+same_keys : (held others : List Held) (kept : HeldKeys) → keys_of others ≡ keys_of held → IsKeyed held kept → IsKeyed others kept
+same_keys held others kept same keyed k = keyed k ∙ ap (list_any (λ l. key_eq l k)) (sym same)
+
+pub IsIndexed-woken : (held : List Held) (need : Need) (woken : ℕ) (kept : HeldKeys) (old mid new : Census) → IsIndexed held kept old → woken ≡ count_by (waits_for need) held
+    → Fewer (Some need) woken old mid → More None woken mid new → IsIndexed (woken_by need held) kept new
+IsIndexed-woken held need woken kept old mid new is e down up = record {
+  hold = IsHold-woken need held is.hold;
+  keyed = same_keys held (woken_by need held) kept (ap (map key_of) (messages_woken need held)) is.keyed;
+  counted = counted-woken held need woken old mid new e is.counted down up;
+}
+
+pub IsIndexed-waiting : (held : List Held) (i : ℕ) (need : Need) (left : Option Need) (kept : HeldKeys) (old mid new : Census) → IsIndexed held kept old
+    → option_map (λ h. h.need) (slice_get held i) ≡ Some left → Fewer left 1 old mid → More (Some need) 1 mid new → IsIndexed (waiting_at i need held) kept new
+IsIndexed-waiting held i need left kept old mid new is there down up = record {
+  hold = IsHold-waiting held i need is.hold;
+  keyed = same_keys held (waiting_at i need held) kept (ap (map key_of) (messages_waiting i need held)) is.keyed;
+  counted = counted-waiting held i need left old mid new there is.counted down up;
+}
+
+-- ---- what the calls require
+
+pub nothing_found : (held seen : List Held) (kept : HeldKeys) (key : Key) (b : Bool) → IsKeyed held kept → held ≡ seen → b ≡ keeps_key kept key → b ≡ false → None ≡ find_held key seen
+nothing_found held seen kept key b keyed e same none =
+    sym (ap (find_held key) (sym e) ∙ none_found held key (sym (keyed key) ∙ sym same ∙ none))
+
+like_itself : (need : Option Need) → is_like need need ≡ true
+like_itself None = refl
+like_itself (Some (Element a)) = refl
+like_itself (Some (Front a)) = refl
+
+pub one_there : (held : List Held) (i : ℕ) (h : Held) (census : Census) → slice_get held i ≡ Some h → IsCounted held census → 1 ≤ in_census census h.need
+one_there held i h census there counted =
+    let sum = sum_without (weight h.need) held i h there in
+    let own = ap one_if (like_itself h.need) in
+    let a = counted h.need in
+    omega (arith, sum, own, a)
+
+pub one_waits : (held : List Held) (i : ℕ) (left : Option Need) (census : Census) → option_map (λ h. h.need) (slice_get held i) ≡ Some left → IsCounted held census
+    → 1 ≤ in_census census left
+one_waits held i left census there counted = by (slice_get held i) refl there
+  where
+    by : (x : Option Held) → slice_get held i ≡ x → option_map (λ h. h.need) x ≡ Some left → 1 ≤ in_census census left
+    by None e none = absurd (cc)
+    by (Some h) e some =
+        let same : h.need ≡ left = cc in
+        subst (λ (need : Option Need). 1 ≤ in_census census need) same (one_there held i h census e counted)
+
+-- a census of so many messages
+pub few : (held : List Held) (census : Census) (need : Option Need) → IsCounted held census → in_census census need ≤ length held
+few held census need counted =
+    let le = count_by-le-length (λ (h : Held). is_like h.need need) held in
+    let a = counted need in
+    omega (arith, le, a)
+
+pub woken_fits : (held given : List Held) (need : Need) (census : Census) (woken : ℕ) → IsCounted held census → given ≡ held → woken ≡ count_by (waits_for need) given
+    → woken ≤ in_census census (Some need)
+woken_fits held given need census woken counted same e =
+    let le = (waits-le-like need held).1 in
+    let a = counted (Some need) in
+    let b = ap (count_by (waits_for need)) same in
+    omega (arith, le, a, b, e)
+
+pub room_for_woken : (held given : List Held) (need : Need) (old mid : Census) (woken : ℕ) → IsCounted held old → length held ≤ MAX_HELD → given ≡ held
+    → woken ≡ count_by (waits_for need) given → Fewer (Some need) woken old mid → in_census mid None + woken ≤ MAX_HELD + MAX_HELD
+room_for_woken held given need old mid woken counted most same e down =
+    let fits = woken_fits held given need old woken counted same e in
+    let a = few held old (Some need) counted in
+    let b = few held old None counted in
+    let d = down None in
+    omega (arith, fits, a, b, d, most)
+
+pub room_for_one : (held : List Held) (need left : Option Need) (old mid : Census) → IsCounted held old → length held ≤ MAX_HELD → Fewer left 1 old mid
+    → in_census mid need + 1 ≤ MAX_HELD + 1
+room_for_one held need left old mid counted most down =
+    let a = few held old need counted in
+    let d = down need in
+    omega (arith, a, d, most)
