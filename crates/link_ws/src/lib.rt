@@ -1,0 +1,12 @@
+//! Links over WebSockets on this machine, and the door that gives them.
+//!
+//! One binary message of a socket carries one message of a link. Nothing is claimed of what the other end
+//! sends or gets: a link and a door here tell their counts alone.
+#![tactic(auto)]
+
+mod hasty;
+mod tcp_door;
+mod ws_link;
+
+pub use tcp_door::{TcpDoor, TcpLink};
+pub use ws_link::{MAX_MESSAGE, WsLink};
