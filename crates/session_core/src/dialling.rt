@@ -1,0 +1,55 @@
+//! The side that calls.
+ghost use Rattle.std.specs.Prelude.{◌≡◌, ◌+◌};
+ghost use Rattle.peer_lock.specs.Answers.{IsSame};
+ghost use Rattle.session_core.specs.Events.{dialling};
+ghost use Rattle.session_core.specs.Session.{side, Session, closed_by, faults_after_session, KnowsFull};
+
+use crate::fault::SessionFault;
+use crate::frames::send_frame;
+use crate::turns::{receive_turn, send_turn};
+use edit_frame::Frame;
+use edit_io::Link;
+use peer_lock::{Pass, SharedPeer};
+use std::alloc::Global;
+use std::sync::Wait;
+
+/// Gives a turn and takes one, in so many rounds or until an end comes, and sends an end after the last round.
+///
+/// Answers how many rounds were whole: fewer than asked exactly where an end came. Without rounds it sends an end at
+/// once. It waits and costs as [`crate::serve_link`] does.
+pub fn dial_link<L: Link, R: Wait>(
+    rt: &R,
+    alloc: Global,
+    shared: &SharedPeer,
+    pass: &mut Pass,
+    link: &mut L,
+    rounds: u32,
+    validates: bool,
+) -> Result<u32, SessionFault>
+    requires own { pass.old.table ≡ shared.now }
+    // The pass stays what it is, and where the run is full it knows so.
+    ensures same { IsSame pass.old pass.new }
+    ensures full { KnowsFull pass.new result }
+    // Closed is answered exactly where the link was found closed, and LinkFault exactly where it failed.
+    ensures closes { L.closes link.new ≡ L.closes link.old + closed_by result }
+    ensures faults { L.faults link.new ≡ faults_after_session (L.faults link.old) result }
+    // The new steps and messages are those of a session, whole or cut by the fault.
+    ensures session { Session (dialling validates rounds) (side pass.old (L.got link.old) (L.sent link.old)) (side pass.new (L.got link.new) (L.sent link.new)) result }
+{
+    let mut mark = 0;
+    for round in 0..rounds {
+        match send_turn(rt, alloc, shared, pass, link, mark) {
+            Ok(sent) => mark = sent,
+            Err(fault) => return Err(fault),
+        }
+        match receive_turn(rt, alloc, shared, pass, link, validates) {
+            Ok(true) => {}
+            Ok(false) => return Ok(round),
+            Err(fault) => return Err(fault),
+        }
+    }
+    match send_frame(alloc, link, &Frame::End) {
+        Ok(()) => Ok(rounds),
+        Err(fault) => Err(fault),
+    }
+}

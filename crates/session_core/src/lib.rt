@@ -1,0 +1,18 @@
+//! Sessions: two peers that take turns on a link.
+//!
+//! A side sends what its journal has gained since its last turn, and then a turn; and it takes what comes until
+//! the other side's turn. What a pass and a link show of a session is a row of events, of which each may come
+//! where it stands; a fault cuts the row.
+#![tactic(auto)]
+
+mod dialling;
+mod fault;
+mod frames;
+mod serving;
+mod steps;
+mod turns;
+
+pub use dialling::dial_link;
+pub use fault::SessionFault;
+pub use serving::serve_link;
+

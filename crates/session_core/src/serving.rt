@@ -1,0 +1,51 @@
+//! The side that is called.
+ghost use Rattle.std.specs.Prelude.{◌≡◌, ◌+◌};
+ghost use Rattle.peer_lock.specs.Answers.{IsSame};
+ghost use Rattle.session_core.specs.Events.{serving};
+ghost use Rattle.session_core.specs.Session.{side, Session, closed_by, faults_after_session, KnowsFull};
+
+use crate::fault::SessionFault;
+use crate::turns::{receive_turn, send_turn};
+use edit_io::Link;
+use peer_lock::{Pass, SharedPeer};
+use std::alloc::Global;
+use std::sync::Wait;
+
+/// Takes a turn and gives one, until an end comes. Answers how many turns came.
+///
+/// It waits for the other side, and for the gate of the shared peer. `validates` says whether requests are validated
+/// after each turn that came, as the administrator's peer does. Each message that comes costs the steps of its item,
+/// each turn that goes a look for each item of the journal that this call hasn't sent yet.
+pub fn serve_link<L: Link, R: Wait>(
+    rt: &R,
+    alloc: Global,
+    shared: &SharedPeer,
+    pass: &mut Pass,
+    link: &mut L,
+    validates: bool,
+) -> Result<u32, SessionFault>
+    requires own { pass.old.table ≡ shared.now }
+    // The pass stays what it is, and where the run is full it knows so.
+    ensures same { IsSame pass.old pass.new }
+    ensures full { KnowsFull pass.new result }
+    // Closed is answered exactly where the link was found closed, and LinkFault exactly where it failed.
+    ensures closes { L.closes link.new ≡ L.closes link.old + closed_by result }
+    ensures faults { L.faults link.new ≡ faults_after_session (L.faults link.old) result }
+    // The new steps and messages are those of a session, whole or cut by the fault.
+    ensures session { Session (serving validates) (side pass.old (L.got link.old) (L.sent link.old)) (side pass.new (L.got link.new) (L.sent link.new)) result }
+{
+    let mut mark = 0;
+    let mut turns = 0;
+    for _ in rt.forever() {
+        match receive_turn(rt, alloc, shared, pass, link, validates) {
+            Ok(true) => turns += 1,
+            Ok(false) => return Ok(turns),
+            Err(fault) => return Err(fault),
+        }
+        match send_turn(rt, alloc, shared, pass, link, mark) {
+            Ok(sent) => mark = sent,
+            Err(fault) => return Err(fault),
+        }
+    }
+    unreachable!()
+}
