@@ -19,7 +19,8 @@ use Rattle.peer_core.specs.Peer.{Peer, is_due}
 use Rattle.peer_core.specs.Answers.{answer_due, answer_settle, fault_in, outcome_of}
 use Rattle.step_spelling.specs.Answers.{answer_line}
 use Rattle.peer_core.specs.After.{peer_after, changed_by, let_go}
-use Rattle.feed_form.specs.Turn.{is_quiet, settle_line, SettleRun, run_first, settle_steps, all_settle_steps, answer_lines}
+use Rattle.peer_step.specs.Answers.{is_quiet}
+use Rattle.feed_form.specs.Turn.{settle_line, SettleRun, run_first, settle_steps, all_settle_steps, answer_lines}
 
 pub quiet_is : (a : Answer) → is_quiet a ≡ true → a ≡ Quiet
 quiet_is Quiet h = refl

@@ -1,21 +1,16 @@
 -- What a peer answers to the frames of a stream, and the peer after them.
-use Rattle.std.specs.Prelude.{ℕ, zero, suc, Bool, true, false, List, [], ◌∷◌, ◌++◌, None, length, flat_map, if◌then◌else◌}
+use Rattle.std.specs.Prelude.{ℕ, zero, suc, true, false, List, [], ◌∷◌, ◌++◌, None, length, flat_map, if◌then◌else◌}
 use Rattle.edit_message.specs.declared.message.Message.{Message}
 use Rattle.edit_frame.specs.declared.frame.Frame.{Frame}
 use Rattle.edit_frame.specs.declared.frame.Frame.TheVariants as frames
 use Rattle.peer_step.specs.declared.step.Step.TheVariants.{Receive, Settle}
 use Rattle.peer_step.specs.declared.answer.Answer.{Answer}
-use Rattle.peer_step.specs.declared.answer.Answer.TheVariants.{Quiet}
+use Rattle.peer_step.specs.Answers.{is_quiet}
 use Rattle.peer_core.specs.Peer.{Peer}
 use Rattle.peer_core.specs.Answers.{answer_receive, answer_settle}
 use Rattle.peer_core.specs.After.{peer_after}
 use Rattle.step_spelling.specs.Answers.{answer_line}
 use Rattle.report_text.specs.Frame.{turn_line, end_line}
-
--- no held message is due
-abbrev pub is_quiet : Answer → Bool
-is_quiet Quiet = true
-is_quiet answer = false
 
 -- the line of a settle step's answer; none where nothing is due
 abbrev pub settle_line : Answer → List ℕ

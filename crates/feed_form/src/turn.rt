@@ -1,9 +1,10 @@
 //! What a peer answers to a frame.
 ghost use Rattle.std.specs.Prelude.{◌≡◌, ◌++◌, not, None, OnOk, IfOk};
+ghost use Rattle.peer_step.specs.Answers.{is_quiet};
 ghost use Rattle.peer_core.specs.Answers.{answer_of, answer_settle};
 ghost use Rattle.peer_core.specs.After.{peer_after};
 ghost use Rattle.step_spelling.specs.Answers.{answer_line};
-ghost use Rattle.feed_form.specs.Turn.{is_quiet, settle_line, all_settle_steps, answer_lines, message_turn, frame_turn};
+ghost use Rattle.feed_form.specs.Turn.{settle_line, all_settle_steps, answer_lines, message_turn, frame_turn};
 
 use edit_frame::Frame;
 use edit_message::Message;
@@ -13,12 +14,6 @@ use peer_step::{Answer, Step};
 use report_text::{end_line, turn_line};
 use std::alloc::Global;
 use step_write::answer_line;
-
-fn is_quiet(answer: &Answer) -> bool
-    ensures { result ≡ is_quiet answer.now }
-{
-    matches!(answer, Answer::Quiet)
-}
 
 /// Makes a step, and appends the line of its answer.
 pub(crate) fn step_line(
@@ -39,7 +34,7 @@ fn put_settled(alloc: Global, answer: &Answer, out: &mut Vec<u8>) -> Result<bool
     ensures due { IfOk result (λ due. due ≡ not (is_quiet answer.now)) }
     ensures line { OnOk result (out.new.items ≡ out.old.items ++ settle_line answer.now) }
 {
-    if is_quiet(answer) {
+    if answer.is_quiet() {
         return Ok(false);
     }
     answer_line(alloc, None, answer, out)?;

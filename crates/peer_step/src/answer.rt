@@ -1,4 +1,6 @@
 //! Answers.
+ghost use Rattle.std.specs.Prelude.{◌≡◌};
+ghost use Rattle.peer_step.specs.Answers.{is_quiet};
 
 use crate::text::Text;
 use coop_request::Request;
@@ -73,4 +75,13 @@ pub enum Answer {
     Item(Option<Message>),
     /// The text.
     Shown(Text),
+}
+
+impl Answer {
+    /// Whether no held message was due.
+    pub fn is_quiet(&self) -> bool
+        ensures { result ≡ is_quiet self.now }
+    {
+        matches!(self, Answer::Quiet)
+    }
 }

@@ -4,7 +4,8 @@ use Rattle.edit_message.specs.declared.message.Message.{Message}
 use Rattle.peer_step.specs.declared.step.Step.{Step}
 use Rattle.peer_step.specs.declared.step.Step.TheVariants.{Receive, Settle, ValidateNext, Look}
 use Rattle.peer_step.specs.declared.answer.Answer.{Answer}
-use Rattle.peer_step.specs.declared.answer.Answer.TheVariants.{Quiet, Issued, Item}
+use Rattle.peer_step.specs.declared.answer.Answer.TheVariants.{Issued, Item}
+use Rattle.peer_step.specs.Answers.{is_quiet}
 use Rattle.edit_frame.specs.declared.frame.Frame.{Frame}
 use Rattle.edit_frame.specs.declared.frame.Frame.TheVariants as frames
 use Rattle.edit_frame.specs.declared.frame.FrameKind.{FrameKind}
@@ -95,11 +96,6 @@ Hears mode s (Ok frames.End) t = t ≡ in_phase Finished s
 Hears mode s (Err kind) t = t ≡ in_phase (Broken kind) s
 
 -- ---- steps
-
--- nothing was due
-abbrev pub is_quiet : Answer → Bool
-is_quiet Quiet = true
-is_quiet answer = false
 
 -- an entry was issued
 abbrev pub is_issued : Answer → Bool

@@ -2,7 +2,8 @@
 ghost use Rattle.std.specs.Prelude.{◌≡◌, ℕ, List, ◌≤◌, length, IfErr};
 ghost use Rattle.std.specs.declared.option.Option.{Option};
 ghost use Rattle.peer_lock.specs.Answers.{IsSame, WithoutGate};
-ghost use Rattle.session_core.specs.Events.{SessionState, Mode, ReceivesItem, Settles, Validates, Listens, in_phase, turn_done, is_quiet, is_issued, item_in};
+ghost use Rattle.peer_step.specs.Answers.{is_quiet};
+ghost use Rattle.session_core.specs.Events.{SessionState, Mode, ReceivesItem, Settles, Validates, Listens, in_phase, turn_done, is_issued, item_in};
 ghost use Rattle.session_core.specs.Session.{side, KnowsFull};
 ghost use Rattle.session_core.specs.Pieces.{GetsTo, MakesStep, IsStepFault, LooksAt, SettledOnce, ValidatedOnce};
 
@@ -31,12 +32,6 @@ fn make<R: Wait>(
         Err(StepFail::RunFull) => Err(SessionFault::RunFull),
         Err(StepFail::NoMemory) => Err(SessionFault::NoMemory),
     }
-}
-
-fn is_quiet(answer: &Answer) -> bool
-    ensures { result ≡ is_quiet answer.now }
-{
-    matches!(answer, Answer::Quiet)
 }
 
 fn is_issued(answer: &Answer) -> bool
@@ -89,7 +84,7 @@ fn settle_once<R: Wait>(rt: &R, shared: &SharedPeer, pass: &mut Pass) -> Result<
         → SettledOnce mode s (side pass.old got sent) (side pass.new got sent) result }
 {
     match make(rt, shared, pass, Step::Settle) {
-        Ok(answer) => Ok(is_quiet(&answer)),
+        Ok(answer) => Ok(answer.is_quiet()),
         Err(fault) => Err(fault),
     }
 }
