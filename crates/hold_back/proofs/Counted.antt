@@ -1,6 +1,6 @@
 -- The census of held messages, as these change.
-use Rattle.std.proofs.Common.{◌≡◌, ℕ, ◌+◌, zero, suc, Bool, true, false, not, cond, ◌||◌, ◌&&◌, List, [], ◌∷◌, ◌++◌, Option, None, Some, drop, length}
-use Rattle.std.proofs.Common.{remove, refl, sym, ap, subst, ◌∙◌, arith}
+use Rattle.std.proofs.Common.{◌≡◌, ℕ, ◌+◌, zero, suc, Bool, true, false, cond, ◌||◌, ◌&&◌, List, [], ◌∷◌, ◌++◌, Option, None, Some, drop}
+use Rattle.std.proofs.Common.{remove, refl, sym, ap, ◌∙◌, arith}
 use Rattle.std.specs.Prelude.{slice_set, slice_get, option_map, is_none, position}
 use Rattle.std.specs.List.{list_any, count_by, sum_by, position_from}
 use Rattle.std.proofs.lemmas.Bool.{or_parts, and_parts}

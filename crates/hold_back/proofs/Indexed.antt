@@ -1,30 +1,21 @@
 -- The keys and the census that are kept beside held messages, as these change.
-use Rattle.std.proofs.Common.{◌≡◌, ℕ, ◌+◌, ◌==◌, zero, suc, Bool, true, false, not, cond, ◌||◌, ◌&&◌, List, [], ◌∷◌, ◌++◌, Option, None, Some, BTreeSet}
+use Rattle.std.proofs.Common.{◌≡◌, ℕ, zero, suc, Bool, true, false, not, cond, ◌||◌, ◌&&◌, List, [], ◌∷◌, ◌++◌, None, Some}
 use Rattle.std.proofs.Common.{remove, refl, sym, ap, subst, ◌∙◌, arith}
-use Rattle.std.specs.Prelude.{slice_set, slice_get, find, option_map, is_none}
-use Rattle.std.specs.List.{list_any, count_by, sum_by}
-use Rattle.std.specs.Ordering.{nat_cmp}
-use Rattle.std.specs.BTreeMap.{is_at}
-use Rattle.std.specs.BTreeSet.{contains}
+use Rattle.std.specs.Prelude.{slice_get, find, option_map}
+use Rattle.std.specs.List.{list_any}
 use Rattle.std.proofs.lemmas.Bool.{or_parts}
 use Rattle.std.proofs.lemmas.Bool.Decides.{nat_tests}
 use Rattle.std.proofs.lemmas.List.Folds.{list_any-append}
-use Rattle.std.proofs.lemmas.List.Sums.{sum_by-cons, sum_by_push}
-use Rattle.element_name.specs.Name.{Name, name_eq}
-use Rattle.element_name.specs.Named.{name_cmp}
+use Rattle.element_name.specs.Name.{Name}
 use Rattle.element_name.specs.Growing.{EachFrom, EachAfter}
-use Rattle.element_name.proofs.NameOrder.{is_eq-name_cmp, name_eq-comm, same_name}
+use Rattle.element_name.proofs.NameOrder.{name_eq-comm, same_name}
 use Rattle.edit_message.specs.Message.{key_of, key_eq}
 use Rattle.edit_message.specs.declared.message.Key.{Key}
 use Rattle.edit_message.specs.declared.message.Key.TheVariants.{Coop, Admin}
-use Rattle.hold_back.specs.declared.census.Census.{Census}
 use Rattle.hold_back.specs.declared.held.Held.{Held}
 use Rattle.hold_back.specs.declared.keys.HeldKeys.{HeldKeys}
-use Rattle.hold_back.specs.declared.need.Need.{Need}
-use Rattle.hold_back.specs.declared.need.Need.TheVariants.{Element, Front}
-use Rattle.hold_back.specs.Need.{need_eq}
-use Rattle.hold_back.specs.Hold.{find_held, is_woken, waits_for, woken_if, woken_by, waiting_at, keys_of, IsNewKey}
-use Rattle.hold_back.specs.Index.{keeps_key, is_like, in_census, held_like}
+use Rattle.hold_back.specs.Hold.{find_held, keys_of, IsNewKey}
+use Rattle.hold_back.specs.Index.{keeps_key}
 use Rattle.hold_back.proofs.Holds.{new_key, new_to_more, keys_push}
 
 -- ---- keys

@@ -13,7 +13,7 @@ use Rattle.hold_back.specs.declared.keys.HeldKeys.{HeldKeys}
 use Rattle.hold_back.specs.declared.need.Need.{Need}
 use Rattle.hold_back.specs.declared.need.Need.TheVariants.{Element, Front}
 use Rattle.hold_back.specs.Hold.{find_held, waits_for, woken_by, waiting_at, keys_of}
-use Rattle.hold_back.specs.Index.{keeps_key, is_like, in_census, held_like, IsIndexed}
+use Rattle.hold_back.specs.Index.{keeps_key, is_like, in_census, IsIndexed}
 use Rattle.hold_back.proofs.Holds.{IsHold-keep, IsHold-remove, IsHold-woken, IsHold-waiting, messages_woken, messages_waiting}
 use Rattle.hold_back.proofs.Indexed.{IsKeyed, none_found, keyed-push, keyed-back, keyed-remove}
 use Rattle.hold_back.proofs.Counted.{IsCounted, one_if, weight, sum_without, counted-push, counted-remove, counted-waiting, counted-woken, waits-le-like}

@@ -1,4 +1,4 @@
-use Rattle.std.proofs.Common.{◌≡◌, ℕ, Option, Some, List, ap, sym, subst, ◌∙◌, arith}
+use Rattle.std.proofs.Common.{◌≡◌, ℕ, Option, Some, List, subst, arith}
 use Rattle.std.specs.Prelude.{slice_get, option_map}
 use Rattle.hold_back.specs.declared.held.Held.{Held}
 use Rattle.hold_back.specs.declared.need.Need.{Need}
