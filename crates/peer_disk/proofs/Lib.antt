@@ -1,0 +1,3 @@
+mod Histories
+pub mod Moments
+pub mod Tearing
