@@ -12,5 +12,5 @@ abbrev pub SilentLaw : Type 0
 SilentLaw = (bytes input : List ℕ) → IsAlone bytes (output_with bytes input)
 
 -- where reading fails, nothing is written
-abbrev pub PartLaw : Type 0
-PartLaw = (bytes written : List ℕ) → list_part bytes ≡ Some written → written ≡ []
+abbrev pub SilentFaultLaw : Type 0
+SilentFaultLaw = (bytes written : List ℕ) → list_part bytes ≡ Some written → written ≡ []
