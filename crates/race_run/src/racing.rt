@@ -26,13 +26,13 @@ fn start(alloc: Global, site: u16) -> Result<(SharedPeer, Pass, Pass, Pass), NoM
 {
     let (shared, mut passes) = SharedPeer::new(alloc, site, 3)?;
     let Some(two) = passes.pop() else {
-        return Err(NoMemory);
+        unreachable!()
     };
     let Some(one) = passes.pop() else {
-        return Err(NoMemory);
+        unreachable!()
     };
     let Some(zero) = passes.pop() else {
-        return Err(NoMemory);
+        unreachable!()
     };
     Ok((shared, zero, one, two))
 }

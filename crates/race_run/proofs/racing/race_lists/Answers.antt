@@ -1,4 +1,6 @@
+use denote.Param.Send.{sendable}
 use Rattle.std.proofs.Common.{inl, inr}
+use Rattle.race_run.proofs.Crossing.{in_races}
 use Rattle.race_run.proofs.Full.{never_full}
 use Rattle.race_run.proofs.racing.race_lists.Goals as goal
 
@@ -25,3 +27,9 @@ unreachable-requires-in-Full-two_ended g c =
     let others = c.join-zero.ensures.second in
     never_full c.args.site _ _ _ _ _ _ _ _ _ _ dealt.zero.1 dealt.one.1 dealt.two.1 zero.0 others.0.0 others.1.0
     c.join.ensures.joins c.join-2.ensures.joins c.close-peer.ensures.closes _ _ _ _ _ _ zero.1 others.0.1 others.1.1 c.requires (inr (inr c.in-Full-two_ended.is))
+
+pub join-zero-requires-send-F : goal.join-zero-requires-send-F
+join-zero-requires-send-F g c κs within = search (sendable, in_races) depth 20
+
+pub join-zero-requires-send-A : goal.join-zero-requires-send-A
+join-zero-requires-send-A g c κs within = search (sendable, in_races) depth 20

@@ -1,0 +1,91 @@
+-- What a race moves to other threads, or lends them: type by type, so that each search is short.
+use denote.Param.Send.{IsSend, IsSync, owning_send, sendable}
+use Rattle.std.proofs.Crossing.{send, sync, crosses}
+use Rattle.std.proofs.MapsCrossing as maps
+use Rattle.atomic_table.proofs.shared.Seat.TheSendSync as seat
+use Rattle.atomic_table.proofs.shared.Shared.TheSendSync as table
+use Rattle.atomic_table.proofs.send_lease.SendLease.TheSendSync as lease
+use Rattle.policy_book.specs.contracts.op.AdminOp as AdminOp
+use Rattle.policy_book.specs.contracts.op.Entry as Entry
+use Rattle.policy_book.specs.contracts.policy.Policy as Policy
+use Rattle.packed_message.specs.contracts.message.PackedMessage as PackedMessage
+use Rattle.packed_step.specs.contracts.step.PackedStep as PackedStep
+use Rattle.admin_log.specs.contracts.log.AdminLog as AdminLog
+use Rattle.request_state.specs.contracts.table.StateTable as StateTable
+use Rattle.elem_show.specs.contracts.recorded.Recorded as Recorded
+use Rattle.elem_show.specs.contracts.table.ElemTable as ElemTable
+use Rattle.tomb_seq.specs.contracts.seq.TombSeq as TombSeq
+use Rattle.hold_back.specs.contracts.hold.HoldBack as HoldBack
+use Rattle.peer_step.specs.contracts.step.Step as Step
+use Rattle.peer_core.specs.contracts.journal.Journal as Journal
+use Rattle.peer_core.specs.contracts.peer.Peer as Peer
+use Rattle.peer_lock.specs.contracts.call.Call as Call
+use Rattle.peer_lock.specs.contracts.recorder.Recorder as Recorder
+use Rattle.peer_lock.specs.contracts.pass.Pass as Pass
+use Rattle.peer_lock.specs.contracts.shared_peer.SharedPeer as SharedPeer
+
+ruleset plain = (sendable, crosses, maps.crosses)
+
+-- ---- steps
+
+pub Step-sync : IsSync Step.the_row
+Step-sync = search plain depth 100 fits 100000
+
+AdminOp-send : IsSend AdminOp.the_row
+AdminOp-send = search plain depth 100 fits 100000
+
+Entry-send : IsSend Entry.the_row
+Entry-send = search (AdminOp-send, plain) depth 100 fits 100000
+
+PackedMessage-send : IsSend PackedMessage.the_row
+PackedMessage-send = search (Entry-send, plain) depth 100 fits 100000
+
+PackedStep-send : IsSend PackedStep.the_row
+PackedStep-send = search (AdminOp-send, PackedMessage-send, plain) depth 100 fits 100000
+
+Call-send : IsSend Call.the_row
+Call-send = search (PackedStep-send, plain) depth 100 fits 100000
+
+-- ---- the peer
+
+Policy-send : IsSend Policy.the_row
+Policy-send = search plain depth 100 fits 100000
+
+AdminLog-send : IsSend AdminLog.the_row
+AdminLog-send = search (Entry-send, Policy-send, plain) depth 100 fits 100000
+
+StateTable-send : IsSend StateTable.the_row
+StateTable-send = search plain depth 100 fits 100000
+
+-- it is known to proofs alone, and owns nothing
+Recorded-send : IsSend Recorded.the_row
+Recorded-send = owning_send Recorded.the_type tt (λ d. tt) (λ k x w. tt)
+
+ElemTable-send : IsSend ElemTable.the_row
+ElemTable-send = search (Recorded-send, plain) depth 100 fits 100000
+
+TombSeq-send : IsSend TombSeq.the_row
+TombSeq-send = search plain depth 100 fits 100000
+
+HoldBack-send : IsSend HoldBack.the_row
+HoldBack-send = search (PackedMessage-send, Entry-send, plain) depth 100 fits 100000
+
+Journal-send : IsSend Journal.the_row
+Journal-send = search (AdminLog-send, StateTable-send, ElemTable-send, TombSeq-send, PackedMessage-send, plain) depth 100 fits 100000
+
+Peer-send : IsSend Peer.the_row
+Peer-send = search (Journal-send, HoldBack-send, plain) depth 100 fits 100000
+
+-- ---- what is shared
+
+Recorder-send : IsSend Recorder.the_row
+Recorder-send = search (Peer-send, Call-send, plain) depth 100 fits 100000
+
+pub Pass-send : IsSend Pass.the_row
+Pass-send = search (seat.the_send, Recorder-send, plain) depth 100 fits 100000
+
+pub SharedPeer-sync : IsSync SharedPeer.the_row
+SharedPeer-sync = search (table.the_sync, lease.the_sync, send, sync, Recorder-send, plain) depth 100 fits 100000
+
+-- what a search for a closure of a race takes
+pub ruleset in_races = (Step-sync, Pass-send, SharedPeer-sync, crosses)

@@ -1,0 +1,9 @@
+use denote.Param.Send.{sendable}
+use Rattle.race_run.proofs.Crossing.{in_races}
+use Rattle.race_run.proofs.racing.work_beside.Goals as goal
+
+pub join-requires-send-F : goal.join-requires-send-F
+join-requires-send-F g c κs within = search (sendable, in_races) depth 20
+
+pub join-requires-send-A : goal.join-requires-send-A
+join-requires-send-A g c κs within = search (sendable, in_races) depth 20
