@@ -1,6 +1,9 @@
 -- How the form that feeds a stream goes from one state to the next, and how it ends.
 use Rattle.std.proofs.Common.{◌≡◌, ℕ, ◌<◌, true, false, List, [], ◌++◌, length, Option, Ok, Err, refl, sym, ap, subst, ◌∙◌, append_assoc}
-use Rattle.std.specs.Prelude.{⊤}
+use Rattle.std.specs.Prelude.{⊤, OnOk, is_ok}
+use Rattle.std.specs.Result.{result_or}
+use Rattle.std.specs.declared.result.Result.{Result}
+use Rattle.std.proofs.lemmas.Bool.{true≢false}
 use Rattle.std.proofs.KnownBytes.{Appends-nil, Consumes-nil}
 use Rattle.line_engine.specs.declared.status.Status.{Status}
 use Rattle.line_engine.specs.declared.status.Status.TheVariants.{Done, BadInput, NoMemory, TooLong}
@@ -29,6 +32,14 @@ feeding p s = record { peer = p; splitter = s }
 -- a form is its peer and its splitter
 same_feeding : (f : Feeding) (p : Peer) (s : Splitting) → f.peer ≡ p → f.splitter ≡ s → f ≡ feeding p s
 same_feeding f p s a b = ap (λ (q : Peer). feeding q f.splitter) a ∙ ap (feeding p) b
+
+-- ---- what was written
+
+-- where a call's failure is told as another, and there is none, what its success says is so
+pub where_ok : {A E F : Type 0} {P : Type 0} (call : Result A E) (told : Result A F) (fail : F) (value : A)
+    → told ≡ result_or call (Err fail) → told ≡ Ok value → OnOk call P → P
+where_ok (Ok x) told fail value by_or was so = so
+where_ok (Err x) told fail value by_or was so = absurd (true≢false (ap is_ok (sym was ∙ by_or)))
 
 -- ---- what comes is held
 

@@ -40,10 +40,7 @@ impl Form for Feeding {
     ghost load = { λ f. f.splitter.offset + length f.splitter.rest };
 
     fn feed(&mut self, _alloc: Global, chunk: &[u8]) -> Result<(), AllocError> {
-        match self.splitter.feed(chunk) {
-            Ok(()) => Ok(()),
-            Err(NoMemory) => Err(AllocError),
-        }
+        self.splitter.feed(chunk).or(Err(AllocError))
     }
 
     fn next(&mut self, alloc: Global, out: &mut Vec<u8>) -> Result<Next, AllocError> {
@@ -52,16 +49,12 @@ impl Form for Feeding {
             Ok(None) => return Ok(Next::Waiting),
             Err(DecodeFail::NoMemory) => return Err(AllocError),
             Err(DecodeFail::Fault(fault)) => {
-                return match frame_fault_line(alloc, fault, out) {
-                    Ok(()) => Ok(Next::Bad),
-                    Err(NoMemory) => Err(AllocError),
-                };
+                frame_fault_line(alloc, fault, out).or(Err(AllocError))?;
+                return Ok(Next::Bad);
             }
         };
-        match answer_frame(alloc, &mut self.peer, frame, out) {
-            Ok(()) => Ok(Next::Answered),
-            Err(NoMemory) => Err(AllocError),
-        }
+        answer_frame(alloc, &mut self.peer, frame, out).or(Err(AllocError))?;
+        Ok(Next::Answered)
     }
 
     fn end(&mut self, alloc: Global, cut: bool, out: &mut Vec<u8>) -> Result<Status, AllocError> {
@@ -70,15 +63,11 @@ impl Form for Feeding {
             return Ok(Status::TooLong);
         }
         if let Err(fault) = self.splitter.finish() {
-            return match frame_fault_line(alloc, fault, out) {
-                Ok(()) => Ok(Status::BadInput),
-                Err(NoMemory) => Err(AllocError),
-            };
+            frame_fault_line(alloc, fault, out).or(Err(AllocError))?;
+            return Ok(Status::BadInput);
         }
-        match close(alloc, &mut self.peer, out) {
-            Ok(()) => Ok(Status::Done),
-            Err(NoMemory) => Err(AllocError),
-        }
+        close(alloc, &mut self.peer, out).or(Err(AllocError))?;
+        Ok(Status::Done)
     }
 }
 
