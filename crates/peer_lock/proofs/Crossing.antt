@@ -1,4 +1,4 @@
--- What a race moves to other threads, or lends them: type by type, so that each search is short.
+-- What goes to other threads, or is lent to them: type by type, so that each search is short.
 use denote.Param.Send.{IsSend, IsSync, owning_send, sendable}
 use Rattle.std.proofs.Crossing.{send, sync, crosses}
 use Rattle.std.proofs.MapsCrossing as maps
@@ -17,6 +17,7 @@ use Rattle.elem_show.specs.contracts.table.ElemTable as ElemTable
 use Rattle.tomb_seq.specs.contracts.seq.TombSeq as TombSeq
 use Rattle.hold_back.specs.contracts.hold.HoldBack as HoldBack
 use Rattle.peer_step.specs.contracts.step.Step as Step
+use Rattle.peer_core.specs.contracts.recorded.RecordedMessages as RecordedMessages
 use Rattle.peer_core.specs.contracts.journal.Journal as Journal
 use Rattle.peer_core.specs.contracts.peer.Peer as Peer
 use Rattle.peer_lock.specs.contracts.call.Call as Call
@@ -70,8 +71,12 @@ TombSeq-send = search plain depth 100 fits 100000
 HoldBack-send : IsSend HoldBack.the_row
 HoldBack-send = search (PackedMessage-send, Entry-send, plain) depth 100 fits 100000
 
+-- so it is with these
+RecordedMessages-send : IsSend RecordedMessages.the_row
+RecordedMessages-send = owning_send RecordedMessages.the_type tt (λ d. tt) (λ k x w. tt)
+
 Journal-send : IsSend Journal.the_row
-Journal-send = search (AdminLog-send, StateTable-send, ElemTable-send, TombSeq-send, PackedMessage-send, plain) depth 100 fits 100000
+Journal-send = search (AdminLog-send, StateTable-send, ElemTable-send, TombSeq-send, RecordedMessages-send, plain) depth 100 fits 100000
 
 Peer-send : IsSend Peer.the_row
 Peer-send = search (Journal-send, HoldBack-send, plain) depth 100 fits 100000
@@ -87,5 +92,5 @@ Pass-send = search (seat.the_send, Recorder-send, plain) depth 100 fits 100000
 pub SharedPeer-sync : IsSync SharedPeer.the_row
 SharedPeer-sync = search (table.the_sync, lease.the_sync, send, sync, Recorder-send, plain) depth 100 fits 100000
 
--- what a search for a closure of a race takes
-pub ruleset in_races = (Step-sync, Pass-send, SharedPeer-sync, crosses)
+-- what a search takes for a closure that steps on a shared peer
+pub ruleset of_shared_peers = (Step-sync, Pass-send, SharedPeer-sync, crosses)
