@@ -2,10 +2,10 @@
 use Rattle.std.proofs.Common.{◌≡◌, ℕ, inl, inr, ⊎_elim, Bool, true, false, ◌&&◌, ◌||◌, List, [], ◌∷◌, ◌++◌, None, Some, refl, sym, ap, subst, ◌∙◌, filter, map}
 use Rattle.std.specs.Prelude.{find, nat_eq, option_map, if◌then◌else◌}
 use Rattle.std.specs.declared.option.Option.{Option}
-use Rattle.std.specs.List.{list_all, AllByRecursion}
+use Rattle.std.specs.List.{AllByRecursion}
 use Rattle.std.proofs.lemmas.Bool.{and_parts, cases_Bool, or_left, or_right, eq-eqb, eqb-true}
 use Rattle.element_name.specs.Name.{Name, start, name_eq, name_lt, has_name}
-use Rattle.element_name.proofs.NameOrder.{same_name, name_eq-refl, name_eq-comm, name_lt-irrefl, name_lt-asym, name_lt-trans}
+use Rattle.element_name.proofs.NameOrder.{same_name, name_eq-refl, name_lt-irrefl, name_lt-asym, name_lt-trans}
 use Rattle.coop_request.specs.Request.{Request, user_of, element_of}
 use Rattle.coop_request.specs.History.{request_of, FollowsHistory}
 use Rattle.element_name.specs.Growing.{EachFrom}
@@ -22,9 +22,7 @@ use Rattle.request_state.specs.State.{is_tentative}
 use Rattle.request_state.specs.Table.{kept_of, is_in_order}
 use Rattle.retro_undo.proofs.Found.{IsAbove, IsAt, found_at, none_found, never_start}
 use Rattle.tomb_seq.proofs.Has.{Has}
-use Rattle.tomb_seq.specs.declared.slot.Slot.{Slot}
-use Rattle.tomb_seq.specs.Slots.{names_in, slot_by, slots_by, with_mark}
-use Rattle.peer_core.specs.Reached.{is_tentative_above, elements_above, elements_of_users, reached_elements, slots_marked}
+use Rattle.peer_core.specs.Reached.{is_tentative_above, elements_above, elements_of_users, reached_elements}
 
 -- ---- the walk
 
@@ -154,91 +152,6 @@ module _ (table : List Kept) (k : Kept) (there : Has table k) (waits : is_tentat
   has_reached Nobody h = absurd cc
   has_reached (Users users) h = of_user users h
   has_reached Everyone h = has_element (is_tentative_above None start) table k there (rw (waits, high) refl)
-
--- ---- each is the element of a request
-
-module _ (test : Name → Bool) (table : List Kept) (all : list_all (λ k. test (element_of k.request)) table ≡ true) where
-  all_of : (part : Kept → Bool) (rows : List Kept) → list_all (λ k. test (element_of k.request)) rows ≡ true → list_all test (map (λ k. element_of k.request) (filter part rows)) ≡ true
-  all_of part [] h = refl
-  all_of part (k ∷ rows) h =
-      let parts = and_parts (test (element_of k.request)) (list_all (λ (x : Kept). test (element_of x.request)) rows) h in
-      by (part k) parts.0 (all_of part rows parts.1)
-    where
-      by : (b : Bool) → test (element_of k.request) ≡ true → list_all test (map (λ x. element_of x.request) (filter part rows)) ≡ true
-          → list_all test (map (λ x. element_of x.request) (if b then k ∷ filter part rows else filter part rows)) ≡ true
-      by true one rest = rw one rest
-      by false one rest = rest
-
-  all_of_users : (users : List ℕ) → list_all test (elements_of_users users table) ≡ true
-  all_of_users [] = refl
-  all_of_users (u ∷ users) = both (elements_above (Some u) start table) (elements_of_users users table) (all_of (is_tentative_above (Some u) start) table all) (all_of_users users)
-    where
-      both : (xs ys : List Name) → list_all test xs ≡ true → list_all test ys ≡ true → list_all test (xs ++ ys) ≡ true
-      both [] ys one two = two
-      both (x ∷ xs) ys one two =
-          let parts = and_parts (test x) (list_all test xs) one in
-          rw (parts.0) (both xs ys parts.1 two)
-
-  pub all_reached : (reach : Reach) → list_all test (reached_elements reach table) ≡ true
-  all_reached Nobody = refl
-  all_reached (Users users) = all_of_users users
-  all_reached Everyone = all_of (is_tentative_above None start) table all
-
--- ---- marks
-
-pub none_marked : (test : Name → Bool) (slots : List Slot) → slots ≡ slots_marked [] test slots
-none_marked test [] = refl
-none_marked test (s ∷ slots) = ap (λ (rest : List Slot). s ∷ rest) (none_marked test slots)
-
-pub names_among : (names : List Name) (test : Name → Bool) (slots : List Slot) → names_in (slots_marked names test slots) ≡ names_in slots
-names_among names test [] = refl
-names_among names test (s ∷ slots) =
-    ap (λ (n : Name). n ∷ names_in (slots_marked names test slots)) (by (has_name names s.name)) ∙ ap (λ (ns : List Name). s.name ∷ ns) (names_among names test slots)
-  where
-    by : (b : Bool) → (if b then slot_by test s.name else s).name ≡ s.name
-    by true = refl
-    by false = refl
-
-has_push : (names : List Name) (n m : Name) → has_name (names ++ n ∷ []) m ≡ (name_eq m n || has_name names m)
-has_push [] n m = by (name_eq m n)
-  where
-    by : (b : Bool) → (b || false) ≡ (b || false)
-    by b = refl
-has_push (x ∷ names) n m = ap (λ b. name_eq m x || b) (has_push names n m) ∙ by (name_eq m x) (name_eq m n)
-  where
-    by : (a b : Bool) → (a || (b || has_name names m)) ≡ (b || (a || has_name names m))
-    by true true = refl
-    by true false = refl
-    by false b = refl
-
--- one more name, marked by itself
-pub marked_more : (names : List Name) (test : Name → Bool) (n : Name) (slots : List Slot) → with_mark (slots_marked names test slots) n (test n) ≡ slots_marked (names ++ n ∷ []) test slots
-marked_more names test n [] = refl
-marked_more names test n (s ∷ slots) =
-    ap (λ (t : Slot). t ∷ with_mark (slots_marked names test slots) n (test n))
-    (by (has_name names s.name) (name_eq n s.name) refl refl
-    (has_push names n s.name ∙ ap (λ b. b || has_name names s.name) (name_eq-comm s.name n)))
-    ∙ ap (λ (rest : List Slot). (if has_name (names ++ n ∷ []) s.name then slot_by test s.name else s) ∷ rest) (marked_more names test n slots)
-  where
-    by : (b e : Bool) → has_name names s.name ≡ b → name_eq n s.name ≡ e → has_name (names ++ n ∷ []) s.name ≡ (name_eq n s.name || has_name names s.name)
-        → (let t : Slot = if has_name names s.name then slot_by test s.name else s in if name_eq n t.name then record t { shows = test n } else t)
-        ≡ (if has_name (names ++ n ∷ []) s.name then slot_by test s.name else s)
-    by true true hb he hf = rw (hf, hb, he) (ap (λ (b : Bool). record { name = s.name; shows = b }) (ap test (same_name n s.name he)))
-    by true false hb he hf = rw (hf, hb, he) refl
-    by false true hb he hf = rw (hf, hb, he) (ap (λ (b : Bool). record { name = s.name; shows = b }) (ap test (same_name n s.name he)))
-    by false false hb he hf = rw (hf, hb, he) refl
-
--- of slots that a test marks
-pub among_by : (names : List Name) (test other : Name → Bool) (order : List Name)
-    → slots_marked names test (slots_by other order) ≡ slots_by (λ n. if has_name names n then test n else other n) order
-among_by names test other [] = refl
-among_by names test other (n ∷ order) =
-    ap (λ (s : Slot). s ∷ slots_marked names test (slots_by other order)) (by (has_name names n))
-    ∙ ap (λ (rest : List Slot). slot_by (λ m. if has_name names m then test m else other m) n ∷ rest) (among_by names test other order)
-  where
-    by : (b : Bool) → ◌≡◌ {A = Slot} (if b then slot_by test n else slot_by other n) (record { name = n; shows = if b then test n else other n })
-    by true = refl
-    by false = refl
 
 -- ---- cells
 

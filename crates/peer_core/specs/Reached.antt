@@ -1,13 +1,11 @@
--- The elements of the requests that a new version may undo, and their marks.
-use Rattle.std.specs.Prelude.{ℕ, Bool, ◌&&◌, ◌==◌, List, [], Option, None, Some, map, filter, flat_map, if◌then◌else◌}
-use Rattle.element_name.specs.Name.{Name, start, name_lt, has_name}
+-- The elements of the requests that a new version may undo.
+use Rattle.std.specs.Prelude.{ℕ, Bool, ◌&&◌, ◌==◌, List, [], Option, None, Some, map, filter, flat_map}
+use Rattle.element_name.specs.Name.{Name, start, name_lt}
 use Rattle.coop_request.specs.Request.{user_of, element_of}
 use Rattle.policy_book.specs.declared.reach.Reach.{Reach}
 use Rattle.policy_book.specs.declared.reach.Reach.TheVariants.{Nobody, Users, Everyone}
 use Rattle.request_state.specs.declared.kept.Kept.{Kept}
 use Rattle.request_state.specs.State.{is_tentative}
-use Rattle.tomb_seq.specs.declared.slot.Slot.{Slot}
-use Rattle.tomb_seq.specs.Slots.{slot_by}
 
 -- a Tentative request above a name, and of this user where one is named
 abbrev pub is_tentative_above : Option ℕ → Name → Kept → Bool
@@ -27,7 +25,3 @@ abbrev pub reached_elements : Reach → List Kept → List Name
 reached_elements Nobody table = []
 reached_elements (Users users) table = elements_of_users users table
 reached_elements Everyone table = elements_above None start table
-
--- the elements of these names marked as the test says, and the others as before
-abbrev pub slots_marked : List Name → (Name → Bool) → List Slot → List Slot
-slots_marked names test slots = map (λ s. if has_name names s.name then slot_by test s.name else s) slots

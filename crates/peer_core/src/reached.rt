@@ -1,20 +1,14 @@
-//! The elements of the requests that a new version may undo, and their marks.
+//! The elements of the requests that a new version may undo.
 ghost use Rattle.std.specs.Prelude.{◌≡◌, ◌++◌, find, option_map, IfOk, OnOk, IsTrue};
-ghost use Rattle.std.specs.List.{list_all};
-ghost use Rattle.element_name.specs.Name.{start, has_name};
+ghost use Rattle.element_name.specs.Name.{start};
 ghost use Rattle.request_state.specs.Table.{is_in_order};
-ghost use Rattle.tomb_seq.specs.Slots.{names_in};
-ghost use Rattle.peer_core.specs.Kept.{shows_by};
-ghost use Rattle.peer_core.specs.Reached.{is_tentative_above, elements_above, elements_of_users, reached_elements, slots_marked};
+ghost use Rattle.peer_core.specs.Reached.{is_tentative_above, elements_above, elements_of_users, reached_elements};
 
-use crate::join::mark;
 use coop_request::Request;
-use elem_show::ElemTable;
 use element_name::{Name, NoMemory};
 use policy_book::{Reach, UserRow};
 use request_state::StateTable;
 use std::alloc::Global;
-use tomb_seq::TombSeq;
 
 // The Tentative request with the least name above one, of a user where one is named.
 fn next(states: &StateTable, user: Option<u16>, above: Name) -> Option<Request>
@@ -72,14 +66,4 @@ pub(crate) fn reached_elements(
         Reach::Everyone => add_elements(&mut elements, states, None)?,
     }
     Ok(elements)
-}
-
-/// Marks these elements by whether their cells show.
-pub(crate) fn mark_elements(seq: &mut TombSeq, cells: &ElemTable, elements: &[Name])
-    requires { IsTrue (list_all (has_name (names_in seq.old)) elements.now) }
-    ensures { seq.new ≡ slots_marked elements.now (shows_by cells.now) seq.old }
-{
-    for element in elements {
-        mark(seq, cells, *element);
-    }
 }
