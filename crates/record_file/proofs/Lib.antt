@@ -1,0 +1,6 @@
+mod Bodies
+mod Gates
+mod Loading
+mod Pieces
+mod Readings
+mod Torn

@@ -1,0 +1,54 @@
+use Rattle.std.proofs.Common.{ℕ, List, length, sym, ◌∙◌, subst, Option, IfSome}
+use Rattle.peer_disk.specs.Disk.{LeavesOnly, Only}
+use Rattle.peer_disk.proofs.Moments.{started, goes_on}
+use Rattle.peer_disk.proofs.Tearing.{torn_same}
+use Rattle.record_file.specs.Records.{TornSince, IsNoShorter}
+use Rattle.record_file.proofs.Torn.{written_ok}
+use Rattle.record_file.proofs.Gates.{no_shorter}
+use Rattle.record_file.proofs.synced.write_synced.Goals as goal
+
+pub returns-in_err-write_at-clause-any_moment : goal.returns-in_err-write_at-clause-any_moment
+returns-in_err-write_at-clause-any_moment g c =
+    let old = c.args.disk.now in
+    let n = length c.args.bytes.now in
+    let P : List ℕ → Type 0 = TornSince (g.D.Disk.may_leave old) c.args.from n in
+    let at_start = started g.D.Disk.moment g.D.Disk.left_since old P (λ left since. (left, g.met.D.Disk.only_now old left since, torn_same c.args.from n left)) in
+    goes_on g.D.Disk.moment g.D.Disk.left_since old old c.write_at.new.self P _ at_start c.write_at.ensures.time c.write_at.ensures.crash
+
+pub returns-in_err-sync-clause-any_moment : goal.returns-in_err-sync-clause-any_moment
+returns-in_err-sync-clause-any_moment g c =
+    let old = c.args.disk.now in
+    let n = length c.args.bytes.now in
+    let P : List ℕ → Type 0 = TornSince (g.D.Disk.may_leave old) c.args.from n in
+    let at_start = started g.D.Disk.moment g.D.Disk.left_since old P (λ left since. (left, g.met.D.Disk.only_now old left since, torn_same c.args.from n left)) in
+    let wrote = goes_on g.D.Disk.moment g.D.Disk.left_since old old c.write_at.new.self P _ at_start c.write_at.ensures.time c.write_at.ensures.crash in
+    goes_on g.D.Disk.moment g.D.Disk.left_since old c.write_at.new.self c.sync.new.self P _ wrote c.sync.ensures.time (λ left now. c.write_at.ensures.crash left (c.sync.ensures.crash left now))
+
+pub returns-clause-any_moment : goal.returns-clause-any_moment
+returns-clause-any_moment g c =
+    let old = c.args.disk.now in
+    let n = length c.args.bytes.now in
+    let P : List ℕ → Type 0 = TornSince (g.D.Disk.may_leave old) c.args.from n in
+    let at_start = started g.D.Disk.moment g.D.Disk.left_since old P (λ left since. (left, g.met.D.Disk.only_now old left since, torn_same c.args.from n left)) in
+    let wrote = goes_on g.D.Disk.moment g.D.Disk.left_since old old c.write_at.new.self P _ at_start c.write_at.ensures.time c.write_at.ensures.crash in
+    goes_on g.D.Disk.moment g.D.Disk.left_since old c.write_at.new.self c.sync.new.self P _ wrote c.sync.ensures.time (λ left now. c.write_at.ensures.crash left (c.sync.ensures.crash left now))
+
+pub returns-in_err-write_at-clause-no_shorter : goal.returns-in_err-write_at-clause-no_shorter
+returns-in_err-write_at-clause-no_shorter g c =
+    no_shorter _ c.args.from c.args.bytes.now (g.D.Disk.seen c.args.disk.now) (g.D.Disk.seen c.write_at.new.self) c.requires c.write_at.ensures.written
+
+pub returns-in_err-sync-clause-no_shorter : goal.returns-in_err-sync-clause-no_shorter
+returns-in_err-sync-clause-no_shorter g c =
+    subst (λ (s : Option (List ℕ)). IsNoShorter (g.D.Disk.seen c.args.disk.now) s) (sym c.sync.ensures.seen)
+    (no_shorter _ c.args.from c.args.bytes.now (g.D.Disk.seen c.args.disk.now) (g.D.Disk.seen c.write_at.new.self) c.requires c.write_at.ensures.written)
+
+pub returns-clause-no_shorter : goal.returns-clause-no_shorter
+returns-clause-no_shorter g c =
+    subst (λ (s : Option (List ℕ)). IsNoShorter (g.D.Disk.seen c.args.disk.now) s) (sym c.sync.ensures.seen)
+    (no_shorter _ c.args.from c.args.bytes.now (g.D.Disk.seen c.args.disk.now) (g.D.Disk.seen c.write_at.new.self) c.requires c.write_at.ensures.written)
+
+pub returns-clause-written : goal.returns-clause-written
+returns-clause-written g c = c.sync.ensures.seen ∙ written_ok _ c.args.from c.args.bytes.now (g.D.Disk.seen c.args.disk.now) (g.D.Disk.seen c.write_at.new.self) c.in_ok-write_at.ensures.written
+
+pub returns-clause-durable : goal.returns-clause-durable
+returns-clause-durable g c = subst (λ (s : Option (List ℕ)). IfSome s (λ file. Only file (g.D.Disk.may_leave c.sync.new.self))) (sym c.sync.ensures.seen) c.in_ok-sync.ensures.durable
