@@ -1,0 +1,4 @@
+pub mod GrantRuns
+pub mod NextMessages
+pub mod LineLists
+pub mod GrantingAuths

@@ -1,0 +1,46 @@
+use Rattle.std.proofs.Common.{◌≡◌, ◌+◌, ◌-◌, ◌≤◌, List, ◌++◌, None, Some, sym, ap, ◌∙◌, arith}
+use Rattle.std.specs.List.{range_with_len}
+use Rattle.policy_book.specs.Policy.{Policy}
+use Rattle.audit_cert.specs.declared.grant.Grant.{Grant}
+use Rattle.audit_cert.specs.Grants.{granting_auth, granting_at, put_in_front, grants_over}
+use Rattle.audit_cert.proofs.GrantRuns.{grant, over_granted, over_denied}
+use Rattle.audit_cert.proofs.grant.grants_from.Goals as goal
+
+pub loop-version-init : goal.loop-version-init
+loop-version-init g c =
+    let f = granting_at (g.P.Places.names c.args.places.now) c.args.log.now c.args.request in
+    let a = c.args.current.from in
+    let rest = grants_over f (range_with_len (a + 1) (c.args.last + 1 - (a + 1))) in
+    record {
+      policy = c.requires.policy;
+      left = ap (λ (xs : List Grant). xs ++ put_in_front c.args.current rest) c.new-grants.ensures.items
+          ∙ ap (λ t. put_in_front (grant a t c.args.current.by) rest) (sym c.requires.one)
+          ∙ sym (over_granted f a c.args.last c.args.current.by c.requires.rising c.requires.granted);
+    }
+
+pub returns-in_default : goal.returns-in_default
+returns-in_default g c =
+    let names = g.P.Places.names c.args.places.now in
+    let q = c.args.request in
+    let f = granting_at names c.args.log.now q in
+    let v = c.loop-version.version in
+    let none : f (v + 1) ≡ None = ap (λ (p : Policy). granting_auth names p q) (sym c.in_ok-advance.ensures) ∙ sym c.granting_auth.ensures ∙ c.in_default.is in
+    let le : v + 1 ≤ c.args.last = omega arith in
+    c.in_ok-push.ensures.items
+    ∙ ap (λ (gs : List Grant). c.loop-version.grants.items ++ put_in_front c.loop-version.current gs) (sym (over_denied f (v + 1) c.args.last le none))
+    ∙ c.loop-version.invariant.left
+
+pub loop-version-preserved : goal.loop-version-preserved
+loop-version-preserved g c =
+    let names = g.P.Places.names c.args.places.now in
+    let q = c.args.request in
+    let f = granting_at names c.args.log.now q in
+    let v = c.loop-version.version in
+    let le : v + 1 ≤ c.args.last = omega arith in
+    let here : f (v + 1) ≡ Some c.in-Some.by = ap (λ (p : Policy). granting_auth names p q) (sym c.in_ok-advance.ensures) ∙ sym c.granting_auth.ensures ∙ c.in-Some.is in
+    record {
+      policy = c.in_ok-advance.ensures;
+      left = c.in_ok-go_on.ensures (grants_over f (range_with_len (v + 1 + 1) (c.args.last + 1 - (v + 1 + 1))))
+          ∙ ap (λ (gs : List Grant). c.loop-version.grants.items ++ put_in_front c.loop-version.current gs) (sym (over_granted f (v + 1) c.args.last c.in-Some.by le here))
+          ∙ c.loop-version.invariant.left;
+    }

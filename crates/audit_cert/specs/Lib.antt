@@ -1,0 +1,6 @@
+pub mod Grants
+pub mod Certificate
+pub mod Journals
+pub mod Basis
+pub mod Samples
+pub mod Laws

@@ -1,0 +1,172 @@
+//! What is kept of a journal while it is read.
+ghost use Rattle.std.specs.Prelude.{◌≡◌, ◌+◌, ◌||◌, [], ◌∷◌, ◌++◌, true, false, is_none, map, length, List, IfOk, IfErr, OnOk};
+ghost use Rattle.std.specs.BTreeSet.{btree_set_len, contains};
+ghost use Rattle.element_name.specs.Name.{Name, name_eq};
+ghost use Rattle.element_name.specs.Named.{name_cmp};
+ghost use Rattle.edit_message.specs.declared.message.Message.{Message};
+ghost use Rattle.edit_message.specs.Missing.{missing_end};
+ghost use Rattle.tomb_seq.specs.Slots.{names_in};
+ghost use Rattle.peer_core.specs.Sound.{IsWithin};
+ghost use Rattle.peer_core.specs.Kept.{names_after};
+ghost use Rattle.audit_cert.specs.Basis.{IsBasisOf, is_known, is_placeable, may_join, may_extend};
+ghost use Rattle.coop_request.specs.Request.{IsAccepted};
+ghost use Rattle.audit_cert.specs.Journals.{IsFailOf};
+
+use crate::fail::CertFail;
+use admin_log::{AdminLog, LogFault};
+use coop_request::{Edit, MAX_REQUESTS, Request};
+use edit_message::{Key, Message};
+use element_name::{Name, NoMemory, Places};
+use packed_message::PackedMessage;
+use policy_book::{AdminOp, Entry, Extent};
+use std::alloc::Global;
+use std::collections::BTreeSet;
+use tomb_seq::{SeqFault, TombSeq};
+
+/// Of a journal its log, its elements in text order, and the names of its requests.
+#[derive(Drop)]
+pub(crate) struct Basis {
+    pub(crate) log: AdminLog,
+    pub(crate) elements: TombSeq,
+    pub(crate) ids: BTreeSet<Name>,
+}
+
+// Whether the ends of the span that an operation makes are elements.
+fn has_ends(elements: &TombSeq, op: &AdminOp) -> bool
+    ensures { result ≡ is_none (missing_end (names_in elements.now) op.now) }
+{
+    match op {
+        AdminOp::AddObj(_, Extent::Span(first, last)) => {
+            elements.has(*first) && elements.has(*last)
+        }
+        _ => true,
+    }
+}
+
+// Takes an entry in that may be the next, and answers whether it was taken.
+fn take_entry(
+    log: &mut AdminLog,
+    elements: &TombSeq,
+    entry: Entry,
+) -> Result<bool, NoMemory>
+    ensures test { IfOk result (λ taken. taken ≡ may_extend log.old (names_in elements.now) entry) }
+    ensures log { IfOk result (λ taken. taken ≡ true → log.new ≡ log.old ++ entry ∷ []) }
+{
+    if !has_ends(elements, entry.op()) {
+        return Ok(false);
+    }
+    match log.push(entry) {
+        Ok(()) => Ok(true),
+        Err(LogFault::NoMemory) => Err(NoMemory),
+        Err(_) => Ok(false),
+    }
+}
+
+// Puts the element of an insert in, and answers whether it was put in, or the target of another edit is there.
+fn place(elements: &mut TombSeq, request: Request) -> Result<bool, NoMemory>
+    ensures test { IfOk result (λ placed. placed ≡ is_placeable (names_in elements.old) request.id request.edit) }
+    ensures names { IfOk result (λ placed. placed ≡ true → names_in elements.new ≡ names_after (names_in elements.old) request.id request.edit) }
+{
+    match request.edit() {
+        Edit::Insert { after, .. } => match elements.insert(request.id(), after) {
+            Ok(_) => Ok(true),
+            Err(SeqFault::NoMemory) => Err(NoMemory),
+            Err(_) => Ok(false),
+        },
+        Edit::Delete { target } => Ok(elements.has(target)),
+        Edit::Update { target, .. } => Ok(elements.has(target)),
+    }
+}
+
+// Notes a new name.
+fn note(ids: &mut BTreeSet<Name>, id: Name) -> Result<(), NoMemory>
+    requires { contains name_cmp ids.old id ≡ false }
+    ensures noted { OnOk result ((n : Name) → contains name_cmp ids.new n ≡ (name_eq id n || contains name_cmp ids.old n)) }
+    ensures count { OnOk result (btree_set_len ids.new ≡ btree_set_len ids.old + 1) }
+{
+    ids.insert(id)?;
+    Ok(())
+}
+
+// Takes a request in that may join, and answers whether it was taken.
+fn take_request(
+    front: u32,
+    elements: &mut TombSeq,
+    ids: &mut BTreeSet<Name>,
+    request: Request,
+) -> Result<bool, NoMemory>
+    requires { contains name_cmp ids.old request.id ≡ false }
+    ensures test { IfOk result (λ taken. taken ≡ may_join front (names_in elements.old) (btree_set_len ids.old) request) }
+    ensures accepted { IsAccepted request }
+    ensures names { IfOk result (λ taken. taken ≡ true → names_in elements.new ≡ names_after (names_in elements.old) request.id request.edit) }
+    ensures noted { IfOk result (λ taken. taken ≡ true → ((n : Name) → contains name_cmp ids.new n ≡ (name_eq request.id n || contains name_cmp ids.old n))) }
+    ensures count { IfOk result (λ taken. taken ≡ true → btree_set_len ids.new ≡ btree_set_len ids.old + 1) }
+{
+    if ids.len() >= MAX_REQUESTS || request.version() > front {
+        return Ok(false);
+    }
+    if !place(elements, request)? {
+        return Ok(false);
+    }
+    note(ids, request.id())?;
+    Ok(true)
+}
+
+impl Basis {
+    fn new(alloc: Global) -> Result<Basis, NoMemory>
+        ensures { IfOk result (λ b. IsBasisOf [] b.log b.elements b.ids) }
+    {
+        Ok(Basis {
+            log: AdminLog::new(alloc)?,
+            elements: TombSeq::new(alloc),
+            ids: BTreeSet::new(alloc),
+        })
+    }
+
+    // Whether a message of this key was taken in.
+    fn knows(&self, key: Key) -> bool
+        ensures { result ≡ is_known (length self.now.log) self.now.ids key }
+    {
+        match key {
+            Key::Coop(id) => self.ids.contains(&id),
+            Key::Admin(version) => version <= self.log.len(),
+        }
+    }
+
+    // Takes the next message of a journal in, and answers whether it was taken, which any is that may follow.
+    fn take(&mut self, message: &PackedMessage) -> Result<bool, NoMemory>
+        ensures taken { IfOk result (λ taken. taken ≡ true → ((J : List Message) → IsBasisOf J self.old.log self.old.elements self.old.ids → IsBasisOf (J ++ message.now ∷ []) self.new.log self.new.elements self.new.ids)) }
+        ensures refused { IfOk result (λ taken. taken ≡ false → ((J : List Message) → IsBasisOf J self.old.log self.old.elements self.old.ids → ¬ IsWithin (J ++ message.now ∷ []))) }
+    {
+        if self.knows(message.key()) {
+            return Ok(false);
+        }
+        match message.copied()? {
+            Message::Coop(request) => {
+                let front = self.log.len();
+                let joined = take_request(front, &mut self.elements, &mut self.ids, request)?;
+                Ok(joined)
+            }
+            Message::Admin(entry) => {
+                let pushed = take_entry(&mut self.log, &self.elements, entry)?;
+                Ok(pushed)
+            }
+        }
+    }
+
+    /// What is kept of these messages. Time in their number, for each that of a look-up among the elements; 36 bytes an
+    /// element, 16 a request, and what their log takes.
+    pub(crate) fn of(alloc: Global, journal: &[&PackedMessage]) -> Result<Basis, CertFail>
+        ensures ok { IfOk result (λ b. IsBasisOf (map (λ m. m.now) journal.now) b.log b.elements b.ids) }
+        ensures fail { IfErr result (IsFailOf (map (λ m. m.now) journal.now)) }
+    {
+        let mut basis = Basis::new(alloc)?;
+        for place in 0..journal.len() {
+            let taken = basis.take(journal[place])?;
+            if !taken {
+                return Err(CertFail::NotJournal(place + 1));
+            }
+        }
+        Ok(basis)
+    }
+}

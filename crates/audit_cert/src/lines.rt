@@ -1,0 +1,131 @@
+//! Writing the lines of a certificate.
+//!
+//! Where memory is wanting a part of the lines may stand in the output.
+ghost use Rattle.std.specs.Prelude.{◌≡◌, ◌≤◌, ◌++◌, ◌∷◌, true, IsTrue, map, length, codes, OnOk};
+ghost use Rattle.std.specs.List.{concat, flat_map, list_all};
+ghost use Rattle.element_name.specs.Name.{has_name};
+ghost use Rattle.coop_request.specs.Request.{element_of};
+ghost use Rattle.line_engine.specs.Output.{line_of};
+ghost use Rattle.step_spelling.specs.Values.{spaced, name_text};
+ghost use Rattle.step_spelling.specs.Answers.{state_words};
+ghost use Rattle.audit_cert.specs.Basis.{may_be_judged, message_bytes};
+ghost use Rattle.audit_cert.specs.Certificate.{counts_line, element_line, grant_line, request_lines};
+
+use crate::grant::{Grant, grants_of};
+use admin_log::AdminLog;
+use check_remote::check_remote;
+use coop_request::Request;
+use edit_message::Message;
+use element_name::{Name, NoMemory, Places};
+use packed_message::PackedMessage;
+use request_state::State;
+use step_write::{put, put_name_word, put_number_word, put_state};
+use std::alloc::Global;
+
+/// Appends the line of the counts.
+pub(crate) fn put_counts(out: &mut Vec<u8>, requests: u64, entries: u64) -> Result<(), NoMemory>
+    ensures { OnOk result (out.new.items ≡ out.old.items ++ counts_line requests entries) }
+{
+    put(out, b"certificate")?;
+    put_number_word(out, requests)?;
+    put_number_word(out, entries)?;
+    put(out, b"\n")
+}
+
+fn put_element(out: &mut Vec<u8>, name: Name) -> Result<(), NoMemory>
+    ensures { OnOk result (out.new.items ≡ out.old.items ++ element_line name) }
+{
+    put(out, b"element")?;
+    put_name_word(out, name)?;
+    put(out, b"\n")
+}
+
+/// Appends the line of each element.
+pub(crate) fn put_elements(out: &mut Vec<u8>, names: &[Name]) -> Result<(), NoMemory>
+    ensures { OnOk result (out.new.items ≡ out.old.items ++ concat (map element_line names.now)) }
+{
+    for name in names {
+        put_element(out, *name)?;
+    }
+    Ok(())
+}
+
+fn put_grant(out: &mut Vec<u8>, grant: Grant) -> Result<(), NoMemory>
+    ensures { OnOk result (out.new.items ≡ out.old.items ++ grant_line grant) }
+{
+    put(out, b"grant")?;
+    put_number_word(out, u64::from(grant.from))?;
+    put_number_word(out, u64::from(grant.to))?;
+    put(out, b" by")?;
+    put_number_word(out, u64::from(grant.by))?;
+    put(out, b"\n")
+}
+
+fn put_grants(out: &mut Vec<u8>, grants: &[Grant]) -> Result<(), NoMemory>
+    ensures { OnOk result (out.new.items ≡ out.old.items ++ concat (map grant_line grants.now)) }
+{
+    for grant in grants {
+        put_grant(out, *grant)?;
+    }
+    Ok(())
+}
+
+fn put_state_line(out: &mut Vec<u8>, name: Name, state: State) -> Result<(), NoMemory>
+    ensures { OnOk result (out.new.items ≡ out.old.items ++ line_of (spaced (codes "request" ∷ name_text name ∷ state_words state))) }
+{
+    put(out, b"request")?;
+    put_name_word(out, name)?;
+    put_state(out, state)?;
+    put(out, b"\n")
+}
+
+// Appends the lines of one request.
+fn put_request<P: Places>(
+    alloc: Global,
+    out: &mut Vec<u8>,
+    log: &AdminLog,
+    places: &P,
+    request: Request,
+) -> Result<(), NoMemory>
+    requires carried { request.version ≤ length log.now }
+    requires element { has_name (P.names places.now) (element_of request) ≡ true }
+    ensures { OnOk result (out.new.items ≡ out.old.items ++ concat (request_lines (P.names places.now) log.now request)) }
+{
+    put_state_line(out, request.id(), check_remote(log, request, places)?)?;
+    let grants = grants_of(alloc, log, request, places)?;
+    put_grants(out, &grants)
+}
+
+// Appends the lines of a message, which are those of its request, if it is one.
+fn put_message<P: Places>(
+    alloc: Global,
+    out: &mut Vec<u8>,
+    log: &AdminLog,
+    places: &P,
+    message: &PackedMessage,
+) -> Result<(), NoMemory>
+    requires { may_be_judged (P.names places.now) (length log.now) message.now ≡ true }
+    ensures { OnOk result (out.new.items ≡ out.old.items ++ message_bytes (P.names places.now) log.now message.now) }
+{
+    match message.copied()? {
+        Message::Coop(request) => put_request(alloc, out, log, places, request),
+        Message::Admin(_) => Ok(()),
+    }
+}
+
+/// Appends the lines of each request.
+pub(crate) fn put_requests<P: Places>(
+    alloc: Global,
+    out: &mut Vec<u8>,
+    log: &AdminLog,
+    places: &P,
+    journal: &[&PackedMessage],
+) -> Result<(), NoMemory>
+    requires { IsTrue (list_all (may_be_judged (P.names places.now) (length log.now)) (map (λ m. m.now) journal.now)) }
+    ensures { OnOk result (out.new.items ≡ out.old.items ++ flat_map (message_bytes (P.names places.now) log.now) (map (λ m. m.now) journal.now)) }
+{
+    for message in journal {
+        put_message(alloc, out, log, places, message)?;
+    }
+    Ok(())
+}

@@ -1,0 +1,54 @@
+//! Making certificates.
+ghost use Rattle.std.specs.Prelude.{◌≡◌, ◌++◌, map, IfOk, IfErr, OnOk, OnErr};
+ghost use Rattle.peer_core.specs.Sound.{IsWithin};
+ghost use Rattle.audit_cert.specs.Basis.{IsBasisOf};
+ghost use Rattle.audit_cert.specs.Certificate.{certificate_bytes};
+ghost use Rattle.audit_cert.specs.Journals.{IsFailOf};
+
+use crate::basis::Basis;
+use crate::fail::CertFail;
+use crate::lines::{put_counts, put_elements, put_requests};
+use element_name::NoMemory;
+use packed_message::PackedMessage;
+use std::alloc::Global;
+
+// The bytes of the certificate of a journal, of which this is kept.
+fn certificate_of(
+    alloc: Global,
+    basis: &Basis,
+    journal: &[&PackedMessage],
+) -> Result<Vec<u8>, NoMemory>
+    requires { IsBasisOf (map (λ m. m.now) journal.now) basis.now.log basis.now.elements basis.now.ids }
+    ensures { IfOk result (λ lines. lines.items ≡ certificate_bytes (map (λ m. m.now) journal.now)) }
+{
+    let mut lines = Vec::new(alloc);
+    put_counts(&mut lines, basis.ids.len() as u64, u64::from(basis.log.len()))?;
+    let names = basis.elements.names()?;
+    put_elements(&mut lines, &names)?;
+    put_requests(alloc, &mut lines, &basis.log, &basis.elements, journal)?;
+    Ok(lines)
+}
+
+/// Appends the certificate of a journal.
+///
+/// The messages are lent, so that nothing of a journal that is kept elsewhere is copied. It takes time in the number of
+/// messages, for each request also in the number of versions at which it is judged, and in the certificate's length;
+/// and memory for the elements and the log, some 60 bytes an element, and for the certificate twice.
+///
+/// Fails with the number of the first message with which they are no journal, or one above its limits, and where memory
+/// is wanting.
+pub fn certify(
+    alloc: Global,
+    journal: &[&PackedMessage],
+    out: &mut Vec<u8>,
+) -> Result<(), CertFail>
+    ensures journal { OnOk result (IsWithin (map (λ m. m.now) journal.now)) }
+    ensures certificate { OnOk result (out.new.items ≡ out.old.items ++ certificate_bytes (map (λ m. m.now) journal.now)) }
+    ensures fail { IfErr result (IsFailOf (map (λ m. m.now) journal.now)) }
+    ensures unchanged { OnErr result (out.new.items ≡ out.old.items) }
+{
+    let basis = Basis::of(alloc, journal)?;
+    let lines = certificate_of(alloc, &basis, journal)?;
+    out.extend_from_slice(&lines)?;
+    Ok(())
+}
