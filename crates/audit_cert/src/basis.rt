@@ -44,11 +44,7 @@ fn has_ends(elements: &TombSeq, op: &AdminOp) -> bool
 }
 
 // Takes an entry in that may be the next, and answers whether it was taken.
-fn take_entry(
-    log: &mut AdminLog,
-    elements: &TombSeq,
-    entry: Entry,
-) -> Result<bool, NoMemory>
+fn take_entry(log: &mut AdminLog, elements: &TombSeq, entry: Entry) -> Result<bool, NoMemory>
     ensures test { IfOk result (λ taken. taken ≡ may_extend log.old (names_in elements.now) entry) }
     ensures log { IfOk result (λ taken. taken ≡ true → log.new ≡ log.old ++ entry ∷ []) }
 {
@@ -154,8 +150,11 @@ impl Basis {
         }
     }
 
-    /// What is kept of these messages. Time in their number, for each that of a look-up among the elements; 36 bytes an
-    /// element, 16 a request, and what their log takes.
+    /// What is kept of these messages. Takes time in their number, for each also that of a look-up among the names and
+    /// one among the elements, and memory for each name, each element and the log.
+    ///
+    /// Fails with the number of the first with which they are no journal, or one above its limits, and where memory is
+    /// wanting.
     pub(crate) fn of(alloc: Global, journal: &[&PackedMessage]) -> Result<Basis, CertFail>
         ensures ok { IfOk result (λ b. IsBasisOf (map (λ m. m.now) journal.now) b.log b.elements b.ids) }
         ensures fail { IfErr result (IsFailOf (map (λ m. m.now) journal.now)) }

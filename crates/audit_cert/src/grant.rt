@@ -24,7 +24,12 @@ pub(crate) struct Grant {
 }
 
 // One more version goes to the current grant, or begins the next one.
-fn go_on(grants: &mut Vec<Grant>, current: &mut Grant, version: u32, by: u32) -> Result<(), NoMemory>
+fn go_on(
+    grants: &mut Vec<Grant>,
+    current: &mut Grant,
+    version: u32,
+    by: u32,
+) -> Result<(), NoMemory>
     ensures { OnOk result ((later : List Grant) → grants.new.items ++ put_in_front current.new later
         ≡ grants.old.items ++ put_in_front current.old (put_in_front (one_version version by) later)) }
 {
@@ -114,5 +119,13 @@ pub(crate) fn grants_of<P: Places>(
         to: first,
         by,
     };
-    grants_from(alloc, log, request, until(log, request), policy, current, places)
+    grants_from(
+        alloc,
+        log,
+        request,
+        until(log, request),
+        policy,
+        current,
+        places,
+    )
 }

@@ -19,8 +19,8 @@ use edit_message::Message;
 use element_name::{Name, NoMemory, Places};
 use packed_message::PackedMessage;
 use request_state::State;
-use step_write::{put, put_name_word, put_number_word, put_state};
 use std::alloc::Global;
+use step_write::{put, put_name_word, put_number_word, put_state};
 
 /// Appends the line of the counts.
 pub(crate) fn put_counts(out: &mut Vec<u8>, requests: u64, entries: u64) -> Result<(), NoMemory>

@@ -22,7 +22,11 @@ fn certificate_of(
     ensures { IfOk result (λ lines. lines.items ≡ certificate_bytes (map (λ m. m.now) journal.now)) }
 {
     let mut lines = Vec::new(alloc);
-    put_counts(&mut lines, basis.ids.len() as u64, u64::from(basis.log.len()))?;
+    put_counts(
+        &mut lines,
+        basis.ids.len() as u64,
+        u64::from(basis.log.len()),
+    )?;
     let names = basis.elements.names()?;
     put_elements(&mut lines, &names)?;
     put_requests(alloc, &mut lines, &basis.log, &basis.elements, journal)?;
@@ -31,17 +35,14 @@ fn certificate_of(
 
 /// Appends the certificate of a journal.
 ///
-/// The messages are lent, so that nothing of a journal that is kept elsewhere is copied. It takes time in the number of
-/// messages, for each request also in the number of versions at which it is judged, and in the certificate's length;
-/// and memory for the elements and the log, some 60 bytes an element, and for the certificate twice.
+/// The messages are lent, so that a journal that is kept elsewhere isn't copied as a whole: one entry at a time is. Takes
+/// time in the number of messages, for each request also in the number of versions at which it is judged, each of which
+/// is looked at, and in the certificate's length; and memory for the names of the requests, the elements, the log, a
+/// policy, and twice the certificate.
 ///
 /// Fails with the number of the first message with which they are no journal, or one above its limits, and where memory
 /// is wanting.
-pub fn certify(
-    alloc: Global,
-    journal: &[&PackedMessage],
-    out: &mut Vec<u8>,
-) -> Result<(), CertFail>
+pub fn certify(alloc: Global, journal: &[&PackedMessage], out: &mut Vec<u8>) -> Result<(), CertFail>
     ensures journal { OnOk result (IsWithin (map (λ m. m.now) journal.now)) }
     ensures certificate { OnOk result (out.new.items ≡ out.old.items ++ certificate_bytes (map (λ m. m.now) journal.now)) }
     ensures fail { IfErr result (IsFailOf (map (λ m. m.now) journal.now)) }
