@@ -15,4 +15,3 @@ mod turns;
 pub use dialling::dial_link;
 pub use fault::SessionFault;
 pub use serving::serve_link;
-

@@ -1,4 +1,4 @@
-use Rattle.std.proofs.Common.{◌≡◌, ℕ, ◌+◌, Bool, true, false, Ok, refl, subst, arith}
+use Rattle.std.proofs.Common.{◌≡◌, ◌+◌, Bool, true, false, Ok, refl, subst, arith}
 use Rattle.session_core.specs.Events.{Finished, in_phase, serving}
 use Rattle.session_core.specs.Session.{side, Side}
 use Rattle.session_core.specs.Pieces.{TurnIn, listening_from, looking_from}
