@@ -204,6 +204,9 @@ waits_like need h waits = by h.need refl
         own_like (Element a) (Front b) h = absurd (cc)
         own_like (Front a) (Element b) h = absurd (cc)
 
+pub none_waits : (need : Need) (held : List Held) → held_like (Some need) held ≡ 0 → list_any (waits_for need) held ≡ false
+none_waits need held none = none_counted (λ h. is_like h.need (Some need)) (waits_for need) (waits_like need) held none
+
 any-drop : (p : Held → Bool) (n : ℕ) (held : List Held) → list_any p held ≡ false → list_any p (drop n held) ≡ false
 any-drop p zero held none = none
 any-drop p (suc n) [] none = none
@@ -222,9 +225,9 @@ pub none_woken_from : (held : List Held) (from : ℕ) → held_like None held �
 none_woken_from held from none =
     no_position is_woken (drop from held) (any-drop is_woken from held (none_counted (λ h. is_like h.need None) is_woken (λ h. woken_like h.need) held none))
 
-pub none_waiting_from : (need : Need) (held : List Held) (from : ℕ) → held_like (Some need) held ≡ 0 → position (waits_for need) (drop from held) ≡ None
+pub none_waiting_from : (need : Need) (held : List Held) (from : ℕ) → list_any (waits_for need) held ≡ false → position (waits_for need) (drop from held) ≡ None
 none_waiting_from need held from none =
-    no_position (waits_for need) (drop from held) (any-drop (waits_for need) from held (none_counted (λ h. is_like h.need (Some need)) (waits_for need) (waits_like need) held none))
+    no_position (waits_for need) (drop from held) (any-drop (waits_for need) from held none)
 
 pub none_due : (due : Message → Bool) (held : List Held) → only_woken_due due held ≡ true → held_like None held ≡ 0 → due_at due held ≡ None
 none_due due held only none =
@@ -232,14 +235,11 @@ none_due due held only none =
     sym (first_woken_due_is due held only)
     ∙ no_position (λ h. is_woken h && due h.message) held (none_counted (λ h. is_like h.need None) (λ h. is_woken h && due h.message) both held none)
 
-pub none_wakes : (need : Need) (held : List Held) → held_like (Some need) held ≡ 0 → woken_by need held ≡ held
-none_wakes need held none = same held (none_counted (λ h. is_like h.need (Some need)) (waits_for need) (waits_like need) held none)
-  where
-    same : (held : List Held) → list_any (waits_for need) held ≡ false → woken_by need held ≡ held
-    same [] none = refl
-    same (h ∷ held) none =
-        let parts = or_parts (waits_for need h) (list_any (waits_for need) held) none in
-        ap (λ b. cond b (record { message = h.message; need = None }) h ∷ woken_by need held) parts.0 ∙ ap (λ hs. h ∷ hs) (same held parts.1)
+pub none_wakes : (need : Need) (held : List Held) → list_any (waits_for need) held ≡ false → woken_by need held ≡ held
+none_wakes need [] none = refl
+none_wakes need (h ∷ held) none =
+    let parts = or_parts (waits_for need h) (list_any (waits_for need) held) none in
+    ap (λ b. cond b (record { message = h.message; need = None }) h ∷ woken_by need held) parts.0 ∙ ap (λ hs. h ∷ hs) (none_wakes need held parts.1)
 
 -- as many as wait for it are among those of its kind
 sum_le : (p q : Held → Bool) → ((h : Held) → q h ≡ true → p h ≡ true) → (held : List Held) → (n : ℕ) × (count_by q held + n ≡ count_by p held)

@@ -6,6 +6,7 @@ use Rattle.std.specs.List.{count_by, list_any}
 use Rattle.std.proofs.lemmas.List.Sums.{count_by-le-length}
 use Rattle.edit_message.specs.Message.{key_of, key_eq}
 use Rattle.edit_message.specs.declared.message.Key.{Key}
+use Rattle.hold_back.specs.declared.awaited.Awaited.{Awaited}
 use Rattle.hold_back.specs.declared.census.Census.{Census}
 use Rattle.hold_back.specs.declared.held.Held.{Held}
 use Rattle.hold_back.specs.declared.hold.TheConstants.{MAX_HELD}
@@ -15,6 +16,7 @@ use Rattle.hold_back.specs.declared.need.Need.TheVariants.{Element, Front}
 use Rattle.hold_back.specs.Hold.{find_held, waits_for, woken_by, waiting_at, keys_of}
 use Rattle.hold_back.specs.Index.{keeps_key, is_like, in_census, IsIndexed}
 use Rattle.hold_back.proofs.Holds.{IsHold-keep, IsHold-remove, IsHold-woken, IsHold-waiting, messages_woken, messages_waiting}
+use Rattle.hold_back.proofs.Awaiting.{IsMore, IsLess, none_awaits-keep, none_awaits-remove, none_awaits-woken, none_awaits-waiting}
 use Rattle.hold_back.proofs.Indexed.{IsKeyed, none_found, keyed-push, keyed-back, keyed-remove}
 use Rattle.hold_back.proofs.Counted.{IsCounted, one_if, weight, sum_without, counted-push, counted-remove, counted-waiting, counted-woken, waits-le-like}
 
@@ -32,48 +34,55 @@ Fewer need n old new = (other : Option Need) → in_census new other + cond (is_
 
 -- ---- what changes leave
 
-pub IsIndexed-keep : (held : List Held) (h : Held) (key : Key) (old new : HeldKeys) (census more : Census) → IsIndexed held old census → find_held (key_of h.message) held ≡ None
-    → length held < MAX_HELD → key ≡ key_of h.message → Entered key old new → More h.need 1 census more → IsIndexed (held ++ h ∷ []) new more
-IsIndexed-keep held h key old new census more is none room same up counted = record {
+pub IsIndexed-keep : (held : List Held) (h : Held) (key : Key) (old new : HeldKeys) (census more : Census) (old_needs needs : Awaited) → IsIndexed held old census old_needs → find_held (key_of h.message) held ≡ None
+    → length held < MAX_HELD → key ≡ key_of h.message → Entered key old new → More h.need 1 census more → (need : Need) → h.need ≡ Some need → IsMore need old_needs needs
+    → IsIndexed (held ++ h ∷ []) new more needs
+IsIndexed-keep held h key old new census more old_needs needs is none room same up counted need e wants = record {
   hold = IsHold-keep held h is.hold none room;
   keyed = keyed-push held h old new is.keyed (subst (λ (l : Key). Entered l old new) same up);
   counted = counted-push held h census more is.counted counted;
+  none_awaits = none_awaits-keep held h need old_needs needs is.none_awaits e wants;
 }
 
-pub IsIndexed-back : (held : List Held) (key : Key) (old mid new : HeldKeys) (census : Census) → IsIndexed held old census → find_held key held ≡ None
-    → Entered key old mid → Left key mid new → IsIndexed held new census
-IsIndexed-back held key old mid new census is none up down = record {
+pub IsIndexed-back : (held : List Held) (key : Key) (old mid new : HeldKeys) (census : Census) (needs : Awaited) → IsIndexed held old census needs → find_held key held ≡ None
+    → Entered key old mid → Left key mid new → IsIndexed held new census needs
+IsIndexed-back held key old mid new census needs is none up down = record {
   hold = is.hold;
   keyed = keyed-back held key old mid new is.keyed none up down;
   counted = is.counted;
+  none_awaits = is.none_awaits;
 }
 
-pub IsIndexed-remove : (held : List Held) (i : ℕ) (h : Held) (key : Key) (old new : HeldKeys) (census fewer : Census) → IsIndexed held old census → slice_get held i ≡ Some h
-    → i < length held → key ≡ key_of h.message → Left key old new → Fewer h.need 1 census fewer → IsIndexed (remove held i) new fewer
-IsIndexed-remove held i h key old new census fewer is there within same down counted = record {
+pub IsIndexed-remove : (held : List Held) (i : ℕ) (h : Held) (key : Key) (old new : HeldKeys) (census fewer : Census) (needs : Awaited) → IsIndexed held old census needs → slice_get held i ≡ Some h
+    → i < length held → key ≡ key_of h.message → Left key old new → Fewer h.need 1 census fewer → IsIndexed (remove held i) new fewer needs
+IsIndexed-remove held i h key old new census fewer needs is there within same down counted = record {
   hold = IsHold-remove held i is.hold within;
   keyed = keyed-remove held i h old new is.hold.distinct there is.keyed (subst (λ (l : Key). Left l old new) same down);
   counted = counted-remove held i h census fewer there is.counted counted;
+  none_awaits = none_awaits-remove held i needs is.none_awaits;
 }
 
 -- the keys are the same
 same_keys : (held others : List Held) (kept : HeldKeys) → keys_of others ≡ keys_of held → IsKeyed held kept → IsKeyed others kept
 same_keys held others kept same keyed k = keyed k ∙ ap (list_any (λ l. key_eq l k)) (sym same)
 
-pub IsIndexed-woken : (held : List Held) (need : Need) (woken : ℕ) (kept : HeldKeys) (old mid new : Census) → IsIndexed held kept old → woken ≡ count_by (waits_for need) held
-    → Fewer (Some need) woken old mid → More None woken mid new → IsIndexed (woken_by need held) kept new
-IsIndexed-woken held need woken kept old mid new is e down up = record {
+pub IsIndexed-woken : (held : List Held) (need : Need) (woken : ℕ) (kept : HeldKeys) (old mid new : Census) (old_needs needs : Awaited) → IsIndexed held kept old old_needs → woken ≡ count_by (waits_for need) held
+    → Fewer (Some need) woken old mid → More None woken mid new → IsLess need old_needs needs → IsIndexed (woken_by need held) kept new needs
+IsIndexed-woken held need woken kept old mid new old_needs needs is e down up less = record {
   hold = IsHold-woken need held is.hold;
   keyed = same_keys held (woken_by need held) kept (ap (map key_of) (messages_woken need held)) is.keyed;
   counted = counted-woken held need woken old mid new e is.counted down up;
+  none_awaits = none_awaits-woken held need old_needs needs is.none_awaits less;
 }
 
-pub IsIndexed-waiting : (held : List Held) (i : ℕ) (need : Need) (left : Option Need) (kept : HeldKeys) (old mid new : Census) → IsIndexed held kept old
-    → option_map (λ h. h.need) (slice_get held i) ≡ Some left → Fewer left 1 old mid → More (Some need) 1 mid new → IsIndexed (waiting_at i need held) kept new
-IsIndexed-waiting held i need left kept old mid new is there down up = record {
+pub IsIndexed-waiting : (held : List Held) (i : ℕ) (need : Need) (left : Option Need) (kept : HeldKeys) (old mid new : Census) (old_needs needs : Awaited) → IsIndexed held kept old old_needs
+    → option_map (λ h. h.need) (slice_get held i) ≡ Some left → Fewer left 1 old mid → More (Some need) 1 mid new → IsMore need old_needs needs
+    → IsIndexed (waiting_at i need held) kept new needs
+IsIndexed-waiting held i need left kept old mid new old_needs needs is there down up wants = record {
   hold = IsHold-waiting held i need is.hold;
   keyed = same_keys held (waiting_at i need held) kept (ap (map key_of) (messages_waiting i need held)) is.keyed;
   counted = counted-waiting held i need left old mid new there is.counted down up;
+  none_awaits = none_awaits-waiting held i need old_needs needs is.none_awaits wants;
 }
 
 -- ---- what the calls require

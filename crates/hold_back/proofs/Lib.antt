@@ -1,4 +1,5 @@
 pub mod Holds
 pub mod Indexed
 pub mod Counted
+pub mod Awaiting
 pub mod Indexes

@@ -1,4 +1,4 @@
--- What is kept beside the held messages: their keys, and how many wait.
+-- What is kept beside the held messages: their keys, how many wait, and for what.
 use Rattle.std.specs.Prelude.{◌≡◌, ℕ, Bool, true, false, List, Option, None, Some}
 use Rattle.std.specs.List.{list_any, count_by}
 use Rattle.std.specs.BTreeSet.{contains}
@@ -11,13 +11,19 @@ use Rattle.hold_back.specs.declared.held.Held.{Held}
 use Rattle.hold_back.specs.declared.keys.HeldKeys.{HeldKeys}
 use Rattle.hold_back.specs.declared.need.Need.{Need}
 use Rattle.hold_back.specs.declared.need.Need.TheVariants.{Element, Front}
+use Rattle.hold_back.specs.declared.awaited.Awaited.{Awaited}
 use Rattle.hold_back.specs.declared.census.Census.{Census}
-use Rattle.hold_back.specs.Hold.{keys_of, IsHold}
+use Rattle.hold_back.specs.Hold.{waits_for, keys_of, IsHold}
 
 -- the key is among them: that of a request by its name, that of an entry by its version
 abbrev pub keeps_key : HeldKeys → Key → Bool
 keeps_key kept (Coop name) = contains name_cmp kept.requests name
 keeps_key kept (Admin version) = contains nat_cmp kept.entries version
+
+-- the need is among them
+abbrev pub is_awaited : Awaited → Need → Bool
+is_awaited awaited (Element name) = contains name_cmp awaited.elements name
+is_awaited awaited (Front version) = contains nat_cmp awaited.fronts version
 
 -- both are woken, wait for elements, or wait for fronts
 abbrev pub is_like : Option Need → Option Need → Bool
@@ -36,8 +42,9 @@ in_census census (Some (Front version)) = census.fronts
 abbrev pub held_like : Option Need → List Held → ℕ
 held_like need held = count_by (λ h. is_like h.need need) held
 
--- the keys are those of the messages, and the census counts the messages
-pub record IsIndexed (held : List Held) (kept : HeldKeys) (census : Census) : Type 0 where
+-- the keys are those of the messages, the census counts the messages, and what is known not to be awaited isn't
+pub record IsIndexed (held : List Held) (kept : HeldKeys) (census : Census) (awaited : Awaited) : Type 0 where
   pub hold : IsHold held
   pub keyed : (key : Key) → keeps_key kept key ≡ list_any (λ k. key_eq k key) (keys_of held)
   pub counted : (need : Option Need) → in_census census need ≡ held_like need held
+  pub none_awaits : awaited.known ≡ true → (need : Need) → is_awaited awaited need ≡ false → list_any (waits_for need) held ≡ false

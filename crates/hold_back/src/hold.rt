@@ -8,6 +8,7 @@ ghost use Rattle.element_name.specs.Growing.{EachAfter};
 ghost use Rattle.edit_message.specs.Message.{key_of, key_eq};
 ghost use Rattle.hold_back.specs.Hold.{find_held, keep_fault, woken_by, waiting_at, woken_from, waiting_from, due_at, only_woken_due, is_woken, waits_for, IsNewKey, keys_of};
 
+use crate::awaited::Awaited;
 use crate::census::Census;
 use crate::fault::HoldFault;
 use crate::held::Held;
@@ -35,14 +36,16 @@ pub trait Due {
 }
 
 /// Held messages in order of arrival, each waiting under its need, or woken. Each lies behind a pointer,
-/// so that little moves where one is taken out; it takes about 400 bytes. The keys stand in an order of their own, and
-/// those that wait and those that are woken are counted, so that no message is looked at where none can be meant.
+/// so that little moves where one is taken out; it takes about 430 bytes. The keys and what is waited for stand in orders
+/// of their own, and those that wait and those that are woken are counted, so that no message is looked at where none
+/// can be meant.
 #[derive(Drop)]
 pub struct HoldBack {
     alloc: Global,
     held: Vec<Parcel>,
     keys: HeldKeys,
     census: Census,
+    awaited: Awaited,
 }
 
 impl Model for HoldBack {
@@ -54,7 +57,7 @@ impl Model for HoldBack {
 
     ghost view = { λ h. h.held.items };
 
-    ghost invariant = { λ h. IsIndexed h.held.items h.keys h.census };
+    ghost invariant = { λ h. IsIndexed h.held.items h.keys h.census h.awaited };
 }
 
 impl HoldBack {
@@ -67,6 +70,7 @@ impl HoldBack {
             held: Vec::new(alloc),
             keys: HeldKeys::new(alloc),
             census: Census::new(),
+            awaited: Awaited::new(alloc),
         }
     }
 
@@ -117,6 +121,7 @@ impl HoldBack {
         match put(&mut self.held, self.alloc, message, &need) {
             Ok(()) => {
                 self.census.add(&waits, 1);
+                self.awaited.enter(&need);
                 Ok(())
             }
             Err(fault) => {
@@ -126,8 +131,8 @@ impl HoldBack {
         }
     }
 
-    /// Wakes the messages that wait under the need. Takes no memory. Where no message waits for an element, or for a
-    /// front, one that came costs nothing; else it takes time in the number of held messages.
+    /// Wakes the messages that wait under the need. Takes no memory. Where none waits under it this takes time logarithmic
+    /// in the number of held messages; else time in that number.
     pub fn arrived(&mut self, need: Need)
         ensures { self.new ≡ woken_by need self.old }
     {
@@ -135,13 +140,18 @@ impl HoldBack {
         if self.census.of(&waits) == 0 {
             return;
         }
+        if !self.awaited.may(&need) {
+            return;
+        }
         let woken = count_waiting(&self.held, &need);
         wake(&mut self.held, &need);
         self.census.sub(&waits, woken);
         self.census.add(&None, woken);
+        self.awaited.leave(&need);
     }
 
-    /// Has the message at a place wait under a need. Takes no memory.
+    /// Has the message at a place wait under a need. Takes time logarithmic in the number of held messages, and some 20
+    /// bytes where no other waits under the need; where memory is wanting it does without, and what arrives takes longer.
     pub fn wait_again(&mut self, i: u32, need: Need)
         requires { i < length self.old }
         ensures { self.new ≡ waiting_at i need self.old }
@@ -151,6 +161,7 @@ impl HoldBack {
         set_need(&mut self.held, i as usize, &need);
         self.census.sub(&left, 1);
         self.census.add(&waits, 1);
+        self.awaited.enter(&need);
     }
 
     /// The least place at or above `from` whose message is woken. Takes no time where none is; else time in the number of
@@ -166,13 +177,16 @@ impl HoldBack {
         Some(from + k as u32)
     }
 
-    /// The least place at or above `from` whose message waits under the need. Takes no time where none waits for an
-    /// element, or for a front; else time in the number of messages from there on.
+    /// The least place at or above `from` whose message waits under the need. Where none waits under it this takes time
+    /// logarithmic in the number of held messages; else time in the number of messages from there on.
     pub fn waiting(&self, need: Need, from: u32) -> Option<u32>
         ensures { result ≡ waiting_from need from self.now }
     {
         let waits = Some(need);
         if self.census.of(&waits) == 0 {
+            return None;
+        }
+        if !self.awaited.may(&need) {
             return None;
         }
         let rest = self.held.get(from as usize..)?;

@@ -1,6 +1,7 @@
 //! Messages that came before what they need.
 #![tactic(auto)]
 
+mod awaited;
 mod census;
 mod fault;
 mod held;

@@ -1,4 +1,4 @@
-use Rattle.std.proofs.Common.{List, ◌≡◌, ◌<◌, ◌∙◌, length, None, Some, sym, ap, subst, arith}
+use Rattle.std.proofs.Common.{List, ◌≡◌, ◌<◌, ◌∙◌, length, None, Some, refl, sym, ap, subst, arith}
 use Rattle.edit_message.specs.Message.{key_of}
 use Rattle.edit_message.specs.declared.message.Key.{Key}
 use Rattle.hold_back.specs.declared.held.Held.{Held}
@@ -19,13 +19,13 @@ invariant_of-self-in-Ok c =
     let new = subst (λ (held : List Held). find_held (key_of c.args.message) held ≡ None) (sym c.self.view_is) c.requires.new in
     let room : length held < MAX_HELD = omega arith in
     rw c.in-Ok.ensures.ok
-    (IsIndexed-keep held (record { message = c.args.message; need = Some c.args.need }) c.key-key.result c.self.inside.keys _ c.self.inside.census _ c.self.invariant new room
-    c.key-key.ensures.value c.in_ok-enter.ensures.ok c.add.ensures)
+    (IsIndexed-keep held (record { message = c.args.message; need = Some c.args.need }) c.key-key.result c.self.inside.keys _ c.self.inside.census _ c.self.inside.awaited _ c.self.invariant new room
+    c.key-key.ensures.value c.in_ok-enter.ensures.ok c.add.ensures c.args.need refl (record { known = c.enter-in-Ok.ensures.known; entered = c.enter-in-Ok.ensures.entered }))
 
 pub invariant_of-self-in-Err : goal.invariant_of-self-in-Err
 invariant_of-self-in-Err c =
     let held = c.self.inside.held.items in
     let new = subst (λ (held : List Held). find_held (key_of c.args.message) held ≡ None) (sym c.self.view_is) c.requires.new in
     rw (c.in-Err.ensures.err.1)
-    (IsIndexed-back held c.key-key.result c.self.inside.keys _ _ c.self.inside.census c.self.invariant (ap (λ (key : Key). find_held key held) c.key-key.ensures.value ∙ new)
+    (IsIndexed-back held c.key-key.result c.self.inside.keys _ _ c.self.inside.census c.self.inside.awaited c.self.invariant (ap (λ (key : Key). find_held key held) c.key-key.ensures.value ∙ new)
     c.in_ok-enter.ensures.ok c.leave.ensures)

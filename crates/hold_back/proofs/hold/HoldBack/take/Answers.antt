@@ -10,5 +10,5 @@ pub invariant_of-self : goal.invariant_of-self
 invariant_of-self c =
     let within = subst (λ (held : List Held). c.args.i < length held) (sym c.self.view_is) c.requires in
     rw c.take_out-held.ensures.rest
-    (IsIndexed-remove c.self.inside.held.items c.args.i c.take_out-held.result c.key-key.result c.self.inside.keys _ c.self.inside.census _ c.self.invariant
+    (IsIndexed-remove c.self.inside.held.items c.args.i c.take_out-held.result c.key-key.result c.self.inside.keys _ c.self.inside.census _ c.self.inside.awaited c.self.invariant
     c.take_out-held.ensures.taken within c.key-key.ensures.value c.leave.ensures c.sub.ensures)

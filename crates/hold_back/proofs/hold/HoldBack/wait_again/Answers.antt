@@ -24,4 +24,5 @@ pub invariant_of-self : goal.invariant_of-self
 invariant_of-self c =
     let there = read _ c.self.inside.held.items c.args.i c.need_at-left.result c.deref.ensures.value c.need_at-left.ensures in
     rw c.set_need.ensures
-    (IsIndexed-waiting c.self.inside.held.items c.args.i c.args.need c.need_at-left.result c.self.inside.keys c.self.inside.census _ _ c.self.invariant there c.sub.ensures c.add.ensures)
+    (IsIndexed-waiting c.self.inside.held.items c.args.i c.args.need c.need_at-left.result c.self.inside.keys c.self.inside.census _ _ c.self.inside.awaited _ c.self.invariant there c.sub.ensures c.add.ensures
+    (record { known = c.enter.ensures.known; entered = c.enter.ensures.entered }))
