@@ -7,7 +7,7 @@ use Rattle.edit_io.specs.declared.fail.Failed.{Failed}
 use Rattle.edit_io.specs.Causes.{HasCause, next_count}
 use Rattle.peer_disk.specs.declared.mem_disk.DiskWrite.{DiskWrite}
 use Rattle.peer_disk.specs.declared.mem_disk.DiskCall.TheVariants.{Wrote, Synced}
-use Rattle.peer_disk.specs.Disk.{Torn, Follows, Only, Elapses, overwritten}
+use Rattle.peer_disk.specs.Disk.{Torn, LeavesAfter, Only, Elapses, overwritten}
 use Rattle.peer_disk.specs.History.{bytes_after, bytes_after_all, leaves_after, leaves_after_all, may_leave_of, left_since_of, Medium, called}
 use Rattle.peer_disk.specs.HistoryLaws.{bytes_stay}
 
@@ -69,7 +69,7 @@ time_then m n call later =
     (subst (λ (l : List DiskCall). Elapses (length m.history) (length l) (left_since_of m.first m.history) (left_since_of m.first l) (may_leave_of m.first l)) (sym later.1) (elapses_push m.first m.history call)) in
     along n.first later.0
 
-pub wrote_follows : (m n : Medium) (w : DiskWrite) (from : ℕ) (bytes : List ℕ) → IsLater m n (Wrote w) → w.from ≡ from → w.bytes.items ≡ bytes → Follows (Torn from (length bytes)) (may_leave_of m.first m.history) (may_leave_of n.first n.history)
+pub wrote_follows : (m n : Medium) (w : DiskWrite) (from : ℕ) (bytes : List ℕ) → IsLater m n (Wrote w) → w.from ≡ from → w.bytes.items ≡ bytes → LeavesAfter (Torn from (length bytes)) (may_leave_of m.first m.history) (may_leave_of n.first n.history)
 wrote_follows m n w from bytes later from_is bytes_is left now =
     let since = leaves_then m n (Wrote w) left later now in
     (since.0, since.1, subst (λ (k : ℕ). Torn k (length bytes) since.0 left) from_is (subst (λ (b : List ℕ). Torn w.from (length b) since.0 left) bytes_is since.2))

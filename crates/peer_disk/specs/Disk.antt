@@ -37,8 +37,8 @@ pub record IsUntouched (seen_before seen_now : Option (List ℕ)) (before now : 
   pub no_fewer : (left : List ℕ) → before left → now left
 
 -- what a crash may leave now is what it might have left before, after a step
-abbrev pub Follows : (List ℕ → List ℕ → Type 0) → (List ℕ → Type 0) → (List ℕ → Type 0) → Type 0
-Follows step before now = (left : List ℕ) → now left → (old : List ℕ) × before old × step old left
+abbrev pub LeavesAfter : (List ℕ → List ℕ → Type 0) → (List ℕ → Type 0) → (List ℕ → Type 0) → Type 0
+LeavesAfter step before now = (left : List ℕ) → now left → (old : List ℕ) × before old × step old left
 
 -- a crash leaves this and nothing else
 abbrev pub Only : List ℕ → (List ℕ → Type 0) → Type 0

@@ -3,7 +3,7 @@ ghost use Rattle.std.specs.Prelude.{◌≡◌, ◌≤◌, ℕ, List, length, IfO
 ghost use Rattle.std.specs.declared.option.Option.{Option};
 ghost use Rattle.std.specs.Io.{ReadsAtMost};
 ghost use Rattle.edit_io.specs.Causes.{HasCause};
-ghost use Rattle.peer_disk.specs.Disk.{Only, Follows, Torn, Elapses, IsUntouched, GivesFrom, Writes};
+ghost use Rattle.peer_disk.specs.Disk.{Only, LeavesAfter, Torn, Elapses, IsUntouched, GivesFrom, Writes};
 
 use edit_io::Failed;
 
@@ -49,7 +49,7 @@ pub trait Disk {
     fn write_at(&mut self, from: u64, bytes: &[u8]) -> Result<(), Failed>
         requires { IfSome (seen self.old) (λ file. from ≤ length file) }
         ensures written { Writes result from bytes.now (seen self.old) (seen self.new) }
-        ensures crash { Follows (Torn from (length bytes.now)) (may_leave self.old) (may_leave self.new) }
+        ensures crash { LeavesAfter (Torn from (length bytes.now)) (may_leave self.old) (may_leave self.new) }
         ensures time { Elapses (moment self.old) (moment self.new) (left_since self.old) (left_since self.new) (may_leave self.new) }
         ensures cause { HasCause (faults self.old) (faults self.new) result };
 
