@@ -36,7 +36,7 @@ pub trait Due {
 }
 
 /// Held messages in order of arrival, each waiting under its need, or woken. Each lies behind a pointer,
-/// so that little moves where one is taken out; it takes about 430 bytes. The keys and what is waited for stand in orders
+/// so that little moves where one is taken out; it takes about 450 bytes. The keys and what is waited for stand in orders
 /// of their own, and those that wait and those that are woken are counted, so that no message is looked at where none
 /// can be meant.
 #[derive(Drop)]
