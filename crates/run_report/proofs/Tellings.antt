@@ -6,12 +6,12 @@ use Rattle.std.specs.declared.option.Option.{Option}
 use Rattle.std.specs.declared.result.Result.{Result}
 use Rattle.std.specs.Io.KnownBytes.{Appends}
 use Rattle.std.proofs.lemmas.List.{drop_all}
-use Rattle.std.proofs.KnownBytes.{Appends-nil, Appends-trans}
+use Rattle.std.proofs.KnownBytes.{Appends-trans}
 use Rattle.line_engine.specs.declared.status.Status.{Status}
-use Rattle.line_engine.specs.declared.status.Status.TheVariants.{Done, WriteFault, NoMemory}
+use Rattle.line_engine.specs.declared.status.Status.TheVariants.{Done}
 use Rattle.line_engine.specs.Status.{IsSinkFail}
 use Rattle.line_engine.specs.Output.{Output, Begins, Ends}
-use Rattle.line_engine.specs.Engine.{Says, StatusCause}
+use Rattle.line_engine.specs.Engine.{Says}
 use Rattle.peer_step.specs.declared.step.Step.{Step}
 use Rattle.peer_core.specs.Peer.{Peer, fresh_peer}
 use Rattle.peer_core.specs.After.{peer_after}
@@ -19,15 +19,11 @@ use Rattle.peer_lock.specs.declared.call.Call.{Call}
 use Rattle.peer_lock.specs.Run.{call, caller_at, StepAt, peer_after_run}
 use Rattle.report_text.specs.Closing.{closing_lines}
 use Rattle.run_report.specs.Report.{run_line, call_line, call_lines, report}
-use Rattle.run_report.specs.Telling.{Tells, TellsCause}
+use Rattle.run_report.specs.Telling.{Tells}
 
 -- a report that was begun
 abbrev whole : List ℕ → Output
 whole lines = record { written = lines; status = Done }
-
--- nothing was told
-pub told_none : (a : Option (List ℕ)) (lines : List ℕ) → (w : List ℕ) × Appends a a w × Begins w lines × IsSinkFail NoMemory
-told_none a lines = ([], Appends-nil a, (lines, refl), inr refl)
 
 -- some, and then more
 pub tells_then : {T : Type 0} (a b c : Option (List ℕ)) (xs ys : List ℕ) (r : Result T Status) → Appends a b xs → Tells b c ys r → Tells a c (xs ++ ys) r
@@ -76,29 +72,35 @@ some_call run i lt none = by (slice_get_cases run i)
     by (same, inl h) = let found : None ≡ Some h.0.caller = none ∙ ap (λ (o : Option Call). option_map (λ (d : Call). d.caller) o) h.2 in cc
     by (same, inr h) = omega (arith, h.0)
 
-module _ (a b : Option (List ℕ)) (start p : Peer) (run : List Call) (i caller : ℕ) (step : Step)
+module _ (a b : Option (List ℕ)) (start p : Peer) (run : List Call) (i caller : ℕ) (step : Step) (before out : List ℕ)
     (at : Some caller ≡ caller_at run i) (is : StepAt run i step)
-    (told : (said : List ℕ) × Appends a b said × (call_lines start run ≡ said ++ call_lines p (drop i run))) where
+    (told : (said : List ℕ) × Appends a b said × (before ++ call_lines start run ≡ (said ++ out) ++ call_lines p (drop i run))) where
   cut : drop i run ≡ call caller step ∷ drop (i + 1) run
   cut = call_from run i caller step at is
 
-  split : call_lines start run ≡ told.0 ++ (call_line p (call caller step) ++ call_lines (peer_after p step) (drop (i + 1) run))
-  split = told.2 ∙ ap (λ (l : List Call). told.0 ++ call_lines p l) cut
+  split : before ++ call_lines start run ≡ told.0 ++ ((out ++ call_line p (call caller step)) ++ call_lines (peer_after p step) (drop (i + 1) run))
+  split =
+      let line : List ℕ = call_line p (call caller step) in
+      let later : List ℕ = call_lines (peer_after p step) (drop (i + 1) run) in
+      told.2 ∙ ap (λ (l : List Call). (told.0 ++ out) ++ call_lines p l) cut
+      ∙ append_assoc told.0 out (line ++ later) ∙ ap (λ (l : List ℕ). told.0 ++ l) (sym (append_assoc out line later))
 
-  -- its line was told
-  pub one_told : (c : Option (List ℕ)) (q : Peer) → q ≡ peer_after p step → Appends b c (call_line p (call caller step))
-      → (said : List ℕ) × Appends a c said × (call_lines start run ≡ said ++ call_lines q (drop (i + 1) run))
-  one_told c q after line =
-      let lines : List ℕ = call_line p (call caller step) in
+  -- its line was gathered
+  pub one_told : (c : Option (List ℕ)) (q : Peer) (left : List ℕ) → q ≡ peer_after p step
+      → (more : List ℕ) × Appends b c more × (out ++ call_line p (call caller step) ≡ more ++ left)
+      → (said : List ℕ) × Appends a c said × (before ++ call_lines start run ≡ (said ++ left) ++ call_lines q (drop (i + 1) run))
+  one_told c q left after t =
       let later : List ℕ = call_lines (peer_after p step) (drop (i + 1) run) in (
-        told.0 ++ lines,
-        Appends-trans a b c told.0 lines told.1 line,
-        split ∙ sym (append_assoc told.0 lines later) ∙ ap (λ (r : Peer). (told.0 ++ lines) ++ call_lines r (drop (i + 1) run)) (sym after),
+        told.0 ++ t.0,
+        Appends-trans a b c told.0 t.0 told.1 t.1,
+        split ∙ ap (λ (l : List ℕ). told.0 ++ (l ++ later)) t.2
+            ∙ sym (append_assoc told.0 (t.0 ++ left) later) ∙ ap (λ (l : List ℕ). l ++ later) (sym (append_assoc told.0 t.0 left))
+            ∙ ap (λ (r : Peer). ((told.0 ++ t.0) ++ left) ++ call_lines r (drop (i + 1) run)) (sym after),
       )
 
-  -- its line wasn't, or not whole
-  pub one_short : (c : Option (List ℕ)) (status : Status) → (w : List ℕ) × Appends b c w × Begins w (call_line p (call caller step)) × IsSinkFail status
-      → (w : List ℕ) × Appends a c w × Begins w (call_lines start run) × IsSinkFail status
+  -- its line wasn't
+  pub one_short : (c : Option (List ℕ)) (status : Status) → (w : List ℕ) × Appends b c w × Begins w (out ++ call_line p (call caller step)) × IsSinkFail status
+      → (w : List ℕ) × Appends a c w × Begins w (before ++ call_lines start run) × IsSinkFail status
   one_short c status t =
       let later : List ℕ = call_lines (peer_after p step) (drop (i + 1) run) in (
         told.0 ++ t.0,
@@ -113,52 +115,42 @@ module _ (a b : Option (List ℕ)) (start p : Peer) (run : List Call) (i caller 
 
 -- ---- and to the end of them
 
-pub all_told : (a b : Option (List ℕ)) (start p : Peer) (run : List Call) (i : ℕ) → length run ≤ i
-    → (said : List ℕ) × Appends a b said × (call_lines start run ≡ said ++ call_lines p (drop i run)) → Appends a b (call_lines start run)
-all_told a b start p run i past told =
-    subst (Appends a b) (sym (told.2 ∙ ap (λ (l : List Call). told.0 ++ call_lines p l) (drop_all i run past) ∙ append-nil told.0)) told.1
+pub all_told : (a b : Option (List ℕ)) (start p : Peer) (run : List Call) (i : ℕ) (before out : List ℕ) → length run ≤ i
+    → (said : List ℕ) × Appends a b said × (before ++ call_lines start run ≡ (said ++ out) ++ call_lines p (drop i run))
+    → (said : List ℕ) × Appends a b said × (before ++ call_lines start run ≡ said ++ out)
+all_told a b start p run i before out past told =
+    (told.0, told.1, told.2 ∙ ap (λ (l : List Call). (told.0 ++ out) ++ call_lines p l) (drop_all i run past) ∙ append-nil (told.0 ++ out))
 
 pub peer_last : (p last : Peer) (run : List Call) (i : ℕ) → length run ≤ i → peer_after_run p (drop i run) ≡ last → p ≡ last
 peer_last p last run i past so_far = sym (ap (peer_after_run p) (drop_all i run past)) ∙ so_far
 
 -- ---- the parts of a report, one after the other
 
-pub after_first : (a b c : Option (List ℕ)) (xs ys zs : List ℕ) (status : Status) → Appends a b xs
-    → (w : List ℕ) × Appends b c w × Begins w ys × IsSinkFail status → (w : List ℕ) × Appends a c w × Begins w (xs ++ (ys ++ zs)) × IsSinkFail status
-after_first a b c xs ys zs status first t =
-    let more = tells_short b c ys zs status t in (
-      xs ++ more.0,
-      Appends-trans a b c xs more.0 first more.1,
-      (more.2.0, ap (λ (l : List ℕ). xs ++ l) more.2.1 ∙ sym (append_assoc xs more.0 more.2.0)),
-      more.3,
-    )
-
-pub all_three : {T : Type 0} (a b c d : Option (List ℕ)) (xs ys zs : List ℕ) (r : Result T Status) → Appends a b xs → Appends b c ys → Tells c d zs r → Tells a d (xs ++ (ys ++ zs)) r
-all_three a b c d xs ys zs r first second third = tells_then a b d xs (ys ++ zs) r first (tells_then b c d ys zs r second third)
+-- what an empty buffer has once a line was appended
+pub only_line : (old out line : List ℕ) → old ≡ [] → out ≡ old ++ line → out ≡ line
+only_line old out line none grown = grown ∙ ap (λ (l : List ℕ). l ++ line) none
 
 -- the parts of a report, by what they are told of
-module _ (site n : ℕ) (run : List Call) (p : Peer) (size : n ≡ length run) (fresh : p ≡ fresh_peer site) where
-  whole_report : (q : Peer) → q ≡ peer_after_run p run → run_line n ++ (call_lines p run ++ closing_lines q) ≡ report site run
+module _ (site n : ℕ) (run : List Call) (p : Peer) (head : List ℕ) (first : head ≡ run_line n) (size : n ≡ length run) (fresh : p ≡ fresh_peer site) where
+  whole_report : (q : Peer) → q ≡ peer_after_run p run → (head ++ call_lines p run) ++ closing_lines q ≡ report site run
   whole_report q last =
-      ap (λ (m : ℕ). run_line m ++ (call_lines p run ++ closing_lines q)) size
+      append_assoc head (call_lines p run) (closing_lines q)
+      ∙ ap (λ (l : List ℕ). l ++ (call_lines p run ++ closing_lines q)) first
+      ∙ ap (λ (m : ℕ). run_line m ++ (call_lines p run ++ closing_lines q)) size
       ∙ ap (λ (x : Peer). run_line (length run) ++ (call_lines p run ++ closing_lines x)) last
       ∙ ap (λ (x : Peer). run_line (length run) ++ (call_lines x run ++ closing_lines (peer_after_run x run))) fresh
 
-  pub run_short : (a b : Option (List ℕ)) (status : Status) → (w : List ℕ) × Appends a b w × Begins w (run_line n) × IsSinkFail status
+  pub calls_short : (a b : Option (List ℕ)) (status : Status) → (w : List ℕ) × Appends a b w × Begins w (head ++ call_lines p run) × IsSinkFail status
       → (w : List ℕ) × Appends a b w × Begins w (report site run) × IsSinkFail status
-  run_short a b status t =
+  calls_short a b status t =
       let last : Peer = peer_after_run p run in
       subst (λ (l : List ℕ). (w : List ℕ) × Appends a b w × Begins w l × IsSinkFail status) (whole_report last refl)
-      (tells_short a b (run_line n) (call_lines p run ++ closing_lines last) status t)
+      (tells_short a b (head ++ call_lines p run) (closing_lines last) status t)
 
-  pub calls_short : (a b c : Option (List ℕ)) (status : Status) → Appends a b (run_line n) → (w : List ℕ) × Appends b c w × Begins w (call_lines p run) × IsSinkFail status
-      → (w : List ℕ) × Appends a c w × Begins w (report site run) × IsSinkFail status
-  calls_short a b c status first t =
-      let last : Peer = peer_after_run p run in
-      subst (λ (l : List ℕ). (w : List ℕ) × Appends a c w × Begins w l × IsSinkFail status) (whole_report last refl)
-      (after_first a b c (run_line n) (call_lines p run) (closing_lines last) status first t)
-
-  pub all_parts : {T : Type 0} (a b c d : Option (List ℕ)) (q : Peer) (r : Result T Status) → q ≡ peer_after_run p run
-      → Appends a b (run_line n) → Appends b c (call_lines p run) → Tells c d (closing_lines q) r → Tells a d (report site run) r
-  all_parts a b c d q r last first second third =
-      subst (λ (l : List ℕ). Tells a d l r) (whole_report q last) (all_three a b c d (run_line n) (call_lines p run) (closing_lines q) r first second third)
+  pub all_parts : {T : Type 0} (a b c : Option (List ℕ)) (q : Peer) (out : List ℕ) (r : Result T Status) → q ≡ peer_after_run p run
+      → (said : List ℕ) × Appends a b said × (head ++ call_lines p run ≡ said ++ out) → Tells b c (out ++ closing_lines q) r → Tells a c (report site run) r
+  all_parts a b c q out r last t next =
+      let closing : List ℕ = closing_lines q in
+      let whole : t.0 ++ (out ++ closing) ≡ report site run
+      = sym (append_assoc t.0 out closing) ∙ ap (λ (l : List ℕ). l ++ closing) (sym t.2) ∙ whole_report q last in
+      subst (λ (l : List ℕ). Tells a c l r) whole (tells_then a b c t.0 (out ++ closing) r t.1 next)

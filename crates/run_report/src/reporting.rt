@@ -1,11 +1,11 @@
 //! Writing the report of a run.
-ghost use Rattle.std.specs.Prelude.{◌≡◌, [], ℕ, List, length, OnOk};
+ghost use Rattle.std.specs.Prelude.{◌≡◌, [], ◌++◌, ℕ, List, OnOk};
 ghost use Rattle.line_engine.specs.Engine.{StatusCause, Says};
 ghost use Rattle.peer_core.specs.After.{peer_after};
 ghost use Rattle.peer_lock.specs.Run.{call, peer_after_run};
 ghost use Rattle.report_text.specs.Closing.{closing_lines};
-ghost use Rattle.run_report.specs.Report.{run_line, call_line, call_lines, report, report_output};
-ghost use Rattle.run_report.specs.Telling.{Tells, TellsCause};
+ghost use Rattle.run_report.specs.Report.{call_line, call_lines, report, report_output};
+ghost use Rattle.run_report.specs.Telling.{Gathers, Tells, TellsCause};
 
 use crate::lines::{put_call, put_closing, put_run};
 use edit_io::Sink;
@@ -14,6 +14,9 @@ use packed_step::PackedStep;
 use peer_core::Peer;
 use peer_lock::History;
 use std::alloc::Global;
+
+// How many bytes of lines are gathered before they are offered to the sink.
+const BATCH_BYTES: usize = 65_536;
 
 // Offers lines to the sink, and empties the buffer.
 fn tell<K: Sink>(lines: &mut Vec<u8>, sink: &mut K) -> Result<(), Status>
@@ -29,20 +32,18 @@ fn tell<K: Sink>(lines: &mut Vec<u8>, sink: &mut K) -> Result<(), Status>
     }
 }
 
-// Tells how many steps there are.
-fn tell_run<K: Sink>(steps: u64, out: &mut Vec<u8>, sink: &mut K) -> Result<(), Status>
-    requires { out.old.items ≡ [] }
-    ensures tells { Tells (K.written sink.old) (K.written sink.new) (run_line steps) result }
-    ensures empty { OnOk result (out.new.items ≡ []) }
+// Offers the lines that were gathered once they are many.
+fn tell_many<K: Sink>(lines: &mut Vec<u8>, sink: &mut K) -> Result<(), Status>
+    ensures gathers { Gathers (K.written sink.old) (K.written sink.new) lines.old.items lines.new.items result }
     ensures cause { TellsCause (K.faults sink.old) (K.faults sink.new) result }
 {
-    if let Err(_) = put_run(steps, out) {
-        return Err(Status::NoMemory);
+    if lines.len() < BATCH_BYTES {
+        return Ok(());
     }
-    tell(out, sink)
+    tell(lines, sink)
 }
 
-// Makes a step, and tells it with its answer.
+// Makes a step, and gathers its line.
 fn tell_call<K: Sink>(
     alloc: Global,
     peer: &mut Peer,
@@ -51,10 +52,8 @@ fn tell_call<K: Sink>(
     out: &mut Vec<u8>,
     sink: &mut K,
 ) -> Result<(), Status>
-    requires { out.old.items ≡ [] }
-    ensures tells { Tells (K.written sink.old) (K.written sink.new) (call_line peer.old (call caller step.now)) result }
+    ensures gathers { Gathers (K.written sink.old) (K.written sink.new) (out.old.items ++ call_line peer.old (call caller step.now)) out.new.items result }
     ensures peer { OnOk result (peer.new ≡ peer_after peer.old step.now) }
-    ensures empty { OnOk result (out.new.items ≡ []) }
     ensures cause { TellsCause (K.faults sink.old) (K.faults sink.new) result }
 {
     let Ok(step) = step.copied() else {
@@ -63,10 +62,10 @@ fn tell_call<K: Sink>(
     if let Err(_) = put_call(alloc, peer, caller, step, out) {
         return Err(Status::NoMemory);
     }
-    tell(out, sink)
+    tell_many(out, sink)
 }
 
-// Makes the steps of a run, and tells each with its answer.
+// Makes the steps of a run, and gathers their lines.
 fn tell_calls<K: Sink>(
     alloc: Global,
     peer: &mut Peer,
@@ -74,10 +73,8 @@ fn tell_calls<K: Sink>(
     out: &mut Vec<u8>,
     sink: &mut K,
 ) -> Result<(), Status>
-    requires { out.old.items ≡ [] }
-    ensures tells { Tells (K.written sink.old) (K.written sink.new) (call_lines peer.old history.now) result }
+    ensures gathers { Gathers (K.written sink.old) (K.written sink.new) (out.old.items ++ call_lines peer.old history.now) out.new.items result }
     ensures peer { OnOk result (peer.new ≡ peer_after_run peer.old history.now) }
-    ensures empty { OnOk result (out.new.items ≡ []) }
     ensures cause { TellsCause (K.faults sink.old) (K.faults sink.new) result }
 {
     for i in 0..history.len() {
@@ -92,15 +89,14 @@ fn tell_calls<K: Sink>(
     Ok(())
 }
 
-// Tells the text, and what is held.
+// Tells the lines that were gathered, the text, and what is held.
 fn tell_closing<K: Sink>(
     alloc: Global,
     peer: &mut Peer,
     out: &mut Vec<u8>,
     sink: &mut K,
 ) -> Result<(), Status>
-    requires { out.old.items ≡ [] }
-    ensures tells { Tells (K.written sink.old) (K.written sink.new) (closing_lines peer.old) result }
+    ensures tells { Tells (K.written sink.old) (K.written sink.new) (out.old.items ++ closing_lines peer.old) result }
     ensures cause { TellsCause (K.faults sink.old) (K.faults sink.new) result }
 {
     if let Err(_) = put_closing(alloc, peer, out) {
@@ -123,7 +119,9 @@ fn tell_all<K: Sink>(
         return Err(Status::NoMemory);
     };
     let mut out = Vec::new(alloc);
-    tell_run(history.len(), &mut out, sink)?;
+    if let Err(_) = put_run(history.len(), &mut out) {
+        return Err(Status::NoMemory);
+    }
     tell_calls(alloc, &mut peer, history, &mut out, sink)?;
     tell_closing(alloc, &mut peer, &mut out, sink)
 }
@@ -132,7 +130,7 @@ fn tell_all<K: Sink>(
 /// then the text, and what is held.
 ///
 /// The steps are made once more on a fresh peer of the site, so it takes the time of the peer's steps, and the memory
-/// of that peer, a step and a line. Each line is offered to the sink whole.
+/// of that peer, a step, a line and 64 KiB of lines. Whole lines are offered to the sink, many at once.
 pub fn report<K: Sink>(alloc: Global, site: u16, history: &History, sink: &mut K) -> Status
     ensures says { (written : List ℕ) × Says (K.written sink.old) (K.written sink.new) result (report_output site history.now) written }
     ensures cause { StatusCause (K.faults sink.old) (K.faults sink.new) result Status.WriteFault }
