@@ -1,0 +1,22 @@
+use Rattle.std.proofs.Common.{◌≡◌, ◌+◌, ◌++◌, List, length, vec_capacity}
+use Rattle.std.specs.VecDeque.{deque_len}
+use Rattle.edit_io.specs.Link.{with_last}
+use Rattle.serve_core.specs.declared.job.Job.{Job}
+use Rattle.serve_core.specs.Gathered.{JoinsAll}
+use Rattle.serve_core.specs.Jobs.{passes_of, links_of, outcomes_of}
+use Rattle.serve_core.proofs.ending.finish_jobs.Given as goal
+
+abbrev pub invariant-loop-job : goal.invariant-loop-job
+invariant-loop-job g l =
+    (done : List (Job _))
+    × (l.fn.jobs.items ≡ done ++ l.left.items)
+    × JoinsAll l.fn.pass (passes_of done) l.pass
+    × (g.D.Door.used l.door ≡ with_last (g.D.Door.used l.fn.door) (links_of done))
+    × (g.D.Door.given l.door ≡ g.D.Door.given l.fn.door)
+    × (g.D.Door.returned l.door ≡ g.D.Door.returned l.fn.door + length done)
+    × (g.D.Door.faults l.door ≡ g.D.Door.faults l.fn.door)
+    × (l.outcomes.items ≡ l.fn.outcomes.items ++ outcomes_of done)
+    × (vec_capacity l.outcomes ≡ vec_capacity l.fn.outcomes)
+
+abbrev pub decreases-loop-job : goal.decreases-loop-job
+decreases-loop-job g l = deque_len l.left

@@ -1,0 +1,12 @@
+//! What a worker of a link works on.
+
+use peer_lock::Pass;
+use session_core::SessionFault;
+
+/// A pass and a link, and how the session on it ended, once it did.
+#[derive(Drop)]
+pub struct Job<L> {
+    pub pass: Pass,
+    pub link: L,
+    pub outcome: Option<Result<u32, SessionFault>>,
+}

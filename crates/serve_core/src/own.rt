@@ -1,0 +1,46 @@
+//! The worker with the steps of the caller.
+ghost use Rattle.std.specs.Prelude.{◌≡◌};
+ghost use Rattle.peer_lock.specs.Answers.{IsSame};
+ghost use Rattle.serve_core.specs.Worked.{MakesOwn};
+
+use peer_lock::{Pass, SharedPeer, StepFail};
+use peer_step::{Answer, Step};
+use std::sync::Wait;
+
+/// How the steps of the caller ended.
+#[derive(Clone, Copy, Debug, PartialEq, Eq)]
+pub enum OwnEnd {
+    /// All were made.
+    Done,
+    /// The run was full.
+    RunFull,
+    /// Memory was wanting.
+    NoMemory,
+}
+
+/// Makes all steps of a list, in their order.
+pub(crate) fn make_all<R: Wait>(
+    rt: &R,
+    shared: &SharedPeer,
+    mut pass: Pass,
+    steps: &[Step],
+) -> (Pass, OwnEnd)
+    requires { pass.table ≡ shared.now }
+    ensures same { IsSame pass result.0 }
+    ensures mine { MakesOwn pass.view result.0.view steps.now result.1 }
+{
+    for step in steps {
+        let Ok(copy) = step.copied() else {
+            return (pass, OwnEnd::NoMemory);
+        };
+        match shared.step(rt, &mut pass, copy) {
+            Ok(answer) => forget(answer),
+            Err(StepFail::RunFull) => return (pass, OwnEnd::RunFull),
+            Err(StepFail::NoMemory) => return (pass, OwnEnd::NoMemory),
+        }
+    }
+    (pass, OwnEnd::Done)
+}
+
+// Lets an answer go, whatever it is.
+fn forget(_answer: Answer) {}
