@@ -42,6 +42,5 @@ returns c =
     let i = ap (λ (ns : List ℕ). slice_index ns spot.rank) c.self.invariant.counts.shows in
     let o = ap (λ (ns : List ℕ). sum_before ns spot.rank) c.self.invariant.counts.shows in
     c.shown_at.ensures
-    ∙ ap (λ (ss : List Slot). slice_get (marked_names ss) spot.place) c.slots.ensures.value
     ∙ shown_found runs spot.rank b spot.place c.args.i l c.index.ensures (omega (arith, a, i, c.find-spot.ensures.within)) (omega (arith, o, c.find-spot.ensures.place))
     ∙ ap (λ (bs : List Run). slice_get (marked_names (slots_of bs)) c.args.i) c.self.view_is
