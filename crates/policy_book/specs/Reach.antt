@@ -48,13 +48,19 @@ reach_of p op = if is_some (policy_fault p op) then Everyone else reach_of_legal
 abbrev pub lacks_objects : Policy → Auth → Bool
 lacks_objects p a = not (list_any (is_object p) a.objects)
 
--- the operation adds or removes an authorization none of whose objects is there
+-- an authorization of the policy names the object
+abbrev pub names_object : Policy → ℕ → Bool
+names_object p n = list_any (λ a. has_number a.auth.objects n) p.auths
+
+-- the operation adds or removes an authorization none of whose objects is there, or an object that no authorization names
 abbrev pub is_vacuous : Policy → AdminOp → Bool
+is_vacuous p (AddObj n extent) = not (names_object p n)
+is_vacuous p (DelObj n) = not (names_object p n)
 is_vacuous p (AddAuth place auth) = lacks_objects p auth
 is_vacuous p (DelAuth place) = option_map_or (λ a. lacks_objects p a.auth) (slice_get p.auths place) false
 is_vacuous p op = false
 
--- whose requests a legal operation may deny, by what is there: an authorization without objects matches nothing
+-- whose requests a legal operation may deny, by what is there: an authorization without objects matches nothing, and an object that none names is asked of nothing
 abbrev pub narrowed_reach : Policy → AdminOp → Reach
 narrowed_reach p op = if is_vacuous p op then Nobody else reach_of p op
 

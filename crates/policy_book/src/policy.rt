@@ -5,7 +5,7 @@ ghost use Rattle.std.specs.List.{list_any};
 ghost use Rattle.std.specs.Option.{option_copied};
 ghost use Rattle.policy_book.specs.Policy.{IsWithinLimits, IsLegal, IsRefusal, first_policy, policy_after, is_user, extent_of, members_of, is_object};
 ghost use Rattle.policy_book.specs.Policy.{is_group, is_member, is_full, is_full_group, policy_fault};
-ghost use Rattle.policy_book.specs.Reach.{reach_of, reach_of_legal, lacks_objects, is_vacuous, narrowed_reach};
+ghost use Rattle.policy_book.specs.Reach.{reach_of, reach_of_legal, lacks_objects, names_object, is_vacuous, narrowed_reach};
 
 use crate::auth::{Auth, Extent};
 use crate::fault::{ApplyFault, EntryFault};
@@ -276,9 +276,10 @@ impl Policy {
         self.reach_of_change(op)
     }
 
-    /// Whose requests a legal operation may deny, by the objects that are there: nobody's where it adds or removes
-    /// an authorization none of whose objects is there, which matches nothing, and otherwise as [`Policy::reach`]
-    /// says. Takes no memory, and a look-up of each of at most [`MAX_NUMBERS`](crate::MAX_NUMBERS) objects.
+    /// Whose requests a legal operation may deny, by what is there: nobody's where it adds or removes an authorization
+    /// none of whose objects is there, which matches nothing, or an object that no authorization names; and otherwise
+    /// as [`Policy::reach`] says. Takes no memory, and a look-up of each of at most [`MAX_NUMBERS`](crate::MAX_NUMBERS)
+    /// objects, or a pass over the authorizations.
     pub fn narrowed_reach(&self, op: &AdminOp) -> Reach
         requires { IsLegal self.now op.now }
         ensures { result ≡ narrowed_reach self.now op.now }
@@ -298,8 +299,17 @@ impl Policy {
                 Some(a) => self.lacks_objects(&a.auth),
                 None => false,
             },
+            AdminOp::AddObj(object, _) => !self.names_object(*object),
+            AdminOp::DelObj(object) => !self.names_object(*object),
             _ => false,
         }
+    }
+
+    fn names_object(&self, object: u16) -> bool
+        ensures { result ≡ names_object self.now object }
+    {
+        let auths = &self.tables.auths;
+        auths.iter().any(|a| a.auth.objects.has(object))
     }
 
     fn lacks_objects(&self, auth: &Auth) -> bool
