@@ -7,6 +7,7 @@ use Rattle.std.proofs.lemmas.Bool.{and_from}
 use Rattle.std.proofs.lemmas.Option.{same_Some}
 use Rattle.element_name.specs.Cases.{when, given, ◌>>=◌}
 use Rattle.peer_step.proofs.Rows.{when_has, map_has, given_has}
+use Rattle.step_read.specs.Words.{one_word, two_words}
 
 -- what is there passes the test
 abbrev pub Passes : {A : Type 0} → (A → Bool) → Option A → Type 0
@@ -59,22 +60,12 @@ both test also values = test values.0 && also values.1
 
 -- ---- words, so many and no more
 
--- what is read of one word
-abbrev pub one : {A : Type 0} → (List ℕ → Option A) → List (List ℕ) → Option A
-one read (a ∷ []) = read a
-one read words = None
-
--- what is read of two
-abbrev pub two : {A B : Type 0} → (List ℕ → Option A) → (List ℕ → Option B) → List (List ℕ) → Option (A × B)
-two read other (a ∷ b ∷ []) = read a >>= λ x. other b >>= λ y. Some (x, y)
-two read other words = None
-
-pub alone : {A : Type 0} (test : A → Bool) (read : List ℕ → Option A) → ((word : List ℕ) → Passes test (read word)) → (words : List (List ℕ)) → Passes test (one read words)
+pub alone : {A : Type 0} (test : A → Bool) (read : List ℕ → Option A) → ((word : List ℕ) → Passes test (read word)) → (words : List (List ℕ)) → Passes test (one_word read words)
 alone test read each (a ∷ []) = each a
 alone test read each words = none test
 
 pub pair : {A B : Type 0} (test : A → Bool) (also : B → Bool) (read : List ℕ → Option A) (other : List ℕ → Option B)
-    → ((word : List ℕ) → Passes test (read word)) → ((word : List ℕ) → Passes also (other word)) → (words : List (List ℕ)) → Passes (both test also) (two read other words)
+    → ((word : List ℕ) → Passes test (read word)) → ((word : List ℕ) → Passes also (other word)) → (words : List (List ℕ)) → Passes (both test also) (two_words read other words)
 pair test also read other each rest (a ∷ b ∷ []) =
     then (both test also) (read a) _ (λ x is_x. then (both test also) (other b) _ (λ y is_y.
     some (both test also) (x, y) (and_from (test x) (also y) (each a x is_x) (rest b y is_y))))

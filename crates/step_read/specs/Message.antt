@@ -1,5 +1,5 @@
 -- MESSAGE: messages, by the words that they are written in.
-use Rattle.std.specs.Prelude.{ℕ, List, [], ◌∷◌, Option, Some, None, option_map, is_none, codes}
+use Rattle.std.specs.Prelude.{ℕ, List, [], ◌∷◌, Option, None, option_map, is_none, codes}
 use Rattle.element_name.specs.declared.limits.TheConstants.{MAX_VERSION}
 use Rattle.element_name.specs.Cases.{when, ◌>>=◌}
 use Rattle.element_name.specs.Name.{Name}
@@ -9,18 +9,14 @@ use Rattle.coop_request.specs.Request.{Request, request_fault}
 use Rattle.policy_book.specs.Entry.{is_entry_version}
 use Rattle.edit_message.specs.declared.message.Message.{Message}
 use Rattle.edit_message.specs.declared.message.Message.TheVariants.{Coop, Admin}
-use Rattle.step_read.specs.Words.{beside}
+use Rattle.step_read.specs.Words.{beside, two_words}
 use Rattle.step_read.specs.Numbers.{read_number, read_name, one_name}
 use Rattle.step_read.specs.Pieces.{read_piece}
 use Rattle.step_read.specs.Operation.{read_operation}
 
 -- NAME LETTER
 abbrev pub name_and_piece : List (List ℕ) → Option (Name × List ℕ)
-name_and_piece (a ∷ b ∷ []) = do
-  name ← read_name a
-  piece ← read_piece b
-  Some (name, piece)
-name_and_piece args = None
+name_and_piece = two_words read_name read_piece
 
 -- the edit of a request
 unfoldable pub read_edit : List ℕ → List (List ℕ) → Option Edit

@@ -1,5 +1,5 @@
 -- Numbers and names, as words.
-use Rattle.std.specs.Prelude.{ℕ, ◌+◌, ◌-◌, take, drop, position, Bool, not, ◌&&◌, ◌||◌, List, [], ◌∷◌, map, Option, Some, None, ◌==◌, nat_lt, nat_le, length, slice_index}
+use Rattle.std.specs.Prelude.{ℕ, ◌+◌, ◌-◌, take, drop, position, Bool, not, ◌&&◌, ◌||◌, List, map, Option, ◌==◌, nat_lt, nat_le, length, slice_index}
 use Rattle.std.specs.List.{list_all}
 use Rattle.std.specs.Char.{is_ascii_digit}
 use Rattle.std.specs.Int.Digits.{number_from_digits}
@@ -8,6 +8,7 @@ use Rattle.element_name.specs.Cases.{when, ◌>>=◌}
 use Rattle.element_name.specs.Name.{Name, is_in_range}
 use Rattle.step_spelling.specs.declared.signs.TheConstants.{POINT}
 use Rattle.step_read.specs.declared.numbers.TheConstants.{ZERO_DIGIT, MAX_SHORT, MAX_WIDE}
+use Rattle.step_read.specs.Words.{one_word, two_words}
 
 -- digits, at least one, with no leading zero but that of `0`
 abbrev pub is_numeral : List ℕ → Bool
@@ -42,27 +43,16 @@ read_name word = do
 -- ---- arguments: one word or two, and no more
 
 abbrev pub one_short : List (List ℕ) → Option ℕ
-one_short (a ∷ []) = read_short a
-one_short args = None
+one_short = one_word read_short
 
 abbrev pub two_shorts : List (List ℕ) → Option (ℕ × ℕ)
-two_shorts (a ∷ b ∷ []) = do
-  m ← read_short a
-  n ← read_short b
-  Some (m, n)
-two_shorts args = None
+two_shorts = two_words read_short read_short
 
 abbrev pub one_wide : List (List ℕ) → Option ℕ
-one_wide (a ∷ []) = read_wide a
-one_wide args = None
+one_wide = one_word read_wide
 
 abbrev pub one_name : List (List ℕ) → Option Name
-one_name (a ∷ []) = read_name a
-one_name args = None
+one_name = one_word read_name
 
 abbrev pub two_names : List (List ℕ) → Option (Name × Name)
-two_names (a ∷ b ∷ []) = do
-  m ← read_name a
-  n ← read_name b
-  Some (m, n)
-two_names args = None
+two_names = two_words read_name read_name

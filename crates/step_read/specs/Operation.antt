@@ -6,13 +6,12 @@ use Rattle.policy_book.specs.declared.auth.Extent.{Extent}
 use Rattle.policy_book.specs.declared.auth.Extent.TheVariants.{All, Span, Elems, By}
 use Rattle.policy_book.specs.declared.op.AdminOp.{AdminOp}
 use Rattle.policy_book.specs.declared.op.AdminOp.TheVariants.{AddUser, DelUser, AddObj, DelObj, AddGroup, DelGroup, AddMember, DelMember, AddAuth, DelAuth, Validate}
-use Rattle.step_read.specs.Words.{beside, are_none}
+use Rattle.step_read.specs.Words.{beside, are_none, one_word}
 use Rattle.step_read.specs.Numbers.{read_short, one_short, two_shorts, one_name, two_names}
 use Rattle.step_read.specs.Sets.{read_numbers, read_names, read_users, read_rights, read_sign}
 
 abbrev pub one_name_list : List (List ℕ) → Option (List Name)
-one_name_list (a ∷ []) = read_names a
-one_name_list args = None
+one_name_list = one_word read_names
 
 -- the extent of an object
 unfoldable pub read_extent : List ℕ → List (List ℕ) → Option Extent

@@ -1,11 +1,11 @@
 -- Steps, by the words that they are written in, and step lines.
 use Rattle.std.specs.Prelude.{ℕ, List, [], ◌∷◌, Option, Some, None, option_map, codes}
-use Rattle.element_name.specs.Cases.{given, ◌>>=◌}
+use Rattle.element_name.specs.Cases.{given}
 use Rattle.peer_step.specs.declared.step.LocalEdit.{LocalEdit}
 use Rattle.peer_step.specs.declared.step.LocalEdit.TheVariants.{Insert, Delete, Update}
 use Rattle.peer_step.specs.declared.step.Step.{Step}
 use Rattle.peer_step.specs.declared.step.Step.TheVariants.{Edit, Administer, Receive, Settle, ValidateNext, Look, Show}
-use Rattle.step_read.specs.Words.{is_line, words, beside, are_none}
+use Rattle.step_read.specs.Words.{is_line, words, beside, are_none, two_words}
 use Rattle.step_read.specs.Numbers.{read_wide, one_wide}
 use Rattle.step_read.specs.Pieces.{read_piece}
 use Rattle.step_read.specs.Operation.{read_operation}
@@ -13,11 +13,7 @@ use Rattle.step_read.specs.Message.{read_message}
 
 -- AT LETTER
 abbrev pub place_and_piece : List (List ℕ) → Option (ℕ × List ℕ)
-place_and_piece (a ∷ b ∷ []) = do
-  at ← read_wide a
-  piece ← read_piece b
-  Some (at, piece)
-place_and_piece args = None
+place_and_piece = two_words read_wide read_piece
 
 -- an edit at a place
 unfoldable pub read_local_edit : List (List ℕ) → Option LocalEdit

@@ -1,5 +1,5 @@
 -- The words of a line, and choices by a word.
-use Rattle.std.specs.Prelude.{ℕ, Bool, true, false, not, ◌&&◌, List, [], ◌∷◌, map, Option, Some, length, ◌==◌, nat_le, if◌then◌else◌}
+use Rattle.std.specs.Prelude.{ℕ, Bool, true, false, not, ◌&&◌, List, [], ◌∷◌, map, Option, Some, None, length, ◌==◌, nat_le, if◌then◌else◌}
 use Rattle.std.specs.Borrow.{Bor}
 use Rattle.std.specs.Str.{bytes_eq, is_utf8}
 use Rattle.std.specs.List.{slice_split, list_any}
@@ -33,6 +33,19 @@ are_none (word ∷ words) = false
 abbrev pub is_alone : List ℕ → List (List ℕ) → Bool
 is_alone word (w ∷ []) = bytes_eq w word
 is_alone word words = false
+
+-- what is read of one word, where it is the only one
+abbrev pub one_word : {A : Type 0} → (List ℕ → Option A) → List (List ℕ) → Option A
+one_word read (a ∷ []) = read a
+one_word read words = None
+
+-- what is read of two words, each in its way, where there are no others
+abbrev pub two_words : {A B : Type 0} → (List ℕ → Option A) → (List ℕ → Option B) → List (List ℕ) → Option (A × B)
+two_words read other (a ∷ b ∷ []) = do
+  x ← read a
+  y ← other b
+  Some (x, y)
+two_words read other words = None
 
 -- the bytes of words that are lent
 abbrev pub bytes_of : List (Bor (List ℕ)) → List (List ℕ)
