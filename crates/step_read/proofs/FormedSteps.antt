@@ -16,9 +16,7 @@ use Rattle.policy_book.specs.Operation.{is_extent, is_user_set, is_operation}
 use Rattle.policy_book.specs.Entry.{is_entry_version}
 use Rattle.edit_message.specs.declared.message.Message.TheVariants.{Coop, Admin}
 use Rattle.edit_message.specs.Formed.{is_edit, is_message}
-use Rattle.peer_step.specs.declared.step.LocalEdit.{LocalEdit}
 use Rattle.peer_step.specs.declared.step.LocalEdit.TheVariants.{Insert, Delete, Update}
-use Rattle.peer_step.specs.declared.step.Step.{Step}
 use Rattle.peer_step.specs.declared.step.Step.TheVariants.{Edit as edit_step, Administer, Receive, ValidateNext, Look, Settle, Show}
 use Rattle.peer_step.specs.Formed.{is_local_edit, is_step}
 use Rattle.step_spelling.specs.declared.signs.TheConstants.{COMMA, POINT}

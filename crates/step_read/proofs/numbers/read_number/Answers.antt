@@ -1,4 +1,4 @@
-use Rattle.std.proofs.Common.{◌≡◌, ◌+◌, ◌-◌, ◌*◌, sym, take, map, arith, get_or}
+use Rattle.std.proofs.Common.{◌≡◌, ◌+◌, ◌-◌, ◌*◌, sym, take, arith, get_or}
 use Rattle.std.specs.Int.Digits.{number_from_digits}
 use Rattle.step_read.specs.declared.numbers.TheConstants.{ZERO_DIGIT}
 use Rattle.step_read.specs.Numbers.{digits_of}
