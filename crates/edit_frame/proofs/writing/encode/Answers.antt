@@ -1,4 +1,4 @@
-use Rattle.std.proofs.Common.{◌≡◌, ◌++◌, ℕ, List, length, ap, ◌∙◌, arith}
+use Rattle.std.proofs.Common.{length, ap, arith}
 use Rattle.edit_frame.proofs.Lengths.{short_body}
 use Rattle.edit_frame.proofs.writing.encode.Goals as goal
 
