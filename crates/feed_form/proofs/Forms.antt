@@ -1,17 +1,14 @@
 -- How the form that feeds a stream goes from one state to the next, and how it ends.
-use Rattle.std.proofs.Common.{◌≡◌, ℕ, ◌<◌, true, false, List, [], ◌++◌, length, Option, Ok, Err, refl, sym, ap, subst, ◌∙◌, append_assoc}
-use Rattle.std.specs.Prelude.{⊤, OnOk, is_ok}
+use Rattle.std.proofs.Common.{◌≡◌, ℕ, ◌<◌, true, false, List, [], ◌++◌, length, Ok, Err, refl, sym, ap, subst, ◌∙◌, append_assoc}
+use Rattle.std.specs.Prelude.{OnOk, is_ok}
 use Rattle.std.specs.Result.{result_or}
 use Rattle.std.specs.declared.result.Result.{Result}
 use Rattle.std.proofs.lemmas.Bool.{true≢false}
-use Rattle.std.proofs.KnownBytes.{Appends-nil, Consumes-nil}
 use Rattle.line_engine.specs.declared.status.Status.{Status}
-use Rattle.line_engine.specs.declared.status.Status.TheVariants.{Done, BadInput, NoMemory, TooLong}
+use Rattle.line_engine.specs.declared.status.Status.TheVariants.{Done, BadInput, TooLong}
 use Rattle.line_engine.specs.Output.{Output, too_long_text}
 use Rattle.line_engine.specs.Form.{Follows, IsBad, Rests}
-use Rattle.line_engine.specs.Engine.{Ran}
 use Rattle.line_engine.proofs.Pumping.{after_none}
-use Rattle.line_engine.proofs.Bytes.{left_known, told_read, begun_none}
 use Rattle.edit_frame.specs.declared.frame.Frame.{Frame}
 use Rattle.edit_frame.specs.declared.frame.FrameFault.{FrameFault}
 use Rattle.edit_frame.specs.declared.frame.FrameKind.TheVariants.{Truncated}
@@ -22,7 +19,7 @@ use Rattle.report_text.specs.Closing.{closing_lines}
 use Rattle.report_text.specs.Frame.{frame_fault_line}
 use Rattle.feed_form.specs.declared.feeding.Feeding.{Feeding}
 use Rattle.feed_form.specs.Turn.{frame_turn}
-use Rattle.feed_form.specs.Feed.{output_from, part_from, peer_fed, feed_output, feed_part}
+use Rattle.feed_form.specs.Feed.{output_from, part_from, peer_fed}
 use Rattle.feed_form.specs.Form.{feed_meaning}
 use Rattle.feed_form.proofs.Outputs.{output_front, part_front, fed_front, output_bad, fed_bad, output_cut, output_short, output_end, part_waits, fed_waits}
 
@@ -132,21 +129,3 @@ ends_short f fault before now e lt is appended none =
 pub ends_done : (f : Feeding) (before now : List ℕ) → IsWaiting f.splitter → f.splitter.rest ≡ [] → now ≡ before ++ closing_lines f.peer → before ≡ []
     → feed_meaning.output f false [] ≡ record { written = now; status = Done }
 ends_done f before now e rest appended none = written_now _ _ before now Done (output_end f.peer f.splitter.offset f.splitter.rest e rest) appended none
-
--- ---- the run
-
--- a run that ended before it began
-pub ran_nothing : (site : ℕ) (left sink : Option (List ℕ)) → (input : List ℕ) × (written : List ℕ)
-    × Ran (feed_output site) (feed_part site) (λ cut bytes. ⊤) left left sink sink NoMemory input written
-ran_nothing site left sink = (
-  left_known left,
-  [],
-  record {
-    told = told_read left left [] (Consumes-nil left);
-    appends = Appends-nil sink;
-    ends = record { whole = λ e. cc; begun = begun_none _ };
-    at_end = λ e. cc;
-    leaves = λ whole. tt;
-    read_fault = λ e. cc;
-  },
-)
