@@ -8,7 +8,7 @@ use Rattle.element_name.specs.Cases.{when, first_of}
 use Rattle.edit_frame.specs.declared.frame.FrameKind.{FrameKind}
 use Rattle.edit_frame.specs.declared.frame.FrameKind.TheVariants.{BadLength, Truncated}
 use Rattle.edit_frame.specs.Reading.{fault_or, frame_of, length_field, cut_fault, inner, frame_at}
-use Rattle.edit_frame.specs.Splitting.{is_truncated}
+use Rattle.edit_frame.specs.Splitter.{is_truncated}
 use Rattle.edit_frame.proofs.Cut.{IsWhole, whole_by, by_whole}
 use Rattle.edit_frame.proofs.Streams.{not_both, cut_at}
 

@@ -20,7 +20,7 @@ use Rattle.edit_frame.specs.Fields.{Field}
 use Rattle.edit_frame.specs.Reading.{request_at, other_at, is_kind, fault_or, request_frame, unless_left_over, frame_by, frame_of, length_field, cut_fault, inner, prefix_frame, frame_at, takes_memory, Stream, stream_with, stream_of, stream, rest_fault}
 use Rattle.edit_frame.specs.Spelling.{body, spelling}
 use Rattle.edit_frame.specs.Spells.{IsBytes, is_frame, Spells}
-use Rattle.edit_frame.specs.Splitting.{Splitting, is_truncated, FirstGives, IsSplit, IsAllOf}
+use Rattle.edit_frame.specs.Splitter.{Splitter, is_truncated, FirstGives, IsSplit, IsAllOf}
 use Rattle.edit_frame.proofs.Readers.{IsBytes-drop, chosen}
 use Rattle.edit_frame.proofs.Outcomes.{good, bad, same_kind, no_frame}
 use Rattle.edit_frame.proofs.Cut.{whole_by}
@@ -109,7 +109,7 @@ spelled_len text bytes len e h = omega (arith, ap length e, length-append text (
 both_up : (a b x y : ℕ) → a ≡ x → b ≡ y → a + b ≡ x + y
 both_up a b x y h g = omega arith
 
-pub split_push : (fed : List ℕ) (frames : List Frame) (s t : Splitting) (f : Frame) (len : ℕ) → IsSplit fed frames s
+pub split_push : (fed : List ℕ) (frames : List Frame) (s t : Splitter) (f : Frame) (len : ℕ) → IsSplit fed frames s
     → s.rest ≡ spelling f ++ drop len s.rest → len ≤ length s.rest → is_frame f ≡ true → t.offset ≡ s.offset + len → t.rest ≡ drop len s.rest → IsSplit fed (frames ++ f ∷ []) t
 split_push fed frames s t f len i split room range offset rest =
     let size : length (spelling f) ≡ len = spelled_len (spelling f) s.rest len split room in
@@ -119,7 +119,7 @@ split_push fed frames s t f len i split room range offset rest =
       place = offset ∙ both_up s.offset len (length (flat_map spelling frames)) (length (spelling f)) i.place (sym size) ∙ sym (length-append (flat_map spelling frames) (spelling f)) ∙ ap length (sym (flat_push frames f));
     }
 
-pub split_more : (fed piece : List ℕ) (frames : List Frame) (s t : Splitting) → IsSplit fed frames s → t.offset ≡ s.offset → t.rest ≡ s.rest ++ piece → IsSplit (fed ++ piece) frames t
+pub split_more : (fed piece : List ℕ) (frames : List Frame) (s t : Splitter) → IsSplit fed frames s → t.offset ≡ s.offset → t.rest ≡ s.rest ++ piece → IsSplit (fed ++ piece) frames t
 split_more fed piece frames s t i offset rest = record {
   whole = ap (λ (x : List ℕ). x ++ piece) i.whole ∙ append_assoc (flat_map spelling frames) s.rest piece ∙ ap (λ (x : List ℕ). flat_map spelling frames ++ x) (sym rest);
   each = i.each;
@@ -158,7 +158,7 @@ few_frames : (frames : List Frame) → length frames ≤ length (flat_map spelli
 few_frames [] = omega arith
 few_frames (f ∷ fs) = omega (arith, few_frames fs, ap length (flat_map-cons spelling f fs), length-append (spelling f) (flat_map spelling fs), length_spelling f)
 
-pub all_of : (fed : List ℕ) (frames : List Frame) (s : Splitting) (k : FrameKind) → IsSplit fed frames s → frame_at s.rest ≡ Err k → IsAllOf fed frames s.rest
+pub all_of : (fed : List ℕ) (frames : List Frame) (s : Splitter) (k : FrameKind) → IsSplit fed frames s → frame_at s.rest ≡ Err k → IsAllOf fed frames s.rest
 unfolding stream
 all_of fed frames s k i e =
     let le : length frames ≤ length fed = omega (arith, few_frames frames, ap length i.whole, length-append (flat_map spelling frames) s.rest) in
@@ -177,11 +177,11 @@ rest_fault_by (b ∷ bytes) k e h = ap (λ (r : Result Frame FrameKind). elim r 
 
 -- ---- what follows at a splitter's answers
 
-pub none_follows : (bytes : List ℕ) (o : Option (Frame × ℕ)) (s : Splitting) → o ≡ None → FirstGives bytes (Ok o) → bytes ≡ s.rest → (fed : List ℕ) (frames : List Frame) → IsSplit fed frames s → IsSplit fed frames s × IsAllOf fed frames s.rest
+pub none_follows : (bytes : List ℕ) (o : Option (Frame × ℕ)) (s : Splitter) → o ≡ None → FirstGives bytes (Ok o) → bytes ≡ s.rest → (fed : List ℕ) (frames : List Frame) → IsSplit fed frames s → IsSplit fed frames s × IsAllOf fed frames s.rest
 none_follows bytes None s is h same fed frames i = (i, all_of fed frames s Truncated i (ap frame_at (sym same) ∙ h))
 none_follows bytes (Some x) s is h same fed frames i = absurd cc
 
-pub fault_follows : (bytes : List ℕ) (fail : FrameFail) (kind : FrameKind) (s : Splitting) → fail ≡ fails.Fault kind → FirstGives bytes (Err fail) → bytes ≡ s.rest → (fed : List ℕ) (frames : List Frame) → IsSplit fed frames s
+pub fault_follows : (bytes : List ℕ) (fail : FrameFail) (kind : FrameKind) (s : Splitter) → fail ≡ fails.Fault kind → FirstGives bytes (Err fail) → bytes ≡ s.rest → (fed : List ℕ) (frames : List Frame) → IsSplit fed frames s
     → IsSplit fed frames s × IsAllOf fed frames s.rest × (rest_fault s.rest ≡ Some kind) × (is_truncated kind ≡ false)
 fault_follows bytes fail kind s is h same fed frames i =
     let g : (frame_at bytes ≡ Err kind) × (is_truncated kind ≡ false) = subst (λ (x : FrameFail). FirstGives bytes (Err x)) is h in

@@ -4,4 +4,4 @@ pub mod Reading
 pub mod Spells
 pub mod Fail
 pub mod Gives
-pub mod Splitting
+pub mod Splitter

@@ -7,7 +7,7 @@ ghost use Rattle.edit_frame.specs.declared.limits.TheConstants.{LENGTH_BYTES};
 ghost use Rattle.edit_frame.specs.Spelling.{spelling};
 ghost use Rattle.edit_frame.specs.Spells.{IsBytes, is_frame, Spells};
 ghost use Rattle.edit_frame.specs.Reading.{decoded_frame, length_field, frame_at, stream};
-ghost use Rattle.edit_frame.specs.Splitting.{is_truncated};
+ghost use Rattle.edit_frame.specs.Splitter.{is_truncated};
 
 /// What is encoded is decoded: alone, as the prefix of a stream, and frame after frame.
 pub fn encoded_is_decoded()

@@ -2,7 +2,7 @@
 ghost use Rattle.std.specs.Prelude.{◌≡◌, ℕ, ◌+◌, ◌^◌, ◌<◌, List, [], ◌++◌, length, OnOk, OnErr, MatchResult};
 ghost use Rattle.edit_frame.specs.declared.frame.Frame.{Frame};
 ghost use Rattle.edit_frame.specs.declared.frame.FrameKind.TheVariants.{Truncated};
-ghost use Rattle.edit_frame.specs.Splitting.{NextGives, IsSplit, IsWaiting, GivesNextFrame, FirstGives, Shortens, is_truncated};
+ghost use Rattle.edit_frame.specs.Splitter.{NextGives, IsSplit, IsWaiting, GivesNextFrame, FirstGives, Shortens, is_truncated};
 
 use crate::decoding::{cut_fault, length_of, whole_frame};
 use crate::fail::FrameFail;
@@ -26,9 +26,9 @@ pub struct Splitter {
 
 impl Model for Splitter {
     ghost use Rattle.std.specs.Prelude.{◌+◌, ◌^◌, ◌<◌, length};
-    ghost use Rattle.edit_frame.specs.Splitting.{Splitting};
+    ghost use Rattle.edit_frame.specs.Splitter as spec;
 
-    ghost Value = { Splitting };
+    ghost Value = { spec.Splitter };
 
     ghost view = { λ s. record { offset = s.offset; rest = s.buffer.items } };
 

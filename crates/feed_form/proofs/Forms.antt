@@ -13,7 +13,7 @@ use Rattle.edit_frame.specs.declared.frame.Frame.{Frame}
 use Rattle.edit_frame.specs.declared.frame.FrameFault.{FrameFault}
 use Rattle.edit_frame.specs.declared.frame.FrameKind.TheVariants.{Truncated}
 use Rattle.edit_frame.specs.Reading.{frame_at}
-use Rattle.edit_frame.specs.Splitting.{Splitting, past_frame, IsWaiting, is_truncated}
+use Rattle.edit_frame.specs.Splitter.{Splitter, past_frame, IsWaiting, is_truncated}
 use Rattle.peer_core.specs.Peer.{Peer}
 use Rattle.report_text.specs.Closing.{closing_lines}
 use Rattle.report_text.specs.Frame.{frame_fault_line}
@@ -23,11 +23,11 @@ use Rattle.feed_form.specs.Feed.{output_from, part_from, peer_fed}
 use Rattle.feed_form.specs.Form.{feed_meaning}
 use Rattle.feed_form.proofs.Outputs.{output_front, part_front, fed_front, output_bad, fed_bad, output_cut, output_short, output_end, part_waits, fed_waits}
 
-abbrev feeding : Peer → Splitting → Feeding
+abbrev feeding : Peer → Splitter → Feeding
 feeding p s = record { peer = p; splitter = s }
 
 -- a form is its peer and its splitter
-same_feeding : (f : Feeding) (p : Peer) (s : Splitting) → f.peer ≡ p → f.splitter ≡ s → f ≡ feeding p s
+same_feeding : (f : Feeding) (p : Peer) (s : Splitter) → f.peer ≡ p → f.splitter ≡ s → f ≡ feeding p s
 same_feeding f p s a b = ap (λ (q : Peer). feeding q f.splitter) a ∙ ap (feeding p) b
 
 -- ---- what was written

@@ -9,7 +9,7 @@ use Rattle.edit_frame.specs.declared.frame.Frame.{Frame}
 use Rattle.edit_frame.specs.declared.frame.FrameKind.{FrameKind}
 use Rattle.edit_frame.specs.declared.frame.FrameKind.TheVariants.{Truncated}
 use Rattle.edit_frame.specs.Reading.{length_field, frame_at, Stream, stream_with, stream}
-use Rattle.edit_frame.specs.Splitting.{is_truncated}
+use Rattle.edit_frame.specs.Splitter.{is_truncated}
 use Rattle.edit_frame.proofs.Streams.{rest_fault_by}
 use Rattle.edit_frame.proofs.Stays.{stays}
 use Rattle.peer_core.specs.Peer.{Peer}

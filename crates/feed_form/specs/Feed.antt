@@ -6,7 +6,7 @@ use Rattle.line_engine.specs.Output.{Output, after_bytes, too_long}
 use Rattle.line_engine.specs.Input.{is_cut, counted_bytes}
 use Rattle.edit_frame.specs.declared.frame.FrameKind.{FrameKind}
 use Rattle.edit_frame.specs.Reading.{stream, rest_fault}
-use Rattle.edit_frame.specs.Splitting.{is_truncated}
+use Rattle.edit_frame.specs.Splitter.{is_truncated}
 use Rattle.peer_core.specs.Peer.{Peer, fresh_peer}
 use Rattle.report_text.specs.Closing.{closing_lines}
 use Rattle.report_text.specs.Frame.{frame_fault_line}

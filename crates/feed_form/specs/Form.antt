@@ -1,7 +1,7 @@
 -- What the form means that feeds a stream to a peer.
 use Rattle.std.specs.Prelude.{◌≡◌, ◌++◌}
 use Rattle.line_engine.specs.Form.{Meaning}
-use Rattle.edit_frame.specs.Splitting.{IsWaiting}
+use Rattle.edit_frame.specs.Splitter.{IsWaiting}
 use Rattle.feed_form.specs.declared.feeding.Feeding.{Feeding}
 use Rattle.feed_form.specs.Feed.{output_from, part_from, peer_fed}
 

@@ -14,16 +14,16 @@ use Rattle.edit_frame.specs.Spells.{is_frame}
 use Rattle.edit_frame.specs.Reading.{length_field, frame_at, takes_memory, stream, rest_fault}
 
 -- how many bytes the frames that were given have, and the bytes that were fed after them
-pub record Splitting : Type 0 where
+pub record Splitter : Type 0 where
   pub offset : ℕ
   pub rest : List ℕ
 
 -- past the first frame
-abbrev pub past_frame : Splitting → Splitting
+abbrev pub past_frame : Splitter → Splitter
 past_frame s = record { offset = s.offset + (LENGTH_BYTES + length_field s.rest); rest = drop (LENGTH_BYTES + length_field s.rest) s.rest }
 
 -- the rest is empty or cut, and nothing else is wrong with it
-abbrev pub IsWaiting : Splitting → Type 0
+abbrev pub IsWaiting : Splitter → Type 0
 IsWaiting s = frame_at s.rest ≡ Err Truncated
 
 -- it is the fault of bytes that end too early
@@ -45,7 +45,7 @@ FirstGives bytes (Err (frames.Fault kind)) = (frame_at bytes ≡ Err kind) × (i
 FirstGives bytes (Err frames.NoMemory) = IsTrue (takes_memory bytes)
 
 -- what is answered about the next frame, and what is left
-abbrev pub NextGives : Splitting → Result (Option Frame) DecodeFail → Splitting → Type 0
+abbrev pub NextGives : Splitter → Result (Option Frame) DecodeFail → Splitter → Type 0
 NextGives old (Ok (Some f)) new = (frame_at old.rest ≡ Ok f) × (new ≡ past_frame old)
 NextGives old (Ok None) new = IsWaiting old × (new ≡ old)
 NextGives old (Err (decodes.Fault fault)) new =
@@ -53,13 +53,13 @@ NextGives old (Err (decodes.Fault fault)) new =
 NextGives old (Err decodes.NoMemory) new = IsTrue (takes_memory old.rest) × (new ≡ old)
 
 -- a frame that is given is taken from the rest, so that asking again and again ends
-abbrev pub Shortens : Splitting → Result (Option Frame) DecodeFail → Splitting → Type 0
+abbrev pub Shortens : Splitter → Result (Option Frame) DecodeFail → Splitter → Type 0
 Shortens old (Ok (Some f)) new = length new.rest + LENGTH_BYTES ≤ length old.rest
 Shortens old (Ok None) new = Unit {0}
 Shortens old (Err fail) new = Unit {0}
 
 -- what was fed is the spellings of the frames that were given, and the rest
-pub record IsSplit (fed : List ℕ) (frames : List Frame) (s : Splitting) : Type 0 where
+pub record IsSplit (fed : List ℕ) (frames : List Frame) (s : Splitter) : Type 0 where
   pub whole : fed ≡ flat_map spelling frames ++ s.rest
   pub each : list_all is_frame frames ≡ true
   pub place : s.offset ≡ length (flat_map spelling frames)
@@ -69,7 +69,7 @@ abbrev pub IsAllOf : List ℕ → List Frame → List ℕ → Type 0
 IsAllOf fed frames rest = stream fed ≡ record { frames = frames; rest = rest }
 
 -- where these frames of what was fed were given before: the next one, or that these are all, with the fault of the rest
-abbrev pub GivesNextFrame : List ℕ → List Frame → Result (Option Frame) DecodeFail → Splitting → Type 0
+abbrev pub GivesNextFrame : List ℕ → List Frame → Result (Option Frame) DecodeFail → Splitter → Type 0
 GivesNextFrame fed frames (Ok (Some f)) new = IsSplit fed (frames ++ f ∷ []) new
 GivesNextFrame fed frames (Ok None) new = IsSplit fed frames new × IsAllOf fed frames new.rest
 GivesNextFrame fed frames (Err (decodes.Fault fault)) new =
