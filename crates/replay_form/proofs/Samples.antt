@@ -1,5 +1,5 @@
 -- What the small script of the samples says: its lines are text, and the rest is computed, line by line.
-use Rattle.std.proofs.Common.{◌≡◌, ℕ, ◌≤◌, true, false, Option, Some, None, List, [], ◌∷◌, ◌++◌, length, refl, ap, ◌∙◌, arith}
+use Rattle.std.proofs.Common.{◌≡◌, ℕ, true, false, Option, Some, None, List, [], ◌∷◌, ◌++◌, refl, ap, ◌∙◌, arith}
 use Rattle.std.specs.Prelude.{codes, map, option_map}
 use Rattle.std.specs.Option.{option_map_or, option_to_list}
 use Rattle.std.proofs.lemmas.List.{take_all, append-nil}
@@ -8,7 +8,7 @@ use Rattle.coop_request.specs.Request.{Request}
 use Rattle.element_name.specs.Cases.{◌>>=◌}
 use Rattle.line_engine.specs.declared.limits.TheConstants.{MAX_INPUT}
 use Rattle.line_engine.specs.Output.{line_of}
-use Rattle.line_engine.specs.Input.{counted_bytes, lines_of}
+use Rattle.line_engine.specs.Input.{lines_of}
 use Rattle.line_engine.specs.Run.{LineTurn, turn_of_line}
 use Rattle.peer_step.specs.declared.step.LocalEdit.TheVariants.{Insert}
 use Rattle.peer_step.specs.declared.step.Step.TheVariants.{Edit, Show}

@@ -1,6 +1,6 @@
 -- The peers that `show` lines ask for are sound, so those that have the same write the same.
-use Rattle.std.proofs.Common.{◌≡◌, ℕ, ◌+◌, ◌<◌, ◌≤◌, Bool, true, false, ◌&&◌, Option, Some, None, List, [], ◌∷◌, ◌++◌, length, refl, ap, sym, subst, ◌∙◌, arith}
-use Rattle.std.specs.Prelude.{not, map, option_map, All, IsTrue, nat_le, nat_lt, ⊤, if◌then◌else◌}
+use Rattle.std.proofs.Common.{◌≡◌, ℕ, ◌+◌, ◌<◌, ◌≤◌, Bool, true, false, ◌&&◌, Option, Some, None, List, [], ◌∷◌, ◌++◌, length, refl, ap, subst, arith}
+use Rattle.std.specs.Prelude.{not, map, option_map, All, nat_le, nat_lt, ⊤, if◌then◌else◌}
 use Rattle.std.specs.Option.{option_map_or, option_to_list}
 use Rattle.std.proofs.lemmas.List.Elements.{All-cons, All-append, All-map, All-weaker}
 use Rattle.std.proofs.lemmas.Bool.{and_parts, ltb-true, leb-true}
@@ -9,16 +9,14 @@ use Rattle.element_name.proofs.CaseLemmas.{when-Some}
 use Rattle.line_engine.specs.declared.limits.TheConstants.{MAX_LINE}
 use Rattle.line_engine.specs.Input.{is_cut, counted_bytes, lines_of}
 use Rattle.line_engine.specs.Run.{LineTurn, turn_of_line}
-use Rattle.peer_step.specs.declared.step.Step.{Step}
-use Rattle.peer_step.specs.declared.step.Step.TheVariants.{Edit, Administer, Receive, Settle, ValidateNext, Look, Show}
 use Rattle.peer_step.specs.declared.answer.Answer.TheVariants.{Shown}
-use Rattle.peer_core.specs.Peer.{Peer, fresh_peer, text}
+use Rattle.peer_core.specs.Peer.{Peer, fresh_peer}
 use Rattle.peer_core.specs.Sound.{IsSound}
 use Rattle.peer_core.specs.Laws.{SetLaw}
 use Rattle.replay_net.specs.declared.line.TheConstants.{MAX_PEERS}
 use Rattle.replay_net.specs.declared.line.Line.{Line}
 use Rattle.replay_net.specs.declared.line.Line.TheVariants.{Peers, Local, Give, Hand, StateOf}
-use Rattle.replay_net.specs.Line.{is_receive, is_opening, is_world_line, is_formed_line}
+use Rattle.replay_net.specs.Line.{is_receive, is_world_line, is_formed_line}
 use Rattle.replay_net.specs.Laws.{HaveSame, SoundWorldLaw, FreshWorldLaw}
 use Rattle.replay_net.specs.World.{World, fresh_world, peer_of, turn_of, IsSoundWorld}
 use Rattle.script_text.specs.Line.{script_line}

@@ -1,5 +1,5 @@
 -- What the `show` lines of a script write.
-use Rattle.std.specs.Prelude.{◌≡◌, ℕ, Bool, true, false, List, [], ◌∷◌, ◌++◌, Option, None, Some, length, map, option_map, All}
+use Rattle.std.specs.Prelude.{◌≡◌, ℕ, Bool, true, false, List, [], ◌∷◌, ◌++◌, Option, None, Some, length, map, All}
 use Rattle.std.specs.Option.{option_map_or, option_to_list}
 use Rattle.element_name.specs.Cases.{when, ◌>>=◌}
 use Rattle.line_engine.specs.Output.{Begins}
