@@ -1,5 +1,5 @@
 -- How many lines of a course are edits.
-use Rattle.std.proofs.Common.{◌≡◌, ℕ, zero, suc, ◌+◌, ◌-◌, ◌*◌, ◌<◌, ◌≤◌, Bool, true, false, cond, List, [], ◌∷◌, ◌++◌, length, filter, refl, ap, sym, ◌∙◌, arith}
+use Rattle.std.proofs.Common.{◌≡◌, ℕ, zero, suc, ◌+◌, ◌-◌, ◌*◌, ◌<◌, ◌≤◌, Bool, true, false, cond, List, [], ◌∷◌, ◌++◌, length, filter, refl, arith}
 use Rattle.std.specs.Prelude.{◌%◌, ◌==◌, min, nat_lt, if◌then◌else◌}
 use Rattle.std.proofs.lemmas.Bool.{ltb-true}
 use Rattle.policy_book.specs.declared.op.AdminOp.TheVariants.{AddAuth, DelAuth}
@@ -10,7 +10,7 @@ use Rattle.edit_make.specs.declared.limits.TheConstants.{PEERS, ROUND_EDITS}
 use Rattle.edit_make.specs.Draws.{drawn}
 use Rattle.edit_make.specs.Laws.{is_edit_line}
 use Rattle.edit_make.specs.Schedule.{Moment, Course, after_draws, after_line, lines_then, full_auth, give_lines, opening_lines, operation_step, operation_draws, operation_then, next_edit, draws_of, edit_line, edit_then, edits_then}
-use Rattle.edit_make.specs.Schedule.{settle, delivery, was_quiet, settles_then, settled_then, delivery_then, issued_since, deliveries_then, round_edits, round_then, rounds_then, round_count, rounds_of, made_lines}
+use Rattle.edit_make.specs.Schedule.{settle, delivery, was_quiet, settles_then, settled_then, delivery_then, issued_since, deliveries_then, round_then, rounds_then, round_count, rounds_of, made_lines}
 use Rattle.edit_make.proofs.Numbers.{given_numbers}
 
 -- how many of the lines are edits

@@ -9,7 +9,6 @@ use Rattle.coop_request.specs.declared.request.TheConstants.{MAX_REQUESTS}
 use Rattle.hold_back.specs.declared.hold.TheConstants.{MAX_HELD}
 use Rattle.tomb_seq.proofs.Has.{Has}
 use Rattle.edit_message.specs.declared.message.Message.{Message}
-use Rattle.edit_message.specs.declared.message.Message.TheVariants.{Coop, Admin}
 use Rattle.edit_message.specs.Message.{requests_of}
 use Rattle.peer_step.specs.declared.step.Step.{Step}
 use Rattle.peer_step.specs.declared.step.Step.TheVariants.{Receive, Settle}
@@ -17,11 +16,11 @@ use Rattle.peer_step.specs.declared.answer.Answer.{Answer}
 use Rattle.peer_step.specs.declared.answer.Answer.TheVariants.{HoldFull}
 use Rattle.peer_core.specs.Peer.{Peer, fresh_peer}
 use Rattle.peer_core.specs.Answers.{answer_of, answer_receive, answer_settle}
-use Rattle.peer_core.specs.After.{changed_by, peer_after}
+use Rattle.peer_core.specs.After.{peer_after}
 use Rattle.replay_net.specs.declared.line.Line.{Line}
-use Rattle.replay_net.specs.declared.line.Line.TheVariants.{Local, Give}
+use Rattle.replay_net.specs.declared.line.Line.TheVariants.{Give}
 use Rattle.replay_net.specs.Reply.{issued_by}
-use Rattle.replay_net.specs.World.{World, WorldTurn, peer_of, issued_at, step_turn, no_message, number_of, turn_of, world_after}
+use Rattle.replay_net.specs.World.{World, peer_of, issued_at, step_turn, no_message, number_of, turn_of, world_after}
 use Rattle.replay_net.specs.Settling.{has_none_due, is_hold_full, HasAll}
 use Rattle.replay_net.proofs.Parts.{Keeps}
 use Rattle.replay_net.proofs.Integrated.{has_place}
@@ -31,7 +30,7 @@ use Rattle.replay_net.proofs.Settling.{peer_received, never_full, settled_from}
 use Rattle.edit_make.specs.declared.limits.TheConstants.{PEERS}
 use Rattle.edit_make.specs.Schedule.{Moment, Course, after_draws, after_line, lines_then, give_lines, settle, was_quiet, settles_then, settled_then, delivery, delivery_then, issued_since}
 use Rattle.edit_make.proofs.Settling.{settle_goes, quiet_rests}
-use Rattle.edit_make.proofs.HonestCourses.{gives_honest, settle_honest}
+use Rattle.edit_make.proofs.HonestCourses.{settle_honest}
 use Rattle.edit_make.proofs.Numbers.{range_has, given_numbers, given_has, given_few}
 
 -- ---- the moment after lines

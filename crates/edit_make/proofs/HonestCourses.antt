@@ -1,5 +1,5 @@
 -- The lines of courses are honest ones.
-use Rattle.std.proofs.Common.{◌≡◌, ℕ, zero, suc, ◌+◌, ◌-◌, ◌<◌, ◌≤◌, Bool, true, false, ◌&&◌, List, [], ◌∷◌, ◌++◌, length, refl, ap, sym, ◌∙◌, arith}
+use Rattle.std.proofs.Common.{◌≡◌, ℕ, zero, suc, ◌+◌, ◌-◌, ◌<◌, Bool, true, false, List, [], ◌∷◌, length, refl, arith}
 use Rattle.std.specs.Prelude.{◌%◌, ◌==◌, ◌||◌, min, nat_lt, nat_le, if◌then◌else◌}
 use Rattle.std.specs.List.{list_all}
 use Rattle.std.specs.Char.{encode_utf8}
@@ -10,9 +10,8 @@ use Rattle.coop_request.specs.Piece.{is_piece}
 use Rattle.policy_book.specs.Lists.{is_short}
 use Rattle.policy_book.specs.declared.op.AdminOp.TheVariants.{AddAuth, DelAuth}
 use Rattle.policy_book.proofs.Ascending.{all_append}
-use Rattle.peer_step.specs.declared.step.LocalEdit.{LocalEdit}
 use Rattle.peer_step.specs.declared.step.LocalEdit.TheVariants.{Insert, Delete, Update}
-use Rattle.peer_step.specs.declared.step.Step.TheVariants.{Edit, Administer, ValidateNext}
+use Rattle.peer_step.specs.declared.step.Step.TheVariants.{Administer, ValidateNext}
 use Rattle.peer_step.specs.Formed.{is_local_edit}
 use Rattle.replay_net.specs.declared.line.Line.{Line}
 use Rattle.replay_net.specs.declared.line.Line.TheVariants.{Local}

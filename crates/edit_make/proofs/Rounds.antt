@@ -1,12 +1,11 @@
 -- What becomes of the world in the rounds: in the end of each every peer has integrated all that was issued.
-use Rattle.std.proofs.Common.{◌≡◌, ℕ, zero, suc, ◌+◌, ◌-◌, ◌*◌, ◌<◌, ◌≤◌, inl, inr, ⊎_elim, Bool, true, false, Option, Some, None, List, [], ◌∷◌, ◌++◌, length, refl, ap, sym, subst, ◌∙◌, arith, length-append, Contains}
+use Rattle.std.proofs.Common.{◌≡◌, ℕ, zero, suc, ◌+◌, ◌-◌, ◌*◌, ◌<◌, ◌≤◌, ⊎_elim, Bool, true, false, Option, Some, None, List, [], ◌∷◌, ◌++◌, length, refl, ap, sym, subst, ◌∙◌, arith, length-append, Contains}
 use Rattle.std.specs.Prelude.{slice_get, nat_lt, min, ◌%◌, ◌==◌, if◌then◌else◌}
 use Rattle.std.specs.Option.{option_to_list}
 use Rattle.std.proofs.lemmas.Bool.{cases_eq, ltb-true}
 use Rattle.std.proofs.lemmas.List.{get_or-set_same, get_or-set_other}
 use Rattle.std.proofs.lemmas.List.FromFn.{length-range_with_len}
 use Rattle.coop_request.specs.declared.request.TheConstants.{MAX_REQUESTS}
-use Rattle.hold_back.specs.declared.hold.TheConstants.{MAX_HELD}
 use Rattle.tomb_seq.proofs.Has.{Has, Has-from_Contains, Contains-from_Has}
 use Rattle.edit_message.specs.declared.message.Message.{Message}
 use Rattle.edit_message.specs.declared.message.Message.TheVariants.{Coop, Admin}
@@ -26,9 +25,9 @@ use Rattle.replay_net.proofs.Members.{has_left}
 use Rattle.replay_net.proofs.Parts.{Keeps}
 use Rattle.replay_net.proofs.Schedules.{IsHonestWorld, fair_line, fair_lines, fresh_honest, inside, issued_has}
 use Rattle.edit_make.specs.declared.limits.TheConstants.{PEERS, ROUND_EDITS, MAX_EDITS}
-use Rattle.edit_make.specs.Draws.{word_after, drawn}
-use Rattle.edit_make.specs.Schedule.{Moment, Course, after_draws, after_line, lines_then, full_auth, opening_lines, operation_step, operation_draws, operation_then, editor, next_edit, draws_of, edit_line, edit_then, edits_then}
-use Rattle.edit_make.specs.Schedule.{issued_since, delivery_then, deliveries_then, round_edits, round_then, rounds_then, round_count, rounds_of, made_lines, made_world}
+use Rattle.edit_make.specs.Draws.{drawn}
+use Rattle.edit_make.specs.Schedule.{Moment, Course, after_draws, after_line, full_auth, opening_lines, operation_step, operation_then, editor, next_edit, edit_then, edits_then}
+use Rattle.edit_make.specs.Schedule.{issued_since, delivery_then, deliveries_then, round_edits, round_then, rounds_then, round_count, rounds_of, made_world}
 use Rattle.replay_net.proofs.Steps.{StaysHeld, edit_held, administer_held, validate_next_held}
 use Rattle.edit_make.proofs.HonestCourses.{drawn_low, edit_honest, operation_honest, opening_honest}
 use Rattle.edit_make.proofs.Given.{Goes, same_number, delivered, after_lines, then_world}
