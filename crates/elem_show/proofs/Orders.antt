@@ -1,5 +1,5 @@
 -- Requests in ascending order of name.
-use Rattle.std.proofs.Common.{◌≡◌, ℕ, ◌+◌, Bool, true, false, not, ◌&&◌, List, [], ◌∷◌, ◌++◌, length, map, Some, None, refl, sym, subst, ◌∙◌, ap, arith, if◌then◌else◌}
+use Rattle.std.proofs.Common.{◌≡◌, ℕ, ◌+◌, Bool, true, false, ◌&&◌, List, [], ◌∷◌, ◌++◌, length, map, Some, None, refl, sym, subst, ◌∙◌, ap, arith, if◌then◌else◌}
 use Rattle.std.specs.Prelude.{filter}
 use Rattle.std.specs.List.{list_all}
 use Rattle.std.specs.Option.{option_map, option_or}
@@ -8,8 +8,8 @@ use Rattle.std.proofs.lemmas.List.{append-nil}
 use Rattle.std.proofs.lemmas.List.Elements.{filter-append}
 use Rattle.element_name.specs.Cases.{given}
 use Rattle.element_name.specs.Name.{Name, name_eq, name_lt, are_distinct}
-use Rattle.element_name.proofs.NameOrder.{name_eq-refl, name_eq-comm, same_name}
-use Rattle.element_name.proofs.NamedLemmas.{item_named-put, item_named-put_other, item_named-without, put_named-comm, without_named-absent, without_named-put}
+use Rattle.element_name.proofs.NameOrder.{name_eq-comm, same_name}
+use Rattle.element_name.proofs.NamedLemmas.{item_named-put, item_named-put_other, put_named-comm, without_named-put}
 use Rattle.element_name.proofs.CaseLemmas.{option_or-None}
 use Rattle.coop_request.specs.Edit.{is_insert, piece_in}
 use Rattle.coop_request.specs.Request.{Request}
@@ -17,7 +17,7 @@ use Rattle.coop_request.specs.History.{request_of}
 use Rattle.elem_show.specs.Cell.{is_insert_of, cell_from, own_piece, cell_of}
 use Rattle.elem_show.specs.Counting.{cell_with}
 use Rattle.elem_show.specs.Table.{cell_named, including, except, in_id_order, table_of}
-use Rattle.elem_show.proofs.Cells.{id_of, cell_from-cons, cell_with-comm, once-cons, once-except, rest_once, first_new, absent-except}
+use Rattle.elem_show.proofs.Cells.{id_of, cell_from-cons, cell_from-including, together-except, together-snoc, together-set, once-cons, once-except, rest_once, first_new, absent-except}
 
 -- ---- one more request
 
@@ -51,19 +51,6 @@ length-including q (y ∷ ys) = by (name_lt q.id y.id) (length-including q ys)
     by : (less : Bool) → length (including q ys) ≡ length ys + 1 → length (if less then q ∷ y ∷ ys else y ∷ including q ys) ≡ length (y ∷ ys) + 1
     by true h = omega arith
     by false h = omega (arith, h)
-
--- its cell
-pub cell_from-including : (e : Name) (q : Request) (own : List ℕ) (xs : List Request) → request_of xs q.id ≡ None → cell_from e own (including q xs) ≡ cell_with e q (cell_from e own xs)
-cell_from-including e q own [] new = cell_from-cons e q own []
-cell_from-including e q own (y ∷ ys) new = by (name_lt q.id y.id) (name_eq y.id q.id) refl new (cell_from-including e q own ys)
-  where
-    by : (less same : Bool) → name_eq y.id q.id ≡ same → (if same then Some y else request_of ys q.id) ≡ None
-        → (request_of ys q.id ≡ None → cell_from e own (including q ys) ≡ cell_with e q (cell_from e own ys))
-        → cell_from e own (if less then q ∷ y ∷ ys else y ∷ including q ys) ≡ cell_with e q (cell_from e own (y ∷ ys))
-    by less true is absent rest = absurd cc
-    by true false is absent rest = cell_from-cons e q own (y ∷ ys)
-    by false false is absent rest =
-        cell_from-cons e y own (including q ys) ∙ ap (cell_with e y) (rest absent) ∙ cell_with-comm e y q (cell_from e own ys) is ∙ ap (cell_with e q) (sym (cell_from-cons e y own ys))
 
 -- the piece of its element
 pub own_piece-absent : (xs : List Request) (e : Name) → request_of xs e ≡ None → own_piece xs e ≡ None
@@ -102,13 +89,7 @@ own_piece-including q (y ∷ ys) e new = by (name_lt q.id y.id) (name_eq y.id q.
 -- ---- all of them
 
 pub in_id_order-snoc : (xs : List Request) (q : Request) → request_of xs q.id ≡ None → in_id_order (xs ++ q ∷ []) ≡ including q (in_id_order xs)
-in_id_order-snoc [] q new = refl
-in_id_order-snoc (x ∷ xs) q new = by (name_eq x.id q.id) refl new (in_id_order-snoc xs q)
-  where
-    by : (same : Bool) → name_eq x.id q.id ≡ same → (if same then Some x else request_of xs q.id) ≡ None
-        → (request_of xs q.id ≡ None → in_id_order (xs ++ q ∷ []) ≡ including q (in_id_order xs)) → including x (in_id_order (xs ++ q ∷ [])) ≡ including q (including x (in_id_order xs))
-    by true is a rest = absurd cc
-    by false is a rest = ap (including x) (rest a) ∙ put_named-comm id_of x q (in_id_order xs) is
+in_id_order-snoc xs q new = together-snoc in_id_order including (λ r rs. refl) (put_named-comm id_of) q xs new
 
 pub found_in_id_order : (xs : List Request) (n : Name) → are_distinct (map id_of xs) ≡ true → request_of (in_id_order xs) n ≡ request_of xs n
 found_in_id_order [] n once = refl
@@ -121,17 +102,7 @@ first_absent : (x : Request) (xs : List Request) → are_distinct (map id_of (x 
 first_absent x xs once = found_in_id_order xs x.id (rest_once x xs once) ∙ first_new x xs once
 
 in_id_order-except : (q : Request) (xs : List Request) → are_distinct (map id_of xs) ≡ true → request_of xs q.id ≡ Some q → in_id_order xs ≡ including q (in_id_order (except xs q.id))
-in_id_order-except q [] once member = absurd cc
-in_id_order-except q (x ∷ xs) once member = by (name_eq x.id q.id) refl member (in_id_order-except q xs (rest_once x xs once))
-  where
-    by : (same : Bool) → name_eq x.id q.id ≡ same → (if same then Some x else request_of xs q.id) ≡ Some q
-        → (request_of xs q.id ≡ Some q → in_id_order xs ≡ including q (in_id_order (except xs q.id)))
-        → including x (in_id_order xs) ≡ including q (in_id_order (if not same then x ∷ except xs q.id else except xs q.id))
-    by true is m rest =
-        let here : x ≡ q = cc in
-        let new : request_of xs q.id ≡ None = subst (λ (y : Request). request_of xs y.id ≡ None) here (first_new x xs once) in
-        ap (λ y. including y (in_id_order xs)) here ∙ ap (λ ys. including q (in_id_order ys)) (sym (without_named-absent id_of q.id xs new))
-    by false is m rest = ap (including x) (rest m) ∙ put_named-comm id_of x q (in_id_order (except xs q.id)) is
+in_id_order-except q xs once member = together-except in_id_order including (λ r rs. refl) (put_named-comm id_of) q xs once member
 
 -- without one of them
 pub except-in_id_order : (q : Request) (xs : List Request) → are_distinct (map id_of xs) ≡ true → request_of xs q.id ≡ Some q → except (in_id_order xs) q.id ≡ in_id_order (except xs q.id)
@@ -142,26 +113,7 @@ except-in_id_order q xs once member =
 
 -- the same requests are one list
 pub in_id_order-set : (xs ys : List Request) → are_distinct (map id_of xs) ≡ true → are_distinct (map id_of ys) ≡ true → ((n : Name) → request_of xs n ≡ request_of ys n) → in_id_order xs ≡ in_id_order ys
-in_id_order-set [] [] once_x once_y alike = refl
-in_id_order-set [] (y ∷ ys) once_x once_y alike = absurd (clash (alike y.id))
-  where
-    clash : None ≡ request_of (y ∷ ys) y.id → ⊥
-    clash h =
-        let here : None ≡ Some y = rw (name_eq-refl y.id) at h in
-        cc
-in_id_order-set (x ∷ xs) ys once_x once_y alike =
-    let here : request_of ys x.id ≡ Some x = sym (alike x.id) ∙ first_is in
-    ap (including x) (in_id_order-set xs (except ys x.id) (rest_once x xs once_x) (once-except x.id ys once_y) others) ∙ sym (in_id_order-except x ys once_y here)
-  where
-    first_is : request_of (x ∷ xs) x.id ≡ Some x
-    first_is = rw (name_eq-refl x.id) refl
-
-    by : (n : Name) (b : Bool) → name_eq x.id n ≡ b → (if b then Some x else request_of xs n) ≡ request_of ys n → request_of xs n ≡ (if b then None else request_of ys n)
-    by n true h a = subst (λ (m : Name). request_of xs m ≡ None) (same_name x.id n h) (first_new x xs once_x)
-    by n false h a = a
-
-    others : (n : Name) → request_of xs n ≡ request_of (except ys x.id) n
-    others n = by n (name_eq x.id n) refl (alike n) ∙ sym (item_named-without id_of n x.id ys)
+in_id_order-set xs ys once_x once_y alike = together-set in_id_order including (λ r rs. refl) (put_named-comm id_of) xs ys once_x once_y alike
 
 pub length-in_id_order : (xs : List Request) → length (in_id_order xs) ≡ length xs
 length-in_id_order [] = refl
