@@ -1,10 +1,11 @@
 -- What goes to other threads, or is lent to them: type by type, so that each search is short.
-use denote.Param.Send.{IsSend, IsSync, owning_send, sendable}
+use denote.Param.Send.{IsSend, IsSync, sendable}
 use Rattle.std.proofs.Crossing.{send, sync, crosses}
 use Rattle.std.proofs.MapsCrossing as maps
 use Rattle.atomic_table.proofs.shared.Seat.TheSendSync as seat
 use Rattle.atomic_table.proofs.shared.Shared.TheSendSync as table
 use Rattle.atomic_table.proofs.send_lease.SendLease.TheSendSync as lease
+use Rattle.ghost_list.proofs.ghost_list.GhostList.TheSendSync as ghost_list
 use Rattle.policy_book.specs.contracts.op.AdminOp as AdminOp
 use Rattle.policy_book.specs.contracts.op.Entry as Entry
 use Rattle.policy_book.specs.contracts.policy.Policy as Policy
@@ -12,12 +13,10 @@ use Rattle.packed_message.specs.contracts.message.PackedMessage as PackedMessage
 use Rattle.packed_step.specs.contracts.step.PackedStep as PackedStep
 use Rattle.admin_log.specs.contracts.log.AdminLog as AdminLog
 use Rattle.request_state.specs.contracts.table.StateTable as StateTable
-use Rattle.elem_show.specs.contracts.recorded.Recorded as Recorded
 use Rattle.elem_show.specs.contracts.table.ElemTable as ElemTable
 use Rattle.tomb_seq.specs.contracts.seq.TombSeq as TombSeq
 use Rattle.hold_back.specs.contracts.hold.HoldBack as HoldBack
 use Rattle.peer_step.specs.contracts.step.Step as Step
-use Rattle.peer_core.specs.contracts.recorded.RecordedMessages as RecordedMessages
 use Rattle.peer_core.specs.contracts.journal.Journal as Journal
 use Rattle.peer_core.specs.contracts.peer.Peer as Peer
 use Rattle.peer_lock.specs.contracts.call.Call as Call
@@ -58,12 +57,8 @@ AdminLog-send = search (Entry-send, Policy-send, plain) depth 100 fits 100000
 StateTable-send : IsSend StateTable.the_row
 StateTable-send = search plain depth 100 fits 100000
 
--- it is known to proofs alone, and owns nothing
-Recorded-send : IsSend Recorded.the_row
-Recorded-send = owning_send Recorded.the_type tt (λ d. tt) (λ k x w. tt)
-
 ElemTable-send : IsSend ElemTable.the_row
-ElemTable-send = search (Recorded-send, plain) depth 100 fits 100000
+ElemTable-send = search (ghost_list.the_send, plain) depth 100 fits 100000
 
 TombSeq-send : IsSend TombSeq.the_row
 TombSeq-send = search plain depth 100 fits 100000
@@ -71,12 +66,8 @@ TombSeq-send = search plain depth 100 fits 100000
 HoldBack-send : IsSend HoldBack.the_row
 HoldBack-send = search (PackedMessage-send, Entry-send, plain) depth 100 fits 100000
 
--- so it is with these
-RecordedMessages-send : IsSend RecordedMessages.the_row
-RecordedMessages-send = owning_send RecordedMessages.the_type tt (λ d. tt) (λ k x w. tt)
-
 Journal-send : IsSend Journal.the_row
-Journal-send = search (AdminLog-send, StateTable-send, ElemTable-send, TombSeq-send, RecordedMessages-send, plain) depth 100 fits 100000
+Journal-send = search (AdminLog-send, StateTable-send, ElemTable-send, TombSeq-send, ghost_list.the_send, plain) depth 100 fits 100000
 
 Peer-send : IsSend Peer.the_row
 Peer-send = search (Journal-send, HoldBack-send, plain) depth 100 fits 100000
