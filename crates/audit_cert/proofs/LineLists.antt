@@ -14,7 +14,7 @@ use Rattle.edit_message.specs.declared.message.Message.TheVariants.{Coop, Admin}
 use Rattle.edit_message.specs.Message.{requests_of, entries_of}
 use Rattle.tomb_seq.proofs.Has.{Has, Contains-from_Has}
 use Rattle.peer_core.specs.Sound.{IsJournal}
-use Rattle.peer_core.proofs.Stable.{known_law, element_in_order}
+use Rattle.peer_core.proofs.StableLemmas.{known_law, element_in_order}
 use Rattle.std.specs.BTreeSet.{BTreeSet, btree_set_len}
 use Rattle.tomb_seq.specs.declared.slot.Slot.{Slot}
 use Rattle.tomb_seq.specs.Slots.{names_in}

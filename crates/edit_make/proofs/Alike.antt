@@ -15,9 +15,9 @@ use Rattle.request_state.specs.State.{is_tentative, is_invalid}
 use Rattle.peer_core.specs.Peer.{Peer, history, state_at, text}
 use Rattle.peer_core.specs.Sound.{IsJournal}
 use Rattle.peer_core.specs.Laws.{HaveSameSets, LookAlike, SetLaw}
-use Rattle.peer_core.proofs.Journals.{history_law}
-use Rattle.peer_core.proofs.Histories.{once_law}
-use Rattle.peer_core.proofs.Sets.{has_found}
+use Rattle.peer_core.proofs.JournalLemmas.{history_law}
+use Rattle.peer_core.proofs.HistoryLemmas.{once_law}
+use Rattle.peer_core.proofs.SameSetLemmas.{has_found}
 use Rattle.replay_net.specs.World.{World, peer_of}
 use Rattle.replay_net.proofs.SameCounts.{count_cons, same_states_count}
 use Rattle.replay_net.proofs.Settling.{settled_sets}

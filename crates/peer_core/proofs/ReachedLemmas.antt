@@ -3,8 +3,9 @@ use Rattle.std.proofs.Common.{◌≡◌, ℕ, inl, inr, ⊎_elim, Bool, true, fa
 use Rattle.std.specs.Prelude.{find, nat_eq, option_map, if◌then◌else◌}
 use Rattle.std.specs.declared.option.Option.{Option}
 use Rattle.std.specs.List.{AllByRecursion}
-use Rattle.std.proofs.lemmas.Bool.{and_parts, cases_Bool, or_left, or_right, eq-eqb, eqb-true}
+use Rattle.std.proofs.lemmas.Bool.{and_parts, or_left, or_right, eq-eqb, eqb-true}
 use Rattle.element_name.specs.Name.{Name, start, name_eq, name_lt, has_name}
+use Rattle.element_name.proofs.CaseLemmas.{option_map-None}
 use Rattle.element_name.proofs.NameOrder.{same_name, name_eq-refl, name_lt-irrefl, name_lt-asym, name_lt-trans}
 use Rattle.coop_request.specs.Request.{Request, user_of, element_of}
 use Rattle.coop_request.specs.History.{request_of, FollowsHistory}
@@ -22,6 +23,7 @@ use Rattle.request_state.specs.State.{is_tentative}
 use Rattle.request_state.specs.Table.{kept_of, is_in_order}
 use Rattle.retro_undo.proofs.Found.{IsAbove, IsAt, found_at, none_found, never_start}
 use Rattle.tomb_seq.proofs.Has.{Has}
+use Rattle.peer_core.proofs.JournalLemmas.{has_more}
 use Rattle.peer_core.specs.Reached.{is_tentative_above, elements_above, elements_of_users, reached_elements}
 
 -- ---- the walk
@@ -100,20 +102,9 @@ none_left test (k ∷ table) all = rw all.0 (none_left test table all.1)
 pub elements_end : (user : Option ℕ) (above : Name) (table : List Kept) → next_above user above table ≡ None → elements_above user above table ≡ []
 elements_end user above table none =
     ap (λ (ks : List Kept). map (λ (x : Kept). element_of x.request) ks)
-    (none_left (is_tentative_above user above) table (none_found (is_tentative_above user above) table (unmapped (find (is_tentative_above user above) table) none)))
-  where
-    unmapped : (x : Option Kept) → option_map (λ k. k.request) x ≡ None → x ≡ None
-    unmapped None e = refl
-    unmapped (Some k) e = absurd cc
+    (none_left (is_tentative_above user above) table (none_found (is_tentative_above user above) table (option_map-None (λ k. k.request) (find (is_tentative_above user above) table) none)))
 
 -- ---- what is reached stands there
-
-has_append_left : (xs ys : List Name) (n : Name) → has_name xs n ≡ true → has_name (xs ++ ys) n ≡ true
-has_append_left [] ys n h = absurd cc
-has_append_left (x ∷ xs) ys n h = ⊎_elim
-    (λ (t : name_eq n x ≡ true). or_left (name_eq n x) (has_name (xs ++ ys) n) t)
-    (λ (f : name_eq n x ≡ false). or_right (name_eq n x) (has_name (xs ++ ys) n) (has_append_left xs ys n (rw f at h)))
-    (cases_Bool (name_eq n x))
 
 has_append_right : (xs ys : List Name) (n : Name) → has_name ys n ≡ true → has_name (xs ++ ys) n ≡ true
 has_append_right [] ys n h = h
@@ -144,7 +135,7 @@ module _ (table : List Kept) (k : Kept) (there : Has table k) (waits : is_tentat
           → has_name (elements_above (Some u) start table ++ elements_of_users users table) (element_of k.request) ≡ true
       by true own g rest =
           let mine : nat_eq (user_of k.request) u ≡ true = eq-eqb (user_of k.request) u (sym (eqb-true u (user_of k.request) own)) in
-          has_append_left (elements_above (Some u) start table) (elements_of_users users table) (element_of k.request)
+          has_more (elements_above (Some u) start table) (elements_of_users users table) (element_of k.request)
           (has_element (is_tentative_above (Some u) start) table k there (rw (waits, mine, high) refl))
       by false other g rest = has_append_right (elements_above (Some u) start table) (elements_of_users users table) (element_of k.request) (rest g)
 

@@ -82,7 +82,7 @@ impl Journal {
 
     // ---- readers, which take no memory
 
-    #[tactic(auto, using(crate::proofs::Reading::within, crate::proofs::Reading::sizes))]
+    #[tactic(auto, using(crate::proofs::KeptLemmas::Reads::within, crate::proofs::KeptLemmas::Reads::sizes))]
     pub(crate) fn len(&self) -> u32
         ensures count { result ≡ length self.now }
         ensures within { IsWithin self.now }
@@ -126,7 +126,7 @@ impl Journal {
     }
 
     /// The greatest stamp of its requests.
-    #[tactic(auto, using(crate::proofs::Reading::stamps_within))]
+    #[tactic(auto, using(crate::proofs::KeptLemmas::Reads::stamps_within))]
     pub(crate) fn stamp(&self) -> u64
         ensures greatest { result ≡ greatest_stamp (requests_of self.now) }
         ensures in_range { result ≤ MAX_STAMP }
@@ -156,7 +156,7 @@ impl Journal {
     }
 
     /// The state of the request of a name.
-    #[tactic(auto, using(crate::proofs::Reading::read_state))]
+    #[tactic(auto, using(crate::proofs::KeptLemmas::Reads::read_state))]
     pub(crate) fn state(&self, id: Name) -> Option<&State>
         ensures { option_copied result ≡ option_map (state_in (requests_of self.now) (entries_of self.now)) (request_of (requests_of self.now) id) }
     {
@@ -164,7 +164,7 @@ impl Journal {
     }
 
     /// The cell of an element.
-    #[tactic(auto, using(crate::proofs::Reading::read_cell))]
+    #[tactic(auto, using(crate::proofs::KeptLemmas::Reads::read_cell))]
     pub(crate) fn cell(&self, element: Name) -> Option<&Cell>
         ensures { option_copied result ≡ cell_in (requests_of self.now) (entries_of self.now) element }
     {
@@ -172,7 +172,7 @@ impl Journal {
     }
 
     /// How many elements show.
-    #[tactic(auto, using(crate::proofs::Reading::read_shown, crate::proofs::Reading::few_shown))]
+    #[tactic(auto, using(crate::proofs::KeptLemmas::Reads::read_shown, crate::proofs::KeptLemmas::Reads::few_shown))]
     pub(crate) fn shown(&self) -> u32
         ensures { result ≡ length (shown_in (requests_of self.now) (entries_of self.now)) }
     {
@@ -180,7 +180,7 @@ impl Journal {
     }
 
     /// The element at a place among those that show.
-    #[tactic(auto, using(crate::proofs::Reading::read_shown))]
+    #[tactic(auto, using(crate::proofs::KeptLemmas::Reads::read_shown))]
     pub(crate) fn shown_at(&self, i: u32) -> Option<Name>
         ensures { result ≡ slice_get (shown_in (requests_of self.now) (entries_of self.now)) i }
     {
@@ -188,7 +188,7 @@ impl Journal {
     }
 
     /// The least name of a request that awaits its validation.
-    #[tactic(auto, using(crate::proofs::Awaiting::journal_awaiting))]
+    #[tactic(auto, using(crate::proofs::KeptLemmas::Least::journal_awaiting))]
     pub(crate) fn first_tentative(&self) -> Option<Name>
         ensures { result ≡ least_awaiting (requests_of self.now) (entries_of self.now) }
     {

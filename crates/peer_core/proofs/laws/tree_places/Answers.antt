@@ -1,4 +1,4 @@
-use Rattle.peer_core.proofs.TreePlaces.{text_place_law, span_cover_law}
+use Rattle.peer_core.proofs.TreePlaceLemmas.{text_place_law, span_cover_law}
 use Rattle.peer_core.proofs.laws.tree_places.Goals as goal
 
 pub returns : goal.returns

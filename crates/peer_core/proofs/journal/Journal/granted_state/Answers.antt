@@ -7,7 +7,7 @@ use Rattle.auth_match.specs.declared.verdict.Verdict.TheVariants.{Granted}
 use Rattle.admin_log.specs.Log.{validated_at}
 use Rattle.check_remote.specs.State.{verdict_at, state_by}
 use Rattle.peer_core.specs.Peer.{state_in}
-use Rattle.peer_core.proofs.Joined.{granted_here}
+use Rattle.peer_core.proofs.KeptLemmas.Joined.{granted_here}
 use Rattle.peer_core.proofs.journal.Journal.granted_state.Goals as goal
 
 pub returns : goal.returns

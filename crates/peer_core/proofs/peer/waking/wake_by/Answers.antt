@@ -2,7 +2,7 @@ use Rattle.std.proofs.Common.{◌≡◌, true, false, subst}
 use Rattle.std.specs.Option.{option_map_or}
 use Rattle.hold_back.specs.Hold.{messages_of}
 use Rattle.peer_core.specs.Waiting.{is_unmet, wait_rightly, woken_for}
-use Rattle.peer_core.proofs.Waits.{all_later}
+use Rattle.peer_core.proofs.WaitingLemmas.OneMore.{all_later}
 use Rattle.peer_core.proofs.peer.waking.wake_by.Goals as goal
 
 pub wake-requires-clause-waiting : goal.wake-requires-clause-waiting

@@ -10,7 +10,7 @@ use Rattle.coop_request.specs.History.{placed_of, elements_of, text_order, IsHis
 use Rattle.coop_request.proofs.Histories.{IsTree-placed_of}
 use Rattle.auth_match.proofs.OneMore.{place_below}
 use Rattle.peer_core.specs.TreePlaces.{is_before, TextPlaceLaw, SpanCoverLaw}
-use Rattle.peer_core.proofs.Histories.{has_order}
+use Rattle.peer_core.proofs.HistoryLemmas.{has_order}
 
 and_true : (a b : Bool) → b ≡ true → (a && b) ≡ a
 and_true true b h = h

@@ -1,0 +1,6 @@
+-- Lemmas on the answers of a peer, `specs/Answers.antt`.
+pub mod Refusals
+pub mod Edits
+pub mod Entries
+pub mod Received
+pub mod Settled

@@ -1,0 +1,4 @@
+-- Lemmas on sound peers, `specs/Sound.antt`.
+pub mod Keys
+pub mod Peers
+pub mod Steps

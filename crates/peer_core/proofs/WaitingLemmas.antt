@@ -1,0 +1,4 @@
+-- Lemmas on held messages that wait, `specs/Waiting.antt`.
+pub mod Rightly
+pub mod OneMore
+pub mod Woken
