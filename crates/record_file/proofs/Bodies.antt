@@ -5,15 +5,8 @@ use Rattle.std.proofs.lemmas.Bool.{cases_eq}
 use Rattle.std.proofs.lemmas.List.{append-nil}
 use Rattle.std.proofs.lemmas.List.Elements.{All-push}
 use Rattle.peer_disk.specs.Disk.{overwritten, Torn, Only}
-use Rattle.record_file.specs.Records.{file_head, record_of, records, gate_place, FitsRecord, HasBodies, Keeps, IsBeforeOrAfter, TornSince, HasNoneIfAny}
+use Rattle.record_file.specs.Records.{file_head, record_of, records, gate_place, behind_gate_of, FitsRecord, HasBodies, Keeps, IsBeforeOrAfter, TornSince, HasNoneIfAny}
 use Rattle.record_file.proofs.Torn.{torn_behind, torn_gate, wrote_behind, wrote_gate}
-
--- what is written behind a gate for a body
-abbrev pub behind_gate_of : List ℕ → List ℕ
-behind_gate_of body = to_be_bytes w16 (length body) ++ body ++ 0 ∷ []
-
-pub behind_size : (body : List ℕ) → length (behind_gate_of body) ≡ length body + 3
-behind_size body = omega (arith, length-append (to_be_bytes w16 (length body) ++ body) (0 ∷ []), length-append (to_be_bytes w16 (length body)) body)
 
 -- the head and the records of these bodies, to which the last gate comes
 abbrev pub front_of : ℕ → List (List ℕ) → List ℕ

@@ -41,3 +41,12 @@ next_there place n bytes None (Some middle) (Some new) size within is longer = a
 next_there place n bytes (Some old) (Some middle) (Some new) size within is longer =
     let middle_is : middle ≡ overwritten old (place + 1) bytes = cc is in
     omega (arith, within, longer, size, ap length middle_is, overwritten_size old (place + 1) bytes (omega (arith, within)))
+
+-- the gate of a new file
+pub first_there : (bytes : List ℕ) (old new : Option (List ℕ)) → length bytes ≡ 4 → IfSome old (λ file. file ≡ []) → new ≡ option_map (λ file. overwritten file 0 bytes) old → IfSome new (λ file. 3 < length file)
+first_there bytes None None size empty is = tt
+first_there bytes None (Some new) size empty is = absurd (cc is)
+first_there bytes (Some old) None size empty is = tt
+first_there bytes (Some old) (Some new) size empty is =
+    let new_is : new ≡ overwritten old 0 bytes = cc is in
+    omega (arith, size, ap length new_is, overwritten_size old 0 bytes (omega arith))

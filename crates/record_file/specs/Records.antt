@@ -1,5 +1,5 @@
 -- What a file of records is, and what bodies it has.
-use Rattle.std.specs.Prelude.{◌≡◌, ◌⊎◌, ⊤, ℕ, ◌+◌, ◌<◌, ◌^◌, List, [], ◌∷◌, ◌++◌, length, take, map, All, Option, Some, Vec, IfSome, IsSomeAnd, ◌≤◌}
+use Rattle.std.specs.Prelude.{◌≡◌, ◌⊎◌, ⊤, ℕ, ◌+◌, ◌-◌, ◌<◌, ◌^◌, List, [], ◌∷◌, ◌++◌, length, take, drop, map, All, Option, Some, Vec, IfSome, IsSomeAnd, ◌≤◌}
 use Rattle.std.specs.Int.{w16, to_be_bytes, from_be_bytes}
 use Rattle.peer_disk.specs.Disk.{Torn, Only}
 use mathlib.Core.Logic.{◌≢◌}
@@ -21,9 +21,21 @@ records (body ∷ bodies) = record_of body ++ records bodies
 abbrev pub gate_place : List (List ℕ) → ℕ
 gate_place bodies = 3 + length (records bodies)
 
+-- what is written behind a gate for a body: its length, the body, and the next gate, closed
+abbrev pub behind_gate_of : List ℕ → List ℕ
+behind_gate_of body = to_be_bytes w16 (length body) ++ body ++ 0 ∷ []
+
+-- the body in it: all but the length and the gate
+abbrev pub body_behind : List ℕ → List ℕ
+body_behind bytes = take (length bytes - 3) (drop 2 bytes)
+
 -- a body's length goes into two bytes
 abbrev pub FitsRecord : List ℕ → Type 0
 FitsRecord body = length body < 2 ^ 16
+
+-- the bytes are written behind the gate of a body
+abbrev pub IsBehindGate : List ℕ → Type 0
+IsBehindGate bytes = FitsRecord (body_behind bytes) × (bytes ≡ behind_gate_of (body_behind bytes))
 
 -- a file of this site has these bodies: its head, a record of each, then a closed gate, and any bytes
 pub record HasBodies (site : ℕ) (bodies : List (List ℕ)) (file : List ℕ) : Type 0 where

@@ -1,38 +1,24 @@
 //! One more record.
-ghost use Rattle.std.specs.Prelude.{◌≡◌, ◌+◌, ◌<◌, ◌≤◌, ◌^◌, ◌++◌, ◌∷◌, [], ℕ, List, IfSome, IfOk, IsErrOf, length};
-ghost use Rattle.std.specs.Int.{w16, to_be_bytes};
+ghost use Rattle.std.specs.Prelude.{◌≡◌, ◌+◌, ◌<◌, ◌^◌, ◌++◌, ◌∷◌, [], ℕ, List, IfSome, IfOk, OnErr, length};
 ghost use Rattle.edit_io.specs.Causes.{Rose};
 ghost use Rattle.peer_disk.specs.Disk.{LeavesOnly};
-ghost use Rattle.record_file.specs.Records.{Keeps, FitsRecord, IsBeforeOrAfter};
+ghost use Rattle.record_file.specs.Records.{Keeps, IsBeforeOrAfter};
 
-use crate::fault::PutFault;
+use crate::record::Record;
 use crate::synced::write_synced;
+use edit_io::Failed;
 use peer_disk::Disk;
-use std::alloc::{AllocError, Global};
 
 // An open gate.
 const OPEN: u8 = 1;
 
-// What is written behind a gate: the length of the body, the body and the next gate, closed.
-fn behind_gate(alloc: Global, body: &[u8]) -> Result<Vec<u8>, AllocError>
-    requires { FitsRecord body.now }
-    ensures { IfOk result (λ bytes. bytes.items ≡ to_be_bytes w16 (length body.now) ++ body.now ++ 0 ∷ []) }
-{
-    let mut bytes = Vec::new(alloc);
-    bytes.extend_from_slice(&(body.len() as u16).to_be_bytes())?;
-    bytes.extend_from_slice(body)?;
-    bytes.push(0)?;
-    Ok(bytes)
-}
-
-/// Adds a body to a file whose last gate stands at this place, and gives the place of the gate behind it.
+/// Adds a record to a file whose last gate stands at this place, and gives the place of the gate behind it.
 ///
 /// At `Ok` the body is on the disk: from then on each crash leaves a file that has it. It takes two writes and
-/// two syncs, whatever the length of the file, and memory for the body once. After `DiskFault` the file is to
-/// be opened again.
-pub fn put<D: Disk>(alloc: Global, disk: &mut D, place: u64, body: &[u8]) -> Result<u64, PutFault>
+/// two syncs, whatever the length of the file, and no memory. It fails where the disk did, and the file is then to be
+/// opened again: the record may be there or not.
+pub fn put<D: Disk>(disk: &mut D, place: u64, body: &Record) -> Result<u64, Failed>
     requires gate { IfSome (D.seen disk.old) (λ file. place < length file) }
-    requires short { FitsRecord body.now }
     requires room { place < 2 ^ 62 }
 
     ensures kept { IfOk result (λ next. (site : ℕ) (bodies : List (List ℕ)) → Keeps site bodies place (D.seen disk.old) (D.may_leave disk.old)
@@ -47,12 +33,10 @@ pub fn put<D: Disk>(alloc: Global, disk: &mut D, place: u64, body: &[u8]) -> Res
     ensures next_gate { IfOk result (λ next. IfSome (D.seen disk.new) (λ file. next < length file)) }
     ensures gate { IfSome (D.seen disk.new) (λ file. place < length file) }
 
-    // It gives up for a failure of the disk, or for want of memory before it has begun.
-    ensures failed { IsErrOf result PutFault.DiskFault → Rose (D.faults disk.old) (D.faults disk.new) }
-    ensures no_memory { IsErrOf result PutFault.NoMemory → disk.new ≡ disk.old }
+    // It gives up for a failure of the disk alone.
+    ensures failed { OnErr result (Rose (D.faults disk.old) (D.faults disk.new)) }
 {
-    let behind = behind_gate(alloc, body)?;
-    write_synced(disk, place + 1, &behind)?;
+    write_synced(disk, place + 1, body.behind())?;
     write_synced(disk, place, &[OPEN])?;
-    Ok(place + 3 + body.len() as u64)
+    Ok(place + 3 + body.body_len())
 }

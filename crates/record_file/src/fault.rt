@@ -1,37 +1,6 @@
-//! Why a file of records couldn't be read, or a record not be added.
+//! Why a file of records couldn't be read.
 use edit_io::Failed;
 use std::alloc::{AllocError, AllocFailed};
-
-/// Why a record wasn't added.
-#[derive(Clone, Copy, Debug, PartialEq, Eq)]
-pub enum PutFault {
-    /// The disk failed, and counted it. The record may be there or not.
-    DiskFault,
-    /// No memory was found for the record. Nothing was written.
-    NoMemory,
-}
-
-impl From<AllocError> for PutFault {
-    ghost use Rattle.std.specs.Prelude.{◌≡◌};
-    ghost use Rattle.record_file.specs.declared.fault.PutFault.TheVariants.{NoMemory};
-
-    ghost from_gives = { λ _ e. e ≡ NoMemory };
-
-    fn from(_: AllocError) -> Self {
-        PutFault::NoMemory
-    }
-}
-
-impl From<Failed> for PutFault {
-    ghost use Rattle.std.specs.Prelude.{◌≡◌};
-    ghost use Rattle.record_file.specs.declared.fault.PutFault.TheVariants.{DiskFault};
-
-    ghost from_gives = { λ _ e. e ≡ DiskFault };
-
-    fn from(_: Failed) -> Self {
-        PutFault::DiskFault
-    }
-}
 
 /// Why the bodies of a file couldn't be read.
 #[derive(Clone, Copy, Debug, PartialEq, Eq)]

@@ -10,12 +10,14 @@ mod add;
 mod fault;
 pub mod laws;
 mod make;
+mod record;
 mod synced;
 mod walk;
 mod whole;
 
 pub use add::put;
-pub use fault::{LoadFault, PutFault};
+pub use fault::LoadFault;
 pub use make::create;
+pub use record::Record;
 pub use walk::{Ending, Loaded};
 pub use whole::load;

@@ -1,5 +1,5 @@
 //! A new file of records.
-ghost use Rattle.std.specs.Prelude.{◌≡◌, ◌++◌, ◌∷◌, [], IfSome, IfOk, OnErr, OnOk, IsSome};
+ghost use Rattle.std.specs.Prelude.{◌≡◌, ◌<◌, length, ◌++◌, ◌∷◌, [], IfSome, IfOk, OnErr, OnOk, IsSome};
 ghost use Rattle.edit_io.specs.Causes.{Rose};
 ghost use Rattle.peer_disk.specs.Disk.{Only, LeavesOnly};
 ghost use Rattle.record_file.specs.Records.{file_head, Keeps, HasNoneIfAny};
@@ -26,6 +26,9 @@ pub fn create<D: Disk>(disk: &mut D, site: u16) -> Result<u64, Failed>
     requires { IfSome (D.seen disk.old) (λ file. file ≡ []) }
 
     ensures kept { IfOk result (λ place. IsSome (D.seen disk.old) → Keeps site [] place (D.seen disk.new) (D.may_leave disk.new)) }
+
+    // Its gate stands there.
+    ensures gate { IfOk result (λ place. IfSome (D.seen disk.new) (λ file. place < length file)) }
 
     // A crash at any moment leaves an empty disk, no file of this site, or the file with no bodies.
     ensures any_moment { Only [] (D.may_leave disk.old) → LeavesOnly D.moment D.left_since disk.old disk.new (HasNoneIfAny site) }

@@ -3,6 +3,7 @@ use Rattle.peer_disk.specs.Disk.{overwritten, LeavesOnly}
 use Rattle.peer_disk.proofs.Moments.{weakened}
 use Rattle.record_file.specs.Records.{HasNoneIfAny, TornSince}
 use Rattle.record_file.proofs.Bodies.{new_leaves, new_kept, at_start}
+use Rattle.record_file.proofs.Gates.{first_there}
 use Rattle.record_file.proofs.make.create.Goals as goal
 
 pub write_synced-requires : goal.write_synced-requires
@@ -19,3 +20,7 @@ returns-clause-any_moment g c only =
 pub returns-clause-kept : goal.returns-clause-kept
 returns-clause-kept g c told =
     new_kept c.args.site (g.D.Disk.seen c.args.disk.now) (g.D.Disk.seen c.write_synced.new.disk) (g.D.Disk.may_leave c.write_synced.new.disk) told c.requires (c.in_ok-write_synced.ensures.written ∙ ap (λ (b : List ℕ). option_map (λ file. overwritten file 0 b) (g.D.Disk.seen c.args.disk.now)) c.new_file.ensures) c.in_ok-write_synced.ensures.durable
+
+pub returns-clause-gate : goal.returns-clause-gate
+returns-clause-gate g c =
+    first_there _ (g.D.Disk.seen c.args.disk.now) (g.D.Disk.seen c.write_synced.new.disk) (ap length c.new_file.ensures) c.requires c.in_ok-write_synced.ensures.written
