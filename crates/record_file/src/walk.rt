@@ -1,5 +1,5 @@
 //! The bodies in the bytes of a file.
-ghost use Rattle.std.specs.Prelude.{◌≡◌, ◌⊎◌, ◌++◌, ℕ, List, All, IfOk, IfSome, IfNone, length};
+ghost use Rattle.std.specs.Prelude.{◌<◌, ◌^◌, ◌≡◌, ◌⊎◌, ◌++◌, ℕ, List, All, IfOk, IfSome, IfNone, length};
 ghost use Rattle.record_file.specs.Records.{record_of, records, FitsRecord, IsClosedGate, IsNoRecord, bytes_of_each};
 ghost use Rattle.record_file.specs.Loading.{EndsWith};
 
@@ -52,7 +52,8 @@ fn ending_of(bytes: &[u8]) -> Ending
 ///
 /// It takes time and memory in the bytes.
 pub(crate) fn parse(alloc: Global, bytes: &[u8]) -> Result<Loaded, AllocError>
-    ensures { IfOk result (λ loaded. (rest : List ℕ) × (bytes.now ≡ records (bytes_of_each loaded.bodies.items) ++ rest)
+    ensures room { length bytes.now < 2 ^ 63 }
+    ensures bodies { IfOk result (λ loaded. (rest : List ℕ) × (bytes.now ≡ records (bytes_of_each loaded.bodies.items) ++ rest)
         × All FitsRecord (bytes_of_each loaded.bodies.items) × EndsWith loaded.ending rest) }
 {
     let mut bodies = Vec::new(alloc);

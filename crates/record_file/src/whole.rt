@@ -1,8 +1,8 @@
 //! A file that a crash may have left.
-ghost use Rattle.std.specs.Prelude.{◌≡◌, ◌<◌, ℕ, List, [], IfOk, IfSome, OnOk, IsErrOf, take, length};
+ghost use Rattle.std.specs.Prelude.{◌≡◌, ◌<◌, ◌^◌, ℕ, List, [], IfOk, IfSome, OnOk, IsErrOf, take, length};
 ghost use Rattle.edit_io.specs.Causes.{Rose};
 ghost use Rattle.peer_disk.specs.Disk.{Only, LeavesOnly};
-ghost use Rattle.record_file.specs.Records.{file_head};
+ghost use Rattle.record_file.specs.Records.{file_head, gate_place, bytes_of_each};
 ghost use Rattle.record_file.specs.Loading.{Loads};
 
 use crate::fault::LoadFault;
@@ -77,6 +77,9 @@ pub fn load<D: Disk>(alloc: Global, disk: &mut D, site: u16) -> Result<Loaded, L
     ensures bodies { IfOk result (λ loaded. IfSome (D.seen disk.old) (Loads site loaded)) }
     ensures no_head { IsErrOf result LoadFault.NoHead → IfSome (D.seen disk.old) (λ file. take 3 file ≡ file_head site → ⊥) }
     ensures seen { D.seen disk.new ≡ D.seen disk.old }
+
+    // The gate behind the last body stands at a place that a number of 64 bits holds.
+    ensures room { IfOk result (λ loaded. gate_place (bytes_of_each loaded.bodies.items) < 2 ^ 64) }
 
     // From then on a crash leaves what was read.
     ensures durable { IfOk result (λ _. IfSome (D.seen disk.new) (λ file. Only file (D.may_leave disk.new))) }
