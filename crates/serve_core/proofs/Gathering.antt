@@ -1,5 +1,6 @@
 -- Passes that were joined.
 use Rattle.std.proofs.Common.{◌≡◌, ℕ, ◌+◌, List, [], ◌∷◌, ◌++◌, length, refl, sym, ap, ◌∙◌, subst, arith, append_assoc, append-nil, length-append}
+use Rattle.edit_io.specs.Door.{hurt_by}
 use Rattle.peer_core.specs.Peer.{Peer}
 use Rattle.peer_lock.specs.KnownPass.{KnownPass}
 use Rattle.peer_lock.specs.Run.{StartsWith, steps_by, peer_after_run}
@@ -14,6 +15,7 @@ use Rattle.peer_lock.proofs.ByCaller.{told-append, told_none}
 use Rattle.serve_core.specs.declared.job.Job.{Job}
 use Rattle.serve_core.specs.Gathered.{IsIn, EachOf, all_numbers, JoinsAll}
 use Rattle.serve_core.specs.Jobs.{passes_of, links_of, outcomes_of}
+use Rattle.serve_core.specs.Taken.{hurt_among}
 
 -- nothing was put behind a list that stayed
 no_more : (xs ys : List Step) → xs ++ ys ≡ xs → ys ≡ []
@@ -80,7 +82,7 @@ pub each_at : {A : Type 0} (P : A → Type 0) (xs : List A) (y : A) (zs : List A
 each_at P [] y zs h = h.0
 each_at P (x ∷ xs) y zs h = each_at P xs y zs h.1
 
-each_last : {A : Type 0} (P : A → Type 0) (xs : List A) (y : A) → EachOf P xs → P y → EachOf P (xs ++ y ∷ [])
+pub each_last : {A : Type 0} (P : A → Type 0) (xs : List A) (y : A) → EachOf P xs → P y → EachOf P (xs ++ y ∷ [])
 each_last P [] y h p = (p, tt)
 each_last P (x ∷ xs) y h p = (h.0, each_last P xs y h.1 p)
 
@@ -117,6 +119,15 @@ outcomes-append (x ∷ xs) ys = ap (λ l. x.outcome ∷ l) (outcomes-append xs y
 pub length-outcomes : {L : Type 0} (xs : List (Job L)) → length (outcomes_of xs) ≡ length xs
 length-outcomes [] = refl
 length-outcomes (x ∷ xs) = omega (arith, length-outcomes xs)
+
+-- one more link
+pub hurt-last : {L : Type 0} (faults : L → ℕ) (links : List L) (link : L) → hurt_among faults (links ++ link ∷ []) ≡ hurt_among faults links + hurt_by (faults link)
+hurt-last faults [] link = omega arith
+hurt-last faults (x ∷ links) link = omega (arith, hurt-last faults links link)
+
+pub length-passes : {L : Type 0} (xs : List (Job L)) → length (passes_of xs) ≡ length xs
+length-passes [] = refl
+length-passes (x ∷ xs) = omega (arith, length-passes xs)
 
 -- what holds of the passes of all jobs holds of one's
 pub pass_at : {L : Type 0} (P : KnownPass → Type 0) (all front : List (Job L)) (j : Job L) (back : List (Job L)) → all ≡ front ++ (j ∷ back) → EachOf P (passes_of all) → P j.pass

@@ -1,5 +1,5 @@
 -- From what each worker leaves to the whole run.
-use Rattle.std.proofs.Common.{◌≡◌, ℕ, zero, suc, ◌<◌, Bool, cond, List, [], ◌∷◌, length, take, slice_index_or, refl, sym, ap, ◌∙◌, subst, arith, eq-eqb}
+use Rattle.std.proofs.Common.{◌≡◌, ℕ, zero, suc, ◌<◌, ◌≤◌, Bool, Option, None, Some, Result, Ok, Err, cond, List, [], ◌∷◌, length, take, slice_index_or, refl, sym, ap, ◌∙◌, subst, arith, eq-eqb}
 use Rattle.peer_core.specs.Peer.{Peer, fresh_peer}
 use Rattle.peer_lock.specs.KnownPass.{KnownPass}
 use Rattle.peer_lock.specs.Run.{steps_by}
@@ -9,14 +9,16 @@ use Rattle.peer_lock.specs.Laws.{answers_by}
 use Rattle.peer_lock.specs.declared.call.Call.{Call}
 use Rattle.peer_lock.specs.declared.view.View.{View}
 use Rattle.peer_step.specs.declared.step.Step.{Step}
+use Rattle.session_core.specs.declared.fault.SessionFault.{SessionFault}
+use Rattle.session_core.specs.declared.fault.SessionFault.TheVariants as session_faults
 use Rattle.session_core.specs.Session.{pass_steps, pass_answers}
 use Rattle.serve_core.specs.declared.job.Job.{Job}
 use Rattle.serve_core.specs.declared.own.OwnEnd.{OwnEnd}
 use Rattle.serve_core.specs.declared.own.OwnEnd.TheVariants.{Done, RunFull, NoMemory}
 use Rattle.serve_core.specs.Gathered.{IsIn, EachOf, all_numbers}
 use Rattle.serve_core.specs.Jobs.{passes_of}
-use Rattle.serve_core.specs.Worked.{OwnMade, MakesOwn}
-use Rattle.serve_core.specs.Served.{OwnIn}
+use Rattle.serve_core.specs.Worked.{OwnMade, MakesOwn, EndedSo}
+use Rattle.serve_core.specs.Served.{OwnIn, IsFullRun}
 use Rattle.serve_core.proofs.Gathering.{kept_in_run}
 
 -- what holds at each index holds of each pass
@@ -41,10 +43,10 @@ pub has_one : (n : ℕ) (ns : List ℕ) → ns ≡ n ∷ [] → HasNumber ns n
 has_one n ns e = subst (λ (l : List ℕ). HasNumber l n) (sym e) (has_self n)
 
 -- the own steps in the whole run
-pub own_steps_in_run : (v w : View) (m site : ℕ) (steps : List Step) (r : OwnEnd) (run : List Call) → v ≡ newcomer 0 m site → steps_by 0 run ≡ steps_by 0 w.seen → MakesOwn v w steps r → OwnIn steps r run
-own_steps_in_run v w m site steps Done run e same made = let own : OwnMade (newcomer 0 m site) w steps = subst (λ (x : View). OwnMade x w steps) e made in same ∙ own
-own_steps_in_run v w m site steps RunFull run e same made = let own : OwnMade (newcomer 0 m site) w (take made.1.0 steps) = subst (λ (x : View). OwnMade x w (take made.1.0 steps)) e made.1.1 in (made.1.0, same ∙ own)
-own_steps_in_run v w m site steps NoMemory run e same made = let own : OwnMade (newcomer 0 m site) w (take made.0 steps) = subst (λ (x : View). OwnMade x w (take made.0 steps)) e made.1 in (made.0, same ∙ own)
+pub own_steps_in_run : (v w : View) (m site : ℕ) (steps : List Step) (r : OwnEnd) (run : List Call) → v ≡ newcomer 0 m site → steps_by 0 run ≡ steps_by 0 w.seen → w.floor ≤ length run → MakesOwn v w steps r → OwnIn steps r run
+own_steps_in_run v w m site steps Done run e same floor made = let own : OwnMade (newcomer 0 m site) w steps = subst (λ (x : View). OwnMade x w steps) e made in same ∙ own
+own_steps_in_run v w m site steps RunFull run e same floor made = let own : OwnMade (newcomer 0 m site) w (take made.1.0 steps) = subst (λ (x : View). OwnMade x w (take made.1.0 steps)) e made.1.1 in (omega (arith, floor, made.0), (made.1.0, same ∙ own))
+own_steps_in_run v w m site steps NoMemory run e same floor made = let own : OwnMade (newcomer 0 m site) w (take made.0 steps) = subst (λ (x : View). OwnMade x w (take made.0 steps)) e made.1 in (made.0, same ∙ own)
 
 -- the steps of a pass of one number that was joined to the last one, in the whole run
 pub steps_in_run : (k last : KnownPass) (p : Peer) (run : List Call) (n : ℕ) → k.view.number ≡ n → k.view.numbers ≡ n ∷ [] → IsIn k.view last.view → ClosesRun last.view p run
@@ -60,3 +62,14 @@ answers_in_run k last p run n site number numbers origin i c =
     kept_in_run k.view last.view p run (fresh_peer site) n i c (has_one n k.view.numbers numbers)
     ∙ ap (λ (o : ℕ). answers_by n (fresh_peer o) k.view.seen) (sym origin)
     ∙ ap (λ (m : ℕ). answers_by m (fresh_peer k.view.origin) k.view.seen) (sym number)
+
+-- a session that met the full run, and whose pass was joined to the last one
+pub full_in_run : {L : Type 0} (got sent : L → Option (List (List ℕ))) (faults closes : L → ℕ) (validates : Bool) (a b : Job L) (o : Option (Result ℕ SessionFault)) (last : View) (p : Peer) (run : List Call)
+    → EndedSo got sent faults closes validates a b o → o ≡ Some (Err session_faults.RunFull) → IsIn b.pass.view last → ClosesRun last p run → IsFullRun run
+full_in_run got sent faults closes validates a b None last p run ended is i c = cc
+full_in_run got sent faults closes validates a b (Some (Ok n)) last p run ended is i c = cc
+full_in_run got sent faults closes validates a b (Some (Err session_faults.LinkFault)) last p run ended is i c = cc
+full_in_run got sent faults closes validates a b (Some (Err session_faults.Closed)) last p run ended is i c = cc
+full_in_run got sent faults closes validates a b (Some (Err (session_faults.BadFrame fault))) last p run ended is i c = cc
+full_in_run got sent faults closes validates a b (Some (Err session_faults.RunFull)) last p run ended is i c = omega (arith, ended.3, i.floor, c.floor)
+full_in_run got sent faults closes validates a b (Some (Err session_faults.NoMemory)) last p run ended is i c = cc

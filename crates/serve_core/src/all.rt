@@ -54,7 +54,7 @@ pub fn serve_jobs<D: Door, R: Threads + Wait + Sync>(
     // The own steps are those of the list, or, where they were cut, the first ones.
     ensures own { OwnIn steps.now result.own result.history }
     // Each link stands, with its outcome, to its caller in the run as a session does, and comes back in order.
-    ensures links { LinksIn D.Line.got D.Line.sent D.Line.faults D.Line.closes site jobs.items (D.used door.old) (D.used door.new) result.links.items result.history }
+    ensures links { LinksIn D.Line.got D.Line.sent D.Line.faults D.Line.closes site jobs.items (D.used door.old) (D.used door.new) (D.hurt door.old) (D.hurt door.new) result.links.items result.history }
     ensures returned { D.returned door.new ≡ D.returned door.old + vec_len jobs }
     ensures given { D.given door.new ≡ D.given door.old }
     ensures faults { D.faults door.new ≡ D.faults door.old }

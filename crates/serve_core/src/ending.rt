@@ -3,6 +3,7 @@ ghost use Rattle.std.specs.Prelude.{◌≡◌, ◌+◌, ◌≤◌, ◌++◌, vec
 ghost use Rattle.edit_io.specs.Link.{with_last};
 ghost use Rattle.serve_core.specs.Gathered.{EachOf, JoinsAll};
 ghost use Rattle.serve_core.specs.Jobs.{passes_of, links_of, outcomes_of};
+ghost use Rattle.serve_core.specs.Taken.{hurt_among};
 
 use crate::job::Job;
 use edit_io::Door;
@@ -28,6 +29,7 @@ pub fn finish_jobs<D: Door>(
     ensures used { D.used door.new ≡ with_last (D.used door.old) (links_of jobs.items) }
     ensures given { D.given door.new ≡ D.given door.old }
     ensures returned { D.returned door.new ≡ D.returned door.old + vec_len jobs }
+    ensures hurt { D.hurt door.new ≡ D.hurt door.old + hurt_among D.Line.faults (links_of jobs.items) }
     ensures faults { D.faults door.new ≡ D.faults door.old }
     ensures outcomes { outcomes.new.items ≡ outcomes.old.items ++ outcomes_of jobs.items }
 {

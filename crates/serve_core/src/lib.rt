@@ -6,9 +6,11 @@ mod ending;
 mod job;
 mod own;
 mod run;
+mod taking;
 mod work;
 
 pub use all::{LeftByWorkers, serve_jobs};
 pub use ending::finish_jobs;
 pub use job::Job;
-pub use own::OwnEnd;
+pub use own::{OwnEnd, make_own};
+pub use taking::take_links;

@@ -18,8 +18,10 @@ pub enum OwnEnd {
     NoMemory,
 }
 
-/// Makes all steps of a list, in their order.
-pub(crate) fn make_all<R: Wait>(
+/// Makes all steps of a list, in their order, until the run is full or memory is wanting.
+///
+/// It waits for the gate of the shared peer, and takes the time of the steps.
+pub fn make_own<R: Wait>(
     rt: &R,
     shared: &SharedPeer,
     mut pass: Pass,

@@ -5,7 +5,7 @@ ghost use Rattle.peer_lock.specs.Answers.{IsSame};
 ghost use Rattle.serve_core.specs.Worked.{MakesOwn, Worked};
 
 use crate::job::Job;
-use crate::own::{OwnEnd, make_all};
+use crate::own::{OwnEnd, make_own};
 use crate::work::work_all;
 use edit_io::Link;
 use peer_lock::{Pass, SharedPeer};
@@ -51,7 +51,7 @@ pub(crate) fn run_workers<L: Link + Send + Drop, R: Threads + Wait + Sync>(
         || -> (Pass, OwnEnd)
             requires { pass.table ≡ shared.now }
             ensures { IsSame pass result.0 × MakesOwn pass.view result.0.view steps.entry.now result.1 }
-        { make_all(rt, shared, pass, steps) },
+        { make_own(rt, shared, pass, steps) },
         || -> Vec<Job<L>>
             requires { IsSync R.row × ((i : ℕ) (d : _) → i < vec_len jobs → (slice_index_or jobs.items i d).pass.table ≡ shared.now) }
             ensures many { vec_len result ≡ vec_len jobs }

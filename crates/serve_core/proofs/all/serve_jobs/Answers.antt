@@ -6,7 +6,7 @@ use Rattle.peer_lock.specs.Run.{peer_after_run}
 use Rattle.peer_lock.specs.declared.view.View.{View}
 use Rattle.serve_core.specs.Gathered.{IsIn}
 use Rattle.serve_core.specs.Jobs.{outcomes_of}
-use Rattle.serve_core.proofs.Wholly.{each_pass, each_index, all_numbers-ones, has_one, own_steps_in_run, steps_in_run, answers_in_run}
+use Rattle.serve_core.proofs.Wholly.{each_pass, each_index, all_numbers-ones, has_one, own_steps_in_run, steps_in_run, answers_in_run, full_in_run}
 use Rattle.serve_core.proofs.all.serve_jobs.Goals as goal
 
 pub finish_jobs-requires-clause-theirs : goal.finish_jobs-requires-clause-theirs
@@ -53,7 +53,7 @@ returns-clause-own g c =
     let mine : HasNumber k.view.numbers 0 = has_one 0 k.view.numbers (c.run_workers-pass.ensures.own.0.numbers ∙ ap (λ (v : View). v.numbers) c.requires.own.1) in
     let joined = c.finish_jobs.ensures.joined.mine in
     own_steps_in_run c.args.pass.view k.view _ c.args.site c.args.steps.now c.run_workers-pass.result.0.1 c.close-peer.result.1 c.requires.own.1
-    (c.close-peer.ensures.closes.steps 0 (joined.numbers 0 mine) ∙ joined.steps 0 mine) c.run_workers-pass.ensures.own.1
+    (c.close-peer.ensures.closes.steps 0 (joined.numbers 0 mine) ∙ joined.steps 0 mine) (omega (arith, joined.floor, c.close-peer.ensures.closes.floor)) c.run_workers-pass.ensures.own.1
 
 pub returns-clause-links : goal.returns-clause-links
 returns-clause-links g c =
@@ -62,6 +62,7 @@ returns-clause-links g c =
       after = after;
       many = omega (arith, c.run_workers-pass.ensures.many, c.run_workers-pass.result.1.ok.0, c.args.jobs.ok.0);
       used_is = c.finish_jobs.ensures.used;
+      hurt_is = c.finish_jobs.ensures.hurt;
       outcomes_are = c.finish_jobs.ensures.outcomes ∙ ap (λ l. l ++ outcomes_of after) c.requires.room.0;
       worked = λ i d h. let fewer : i < vec_len c.args.jobs = omega (arith, c.args.jobs.ok.0) in c.run_workers-pass.ensures.each i d fewer;
       steps_are = λ i d h.
@@ -74,6 +75,14 @@ returns-clause-links g c =
           let numbers : k.view.numbers ≡ (i + 1) ∷ [] = same.numbers ∙ ap (λ (v : View). v.numbers) dealt in
           let joined = each_index (λ (x : KnownPass). IsIn x.view last.view) after i d c.finish_jobs.ensures.joined.theirs less in
           steps_in_run k last c.close-peer.result.0 c.close-peer.result.1 (i + 1) number numbers joined c.close-peer.ensures.closes;
+      full = λ i d h is.
+          let before = slice_index_or c.args.jobs.items i d in
+          let job = slice_index_or after i d in
+          let fewer : i < vec_len c.args.jobs = omega (arith, c.args.jobs.ok.0) in
+          let less : i < length after = omega (arith, c.run_workers-pass.ensures.many, c.run_workers-pass.result.1.ok.0, c.args.jobs.ok.0) in
+          let joined = each_index (λ (x : KnownPass). IsIn x.view last.view) after i d c.finish_jobs.ensures.joined.theirs less in
+          full_in_run g.D.Line.Link.got g.D.Line.Link.sent g.D.Line.Link.faults g.D.Line.Link.closes _ before job job.outcome last.view c.close-peer.result.0 c.close-peer.result.1
+          (c.run_workers-pass.ensures.each i d fewer).ended is joined c.close-peer.ensures.closes;
       answers_are = λ i d h.
           let k = (slice_index_or after i d).pass in
           let fewer : i < vec_len c.args.jobs = omega (arith, c.args.jobs.ok.0) in

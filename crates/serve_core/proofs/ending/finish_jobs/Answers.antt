@@ -4,7 +4,8 @@ use Rattle.peer_lock.specs.KnownPass.{KnownPass}
 use Rattle.session_core.proofs.Talks.{with_last-append, with_last-nil}
 use Rattle.serve_core.specs.Gathered.{JoinsAll}
 use Rattle.serve_core.specs.Jobs.{passes_of, links_of, outcomes_of}
-use Rattle.serve_core.proofs.Gathering.{joins_none, joins_last, passes-append, links-append, outcomes-append, length-outcomes, pass_at}
+use Rattle.serve_core.specs.Taken.{hurt_among}
+use Rattle.serve_core.proofs.Gathering.{joins_none, joins_last, passes-append, links-append, outcomes-append, length-outcomes, pass_at, hurt-last}
 use Rattle.serve_core.proofs.ending.finish_jobs.Goals as goal
 
 pub loop-job-init : goal.loop-job-init
@@ -16,6 +17,7 @@ loop-job-init g c = (
   refl,
   omega arith,
   refl,
+  omega arith,
   sym (append-nil c.args.outcomes.now.items),
   refl,
 )
@@ -36,8 +38,9 @@ loop-job-preserved g c =
       c.back.ensures.given ∙ inv.4,
       omega (arith, c.back.ensures.returned, inv.5, length-append done (job ∷ [])),
       c.back.ensures.faults ∙ inv.6,
-      c.push_reserved.ensures.items ∙ ap (λ l. l ++ job.outcome ∷ []) inv.7 ∙ append_assoc c.args.outcomes.now.items (outcomes_of done) (job.outcome ∷ []) ∙ ap (λ l. c.args.outcomes.now.items ++ l) (sym (outcomes-append done (job ∷ []))),
-      c.push_reserved.ensures.capacity ∙ inv.8,
+      omega (arith, c.back.ensures.hurt, inv.7, ap (hurt_among g.D.Line.Link.faults) (links-append done (job ∷ [])), hurt-last g.D.Line.Link.faults (links_of done) job.link),
+      c.push_reserved.ensures.items ∙ ap (λ l. l ++ job.outcome ∷ []) inv.8 ∙ append_assoc c.args.outcomes.now.items (outcomes_of done) (job.outcome ∷ []) ∙ ap (λ l. c.args.outcomes.now.items ++ l) (sym (outcomes-append done (job ∷ []))),
+      c.push_reserved.ensures.capacity ∙ inv.9,
     )
 
 pub join-requires-clause-theirs : goal.join-requires-clause-theirs
@@ -50,4 +53,4 @@ pub push_reserved-requires : goal.push_reserved-requires
 push_reserved-requires g c =
     let inv = c.loop-job.invariant in
     let split : c.args.jobs.items ≡ inv.0 ++ (c.in-Some.job ∷ c.pop_front.new.self.items) = inv.1 ∙ ap (λ l. inv.0 ++ l) c.in-Some.ensures.items in
-    omega (arith, ap length inv.7, length-append c.args.outcomes.now.items (outcomes_of inv.0), length-outcomes inv.0, inv.8, ap length split, length-append inv.0 (c.in-Some.job ∷ c.pop_front.new.self.items), c.requires.room, c.loop-job.outcomes.ok.0, c.args.outcomes.now.ok.0, c.args.jobs.ok.0)
+    omega (arith, ap length inv.8, length-append c.args.outcomes.now.items (outcomes_of inv.0), length-outcomes inv.0, inv.9, ap length split, length-append inv.0 (c.in-Some.job ∷ c.pop_front.new.self.items), c.requires.room, c.loop-job.outcomes.ok.0, c.args.outcomes.now.ok.0, c.args.jobs.ok.0)

@@ -4,6 +4,7 @@ use Rattle.edit_io.specs.Link.{with_last}
 use Rattle.serve_core.specs.declared.job.Job.{Job}
 use Rattle.serve_core.specs.Gathered.{JoinsAll}
 use Rattle.serve_core.specs.Jobs.{passes_of, links_of, outcomes_of}
+use Rattle.serve_core.specs.Taken.{hurt_among}
 use Rattle.serve_core.proofs.ending.finish_jobs.Given as goal
 
 abbrev pub invariant-loop-job : goal.invariant-loop-job
@@ -15,6 +16,7 @@ invariant-loop-job g l =
     × (g.D.Door.given l.door ≡ g.D.Door.given l.fn.door)
     × (g.D.Door.returned l.door ≡ g.D.Door.returned l.fn.door + length done)
     × (g.D.Door.faults l.door ≡ g.D.Door.faults l.fn.door)
+    × (g.D.Door.hurt l.door ≡ g.D.Door.hurt l.fn.door + hurt_among g.D.Line.Link.faults (links_of done))
     × (l.outcomes.items ≡ l.fn.outcomes.items ++ outcomes_of done)
     × (vec_capacity l.outcomes ≡ vec_capacity l.fn.outcomes)
 
