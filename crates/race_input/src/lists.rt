@@ -8,18 +8,19 @@ use crate::worker::{Worker, worker_of};
 use edit_io::{Sink, Source};
 use element_name::NoMemory;
 use line_engine::{LineFail, Lines, Status, run_world};
+use packed_step::PackedStep;
 use peer_lock::MAX_RUN;
 use peer_step::Step;
 use std::alloc::Global;
 use std::marker::Model;
 use step_read::step_line;
 
-/// The steps that three workers run, each in its order.
+/// The steps that three workers run, each in its order, and packed.
 #[derive(Drop)]
 pub struct WorkLists {
-    edits: Vec<Step>,
-    arrivals: Vec<Step>,
-    operations: Vec<Step>,
+    edits: Vec<PackedStep>,
+    arrivals: Vec<PackedStep>,
+    operations: Vec<PackedStep>,
 }
 
 impl Model for WorkLists {
@@ -54,20 +55,22 @@ impl WorkLists {
     }
 
     /// Puts a step last in the list of its worker.
-    fn push(&mut self, step: Step) -> Result<(), NoMemory>
+    fn push(&mut self, alloc: Global, step: Step) -> Result<(), NoMemory>
         requires { step_count self.old < MAX_RUN }
         ensures { OnOk result (self.new ≡ with_step self.old step) }
     {
-        match worker_of(&step) {
-            Worker::Editor => self.edits.push(step)?,
-            Worker::Receiver => self.arrivals.push(step)?,
-            Worker::Administrator => self.operations.push(step)?,
+        let worker = worker_of(&step);
+        let packed = PackedStep::of(alloc, step)?;
+        match worker {
+            Worker::Editor => self.edits.push(packed)?,
+            Worker::Receiver => self.arrivals.push(packed)?,
+            Worker::Administrator => self.operations.push(packed)?,
         }
         Ok(())
     }
 
     /// The steps of the worker that edits, of the one that takes what arrives, and of the one that changes the policy.
-    pub fn into_lists(self) -> (Vec<Step>, Vec<Step>, Vec<Step>)
+    pub fn into_lists(self) -> (Vec<PackedStep>, Vec<PackedStep>, Vec<PackedStep>)
         ensures edits { result.0.items ≡ self.edits }
         ensures arrivals { result.1.items ≡ self.arrivals }
         ensures operations { result.2.items ≡ self.operations }
@@ -92,7 +95,7 @@ impl Lines for WorkLists {
             return Err(LineFail::Bad);
         }
         let step = step_line(alloc, line)?;
-        match self.push(step) {
+        match self.push(alloc, step) {
             Ok(()) => Ok(()),
             Err(NoMemory) => Err(LineFail::NoMemory),
         }
@@ -107,7 +110,7 @@ impl Lines for WorkLists {
 ///
 /// It reads the input to its end before it gives the lists. At a bad line, or one more than [`MAX_RUN`], the line
 /// that says so is written and reading ends; where the input is longer than [`MAX_INPUT`](line_engine::MAX_INPUT)
-/// bytes, `too long` is written; otherwise nothing is. It takes time in the bytes, and the memory of the steps.
+/// bytes, `too long` is written; otherwise nothing is. It takes time in the bytes, and the memory of the steps, packed.
 pub fn read_lists<S: Source, K: Sink>(
     alloc: Global,
     source: &mut S,

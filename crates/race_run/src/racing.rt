@@ -11,9 +11,9 @@ ghost use Rattle.race_run.specs.Work.{IsSameWorker, Works};
 use crate::gate::Gate;
 use crate::worker::{Ended, work};
 use element_name::NoMemory;
+use packed_step::PackedStep;
 use peer_core::Peer;
 use peer_lock::{History, Pass, SharedPeer};
-use peer_step::Step;
 use std::alloc::Global;
 use std::sync::Wait;
 use std::thread::{Threads, join};
@@ -43,8 +43,8 @@ fn work_beside<R: Threads + Wait + Sync, G: Gate + Sync>(
     shared: &SharedPeer,
     one: Pass,
     two: Pass,
-    arrivals: &[Step],
-    operations: &[Step],
+    arrivals: &[PackedStep],
+    operations: &[PackedStep],
     gate: &G,
 ) -> ((Pass, Ended), (Pass, Ended))
     requires one { one.table ≡ shared.now }
@@ -72,9 +72,9 @@ fn race_lists<R: Threads + Wait + Sync, G: Gate + Sync>(
     rt: &R,
     alloc: Global,
     site: u16,
-    edits: &[Step],
-    arrivals: &[Step],
-    operations: &[Step],
+    edits: &[PackedStep],
+    arrivals: &[PackedStep],
+    operations: &[PackedStep],
     gate: &G,
 ) -> Result<(Peer, History), NoMemory>
     requires { length edits.now + length arrivals.now + length operations.now ≤ MAX_RUN }
@@ -124,9 +124,9 @@ pub fn race<R: Threads + Wait + Sync, G: Gate + Sync>(
     rt: &R,
     alloc: Global,
     site: u16,
-    edits: Vec<Step>,
-    arrivals: Vec<Step>,
-    operations: Vec<Step>,
+    edits: Vec<PackedStep>,
+    arrivals: Vec<PackedStep>,
+    operations: Vec<PackedStep>,
     gate: &G,
 ) -> Result<(Peer, History), NoMemory>
     requires { length edits.items + length arrivals.items + length operations.items ≤ MAX_RUN }

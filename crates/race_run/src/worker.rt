@@ -4,8 +4,8 @@ ghost use Rattle.peer_lock.specs.declared.limits.TheConstants.{MAX_RUN};
 ghost use Rattle.race_run.specs.Work.{IsSameWorker, Works};
 
 use crate::gate::Gate;
+use packed_step::PackedStep;
 use peer_lock::{Pass, SharedPeer, StepFail};
-use peer_step::Step;
 use std::sync::Wait;
 
 /// How a worker ended.
@@ -24,7 +24,7 @@ pub(crate) fn work<R: Wait, G: Gate>(
     rt: &R,
     shared: &SharedPeer,
     mut pass: Pass,
-    steps: &[Step],
+    steps: &[PackedStep],
     gate: &G,
 ) -> (Pass, Ended)
     requires own { pass.table ≡ shared.now }
@@ -36,10 +36,10 @@ pub(crate) fn work<R: Wait, G: Gate>(
     let mut made = 0;
     for step in steps {
         gate.pass(worker, made);
-        let Ok(copy) = step.copied() else {
+        let Ok(step) = step.copied() else {
             return (pass, Ended::Short);
         };
-        match shared.step(rt, &mut pass, copy) {
+        match shared.step(rt, &mut pass, step) {
             Ok(_) => {}
             Err(StepFail::RunFull) => return (pass, Ended::Full),
             Err(StepFail::NoMemory) => return (pass, Ended::Short),
