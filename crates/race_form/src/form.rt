@@ -30,7 +30,10 @@ fn race_lists<R: Threads + Wait + Sync, K: Sink, G: Gate + Sync>(
 {
     let (edits, arrivals, operations) = lists.into_lists();
     match race(rt, alloc, site, edits, arrivals, operations, gate) {
-        Ok((_, history)) => report(alloc, site, &history, sink),
+        Ok((peer, history)) => {
+            drop(peer);
+            report(alloc, site, &history, sink)
+        }
         Err(_) => Status::NoMemory,
     }
 }

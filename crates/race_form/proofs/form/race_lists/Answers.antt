@@ -1,8 +1,8 @@
 use Rattle.race_form.proofs.Races.{nothing_said, handed}
 use Rattle.race_form.proofs.form.race_lists.Goals as goal
 
-pub returns-clause-reported : goal.returns-clause-reported
-returns-clause-reported g c = nothing_said c.args.site _ _ _ _
+pub returns-in-Err-clause-reported : goal.returns-in-Err-clause-reported
+returns-in-Err-clause-reported g c = nothing_said c.args.site _ _ _ _
 
 pub returns-in-Ok-clause-reported : goal.returns-in-Ok-clause-reported
 returns-in-Ok-clause-reported g c =
