@@ -13,7 +13,8 @@ mod splitter;
 mod writing;
 
 pub use decoding::decode;
+pub use fail::FrameFail;
 pub use frame::{DecodeFail, Frame, FrameFault, FrameKind};
 pub use limits::{MAX_LENGTH, MIN_LENGTH};
-pub use splitter::Splitter;
+pub use splitter::{Splitter, first_frame};
 pub use writing::encode;

@@ -109,8 +109,9 @@ fn is_truncated(kind: FrameKind) -> bool
     matches!(kind, FrameKind::Truncated)
 }
 
-// The first frame with its length, if its bytes are there.
-fn first_frame(alloc: Global, bytes: &[u8]) -> Result<Option<(Frame, usize)>, FrameFail>
+/// The first frame of a stream's bytes with its length in bytes; none where its bytes aren't all there. Takes time in the
+/// frame's length, and memory for the lists of an authorization and of an object's elements alone.
+pub fn first_frame(alloc: Global, bytes: &[u8]) -> Result<Option<(Frame, usize)>, FrameFail>
     ensures { FirstGives bytes.now result }
 {
     if let Some(kind) = cut_fault(bytes) {
