@@ -4,7 +4,7 @@ use Rattle.std.specs.declared.option.Option.{Option}
 use Rattle.std.specs.Io.KnownBytes.{Keeps}
 use Rattle.std.proofs.lemmas.Bool.{true≢false}
 use Rattle.line_engine.specs.declared.status.Status.{Status}
-use Rattle.line_engine.specs.declared.status.Status.TheVariants.{Done, Usage, ReadFault}
+use Rattle.line_engine.specs.declared.status.Status.TheVariants.{Done, ReadFault}
 use Rattle.line_engine.specs.Status.{IsSinkFail}
 use Rattle.line_engine.specs.Output.{Output, Ends}
 use Rattle.line_engine.specs.Engine.{Told, Says, Ran}
