@@ -28,8 +28,6 @@ use Rattle.edit_message.specs.Message.{key_of, requests_of, entries_of}
 use Rattle.edit_message.specs.Missing.{missing_of, missing_end}
 use Rattle.admin_log.specs.Log.{FollowsLog, entry_fault, push_fault}
 use Rattle.admin_log.proofs.Logs.{follows_pushed}
-use Rattle.tomb_seq.specs.declared.slot.Slot.{Slot}
-use Rattle.tomb_seq.specs.Slots.{names_in}
 use Rattle.tomb_seq.specs.Insert.{insert_fault}
 use Rattle.tomb_seq.proofs.SlotEdits.{IsFree-no_fault}
 use Rattle.peer_core.specs.Kept.{IsPlaceable, names_after}
@@ -104,22 +102,22 @@ within_more J m within follows formed few =
       entries = entries_within (J ++ m ∷ []) journal all;
     }
 
-pub none_read : (log : List Entry) (slots : List Slot) (ids : BTreeSet Name) → log ≡ [] → slots ≡ [] → ((n : Name) → contains name_cmp ids n ≡ false) → btree_set_len ids ≡ 0
-    → IsBasisOf [] log slots ids
-none_read log slots ids no_log no_slots none size = record {
+pub none_read : (log : List Entry) (names : List Name) (ids : BTreeSet Name) → log ≡ [] → names ≡ [] → ((n : Name) → contains name_cmp ids n ≡ false) → btree_set_len ids ≡ 0
+    → IsBasisOf [] log names ids
+none_read log names ids no_log no_names none size = record {
   within = record { journal_is = tt; formed = refl; requests = omega arith; entries = omega arith };
   entries = no_log;
-  elements = ap names_in no_slots;
+  elements = no_names;
   known = none;
   count = size;
 }
 
-module _ (J : List Message) (log : List Entry) (slots : List Slot) (ids : BTreeSet Name) (basis : IsBasisOf J log slots ids) where
-  names_known : (n : Name) → has_name (names_in slots) n ≡ has_name (elements_of (requests_of J)) n
+module _ (J : List Message) (log : List Entry) (names : List Name) (ids : BTreeSet Name) (basis : IsBasisOf J log names ids) where
+  names_known : (n : Name) → has_name names n ≡ has_name (elements_of (requests_of J)) n
   names_known n = ap (λ (names : List Name). has_name names n) basis.elements ∙ has_order (requests_of J) n (known_law J basis.within.journal_is).history
 
   module _ (q : Request) where
-    request_follows : IsAccepted q → contains name_cmp ids q.id ≡ false → nat_le q.version (length log) ≡ true → is_placeable (names_in slots) q.id q.edit ≡ true
+    request_follows : IsAccepted q → contains name_cmp ids q.id ≡ false → nat_le q.version (length log) ≡ true → is_placeable names q.id q.edit ≡ true
         → FollowsJournal J (Coop q)
     request_follows accepted new version there =
         let front : nat_lt (length (entries_of J)) q.version ≡ false =
@@ -128,21 +126,21 @@ module _ (J : List Message) (log : List Entry) (slots : List Slot) (ids : BTreeS
         record {
           new = sym (no_request_key J q) ∙ sym (basis.known q.id) ∙ new;
           complete = none_missed (length (entries_of J)) (elements_of (requests_of J)) q front
-              (ap (λ b. name_eq (anchor_or_target q.edit) start || b) (sym (names_known (anchor_or_target q.edit))) ∙ anchored (names_in slots) q.id q.edit there);
+              (ap (λ b. name_eq (anchor_or_target q.edit) start || b) (sym (names_known (anchor_or_target q.edit))) ∙ anchored names q.id q.edit there);
           legal = accepted;
         }
 
     -- a request that may join follows, and is kept
-    pub request_taken : (new_slots : List Slot) (new_ids : BTreeSet Name) → IsAccepted q → is_message (Coop q) ≡ true
-        → contains name_cmp ids q.id ≡ false → may_join (length log) (names_in slots) (btree_set_len ids) q ≡ true
-        → names_in new_slots ≡ names_after (names_in slots) q.id q.edit
+    pub request_taken : (new_names : List Name) (new_ids : BTreeSet Name) → IsAccepted q → is_message (Coop q) ≡ true
+        → contains name_cmp ids q.id ≡ false → may_join (length log) names (btree_set_len ids) q ≡ true
+        → new_names ≡ names_after names q.id q.edit
         → ((n : Name) → contains name_cmp new_ids n ≡ (name_eq q.id n || contains name_cmp ids n))
         → btree_set_len new_ids ≡ btree_set_len ids + 1
-        → IsBasisOf (J ++ Coop q ∷ []) log new_slots new_ids
-    request_taken new_slots new_ids accepted formed new joins names noted count =
+        → IsBasisOf (J ++ Coop q ∷ []) log new_names new_ids
+    request_taken new_names new_ids accepted formed new joins placed noted count =
         let R = requests_of J in
-        let parts = and_parts (nat_lt (btree_set_len ids) MAX_REQUESTS) (nat_le q.version (length log) && is_placeable (names_in slots) q.id q.edit) joins in
-        let rest = and_parts (nat_le q.version (length log)) (is_placeable (names_in slots) q.id q.edit) parts.1 in
+        let parts = and_parts (nat_lt (btree_set_len ids) MAX_REQUESTS) (nat_le q.version (length log) && is_placeable names q.id q.edit) joins in
+        let rest = and_parts (nat_le q.version (length log)) (is_placeable names q.id q.edit) parts.1 in
         let follows = request_follows accepted new rest.0 rest.1 in
         let more = requests_request J q in
         let size : length (requests_of (J ++ Coop q ∷ [])) ≡ length R + 1 = ap (λ (S : List Request). length S) more ∙ length-append R (q ∷ []) in
@@ -150,7 +148,7 @@ module _ (J : List Message) (log : List Entry) (slots : List Slot) (ids : BTreeS
         record {
           within = within_more J (Coop q) basis.within follows formed (omega (arith, size, few));
           entries = basis.entries ∙ sym (entries_request J q);
-          elements = names ∙ ap (λ (xs : List Name). names_after xs q.id q.edit) basis.elements
+          elements = placed ∙ ap (λ (xs : List Name). names_after xs q.id q.edit) basis.elements
               ∙ sym (order_push R q (known_law J basis.within.journal_is).history (follows_history J q follows)) ∙ ap text_order (sym more);
           known = λ n. noted n ∙ ap (λ b. name_eq q.id n || b) (basis.known n)
               ∙ either (name_eq q.id n) (list_any (λ r. name_eq r.id n) R)
@@ -172,7 +170,7 @@ module _ (J : List Message) (log : List Entry) (slots : List Slot) (ids : BTreeS
         let none = basis.known q.id ∙ no_request_key J q ∙ follows.new in
         absurd (cc (there, none))
 
-    pub request_refused : may_join (length log) (names_in slots) (btree_set_len ids) q ≡ false → ¬ IsWithin (J ++ Coop q ∷ [])
+    pub request_refused : may_join (length log) names (btree_set_len ids) q ≡ false → ¬ IsWithin (J ++ Coop q ∷ [])
     request_refused refused within =
         let R = requests_of J in
         let follows = EachAfter-last FollowsJournal J (Coop q) within.journal_is in
@@ -183,24 +181,24 @@ module _ (J : List Message) (log : List Entry) (slots : List Slot) (ids : BTreeS
         let room : nat_lt (btree_set_len ids) MAX_REQUESTS ≡ true = let before = basis.count in grind (arith, nat_tests) in
         let late = (request_here (length (entries_of J)) (elements_of R) q follows.complete).version in
         let version : nat_le q.version (length (entries_of J)) ≡ true = grind (arith, nat_tests) in
-        let there : is_placeable (names_in slots) q.id q.edit ≡ true =
+        let there : is_placeable names q.id q.edit ≡ true =
         ap (λ (names : List Name). is_placeable names q.id q.edit) basis.elements
         ∙ placeable_test (text_order R) q.id q.edit (placeable R (entries_of J) known q history) in
-        let joins : may_join (length log) (names_in slots) (btree_set_len ids) q ≡ true =
-        and_from (nat_lt (btree_set_len ids) MAX_REQUESTS) (nat_le q.version (length log) && is_placeable (names_in slots) q.id q.edit) room
-        (and_from (nat_le q.version (length log)) (is_placeable (names_in slots) q.id q.edit)
+        let joins : may_join (length log) names (btree_set_len ids) q ≡ true =
+        and_from (nat_lt (btree_set_len ids) MAX_REQUESTS) (nat_le q.version (length log) && is_placeable names q.id q.edit) room
+        (and_from (nat_le q.version (length log)) (is_placeable names q.id q.edit)
         (ap (λ (L : List Entry). nat_le q.version (length L)) basis.entries ∙ version) there) in
         absurd (cc (joins, refused))
 
   module _ (e : Entry) where
-    ends_agree : missing_end (names_in slots) e.op ≡ missing_end (elements_of (requests_of J)) e.op
-    ends_agree = missing_end_agree (names_in slots) (elements_of (requests_of J)) e.op names_known
+    ends_agree : missing_end names e.op ≡ missing_end (elements_of (requests_of J)) e.op
+    ends_agree = missing_end_agree names (elements_of (requests_of J)) e.op names_known
 
-    entry_follows : may_extend log (names_in slots) e ≡ true → FollowsJournal J (Admin e)
+    entry_follows : may_extend log names e ≡ true → FollowsJournal J (Admin e)
     entry_follows extends =
         let L = entries_of J in
         let elements = elements_of (requests_of J) in
-        let parts = and_parts (is_none (missing_end (names_in slots) e.op)) (is_none (push_fault log e)) extends in
+        let parts = and_parts (is_none (missing_end names e.op)) (is_none (push_fault log e)) extends in
         let pushed : push_fault L e ≡ None = ap (λ (M : List Entry). push_fault M e) (sym basis.entries) ∙ none_is (push_fault log e) parts.1 in
         let follows = follows_pushed L e pushed in
         let number = follows.numbered in
@@ -209,13 +207,13 @@ module _ (J : List Message) (log : List Entry) (slots : List Slot) (ids : BTreeS
           new = sym (no_entry_key J e) ∙ versions_below [] L e.version (log_law J basis.within.journal_is) (omega (arith, number));
           complete =
               ap (λ b. first_of (when (not b) (Version (length L + 1)) ∷ missing_end elements e.op ∷ [])) next
-              ∙ ap (λ o. first_of (None ∷ o ∷ [])) (sym ends_agree ∙ none_is (missing_end (names_in slots) e.op) parts.0);
+              ∙ ap (λ o. first_of (None ∷ o ∷ [])) (sym ends_agree ∙ none_is (missing_end names e.op) parts.0);
           legal = follows.legal;
         }
 
     -- an entry that may extend the log follows, and is kept
-    pub entry_taken : (new_log : List Entry) → is_message (Admin e) ≡ true → may_extend log (names_in slots) e ≡ true → new_log ≡ log ++ e ∷ []
-        → IsBasisOf (J ++ Admin e ∷ []) new_log slots ids
+    pub entry_taken : (new_log : List Entry) → is_message (Admin e) ≡ true → may_extend log names e ≡ true → new_log ≡ log ++ e ∷ []
+        → IsBasisOf (J ++ Admin e ∷ []) new_log names ids
     entry_taken new_log formed extends longer =
         let follows = entry_follows extends in
         let same = requests_entry J e in
@@ -238,7 +236,7 @@ module _ (J : List Message) (log : List Entry) (slots : List Slot) (ids : BTreeS
         let below : e.version ≤ length log = grind (arith, nat_tests) in
         absurd (omega (arith, number, size, below))
 
-    pub entry_refused : may_extend log (names_in slots) e ≡ false → ¬ IsWithin (J ++ Admin e ∷ [])
+    pub entry_refused : may_extend log names e ≡ false → ¬ IsWithin (J ++ Admin e ∷ [])
     entry_refused refused within =
         let follows = entry_front within in
         let L = entries_of J in
@@ -246,16 +244,16 @@ module _ (J : List Message) (log : List Entry) (slots : List Slot) (ids : BTreeS
         let number = here.version in
         let next : nat_eq e.version (length L + 1) ≡ true = grind (arith, nat_tests) in
         let pushed : push_fault log e ≡ None = ap (λ (M : List Entry). push_fault M e) basis.entries ∙ push_none L e next follows.legal in
-        let extends : may_extend log (names_in slots) e ≡ true =
-        and_from (is_none (missing_end (names_in slots) e.op)) (is_none (push_fault log e))
-        (is_none_of (missing_end (names_in slots) e.op) (ends_agree ∙ here.ends)) (is_none_of (push_fault log e) pushed) in
+        let extends : may_extend log names e ≡ true =
+        and_from (is_none (missing_end names e.op)) (is_none (push_fault log e))
+        (is_none_of (missing_end names e.op) (ends_agree ∙ here.ends)) (is_none_of (push_fault log e) pushed) in
         absurd (cc (extends, refused))
       where
         push_none : (M : List Entry) (d : Entry) → nat_eq d.version (length M + 1) ≡ true → entry_fault M d.op ≡ None → push_fault M d ≡ None
         push_none M d next legal = rw (next, legal) refl
 
 -- a message whose key is known makes no longer journal
-pub known_refused : (J : List Message) (log : List Entry) (slots : List Slot) (ids : BTreeSet Name) → IsBasisOf J log slots ids → (m : Message)
+pub known_refused : (J : List Message) (log : List Entry) (names : List Name) (ids : BTreeSet Name) → IsBasisOf J log names ids → (m : Message)
     → is_known (length log) ids (key_of m) ≡ true → ¬ IsWithin (J ++ m ∷ [])
-known_refused J log slots ids basis (Coop q) there = request_known J log slots ids basis q there
-known_refused J log slots ids basis (Admin e) there = entry_known J log slots ids basis e there
+known_refused J log names ids basis (Coop q) there = request_known J log names ids basis q there
+known_refused J log names ids basis (Admin e) there = entry_known J log names ids basis e there

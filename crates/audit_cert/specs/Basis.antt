@@ -17,17 +17,15 @@ use Rattle.edit_message.specs.declared.message.Message.TheVariants.{Coop, Admin}
 use Rattle.edit_message.specs.Message.{requests_of, entries_of}
 use Rattle.edit_message.specs.Missing.{missing_end}
 use Rattle.admin_log.specs.Log.{push_fault}
-use Rattle.tomb_seq.specs.declared.slot.Slot.{Slot}
 use Rattle.tomb_seq.specs.Insert.{insert_fault}
-use Rattle.tomb_seq.specs.Slots.{names_in}
 use Rattle.peer_core.specs.Sound.{IsWithin}
 use Rattle.audit_cert.specs.Certificate.{request_lines}
 
 -- of a journal within its limits: its log, its elements in text order, and the names of its requests
-pub record IsBasisOf (J : List Message) (log : List Entry) (slots : List Slot) (ids : BTreeSet Name) : Type 0 where
+pub record IsBasisOf (J : List Message) (log : List Entry) (names : List Name) (ids : BTreeSet Name) : Type 0 where
   pub within : IsWithin J
   pub entries : log ≡ entries_of J
-  pub elements : names_in slots ≡ text_order (requests_of J)
+  pub elements : names ≡ text_order (requests_of J)
   pub known : (n : Name) → contains name_cmp ids n ≡ list_any (λ r. name_eq r.id n) (requests_of J)
   pub count : btree_set_len ids ≡ length (requests_of J)
 

@@ -5,47 +5,49 @@ ghost use Rattle.element_name.specs.Name.{Name, name_eq};
 ghost use Rattle.element_name.specs.Named.{name_cmp};
 ghost use Rattle.edit_message.specs.declared.message.Message.{Message};
 ghost use Rattle.edit_message.specs.Missing.{missing_end};
-ghost use Rattle.tomb_seq.specs.Slots.{names_in};
 ghost use Rattle.peer_core.specs.Sound.{IsWithin};
 ghost use Rattle.peer_core.specs.Kept.{names_after};
 ghost use Rattle.audit_cert.specs.Basis.{IsBasisOf, is_known, is_placeable, may_join, may_extend};
 ghost use Rattle.coop_request.specs.Request.{IsAccepted};
 ghost use Rattle.audit_cert.specs.Journals.{IsFailOf};
+ghost use Rattle.audit_cert.specs.Audit.{AreItems, IsFaultIn, messages_of};
 
+use crate::elements::Elements;
 use crate::fail::CertFail;
+use crate::fault::AuditFault;
 use admin_log::{AdminLog, LogFault};
 use coop_request::{Edit, MAX_REQUESTS, Request};
+use edit_frame::Frame;
 use edit_message::{Key, Message};
-use element_name::{Name, NoMemory, Places};
-use packed_message::PackedMessage;
+use element_name::{Name, NoMemory};
+use peer_core::JournalItem;
 use policy_book::{AdminOp, Entry, Extent};
 use std::alloc::Global;
 use std::collections::BTreeSet;
-use tomb_seq::{SeqFault, TombSeq};
 
 /// Of a journal its log, its elements in text order, and the names of its requests.
 #[derive(Drop)]
-pub(crate) struct Basis {
+pub(crate) struct Basis<E> {
     pub(crate) log: AdminLog,
-    pub(crate) elements: TombSeq,
+    pub(crate) elements: E,
     pub(crate) ids: BTreeSet<Name>,
 }
 
 // Whether the ends of the span that an operation makes are elements.
-fn has_ends(elements: &TombSeq, op: &AdminOp) -> bool
-    ensures { result ≡ is_none (missing_end (names_in elements.now) op.now) }
+fn has_ends<E: Elements>(elements: &E, op: &AdminOp) -> bool
+    ensures { result ≡ is_none (missing_end (E.names elements.now) op.now) }
 {
     match op {
         AdminOp::AddObj(_, Extent::Span(first, last)) => {
-            elements.has(*first) && elements.has(*last)
+            elements.knows(*first) && elements.knows(*last)
         }
         _ => true,
     }
 }
 
 // Takes an entry in that may be the next, and answers whether it was taken.
-fn take_entry(log: &mut AdminLog, elements: &TombSeq, entry: Entry) -> Result<bool, NoMemory>
-    ensures test { IfOk result (λ taken. taken ≡ may_extend log.old (names_in elements.now) entry) }
+fn take_entry<E: Elements>(log: &mut AdminLog, elements: &E, entry: Entry) -> Result<bool, NoMemory>
+    ensures test { IfOk result (λ taken. taken ≡ may_extend log.old (E.names elements.now) entry) }
     ensures log { IfOk result (λ taken. taken ≡ true → log.new ≡ log.old ++ entry ∷ []) }
 {
     if !has_ends(elements, entry.op()) {
@@ -59,18 +61,14 @@ fn take_entry(log: &mut AdminLog, elements: &TombSeq, entry: Entry) -> Result<bo
 }
 
 // Puts the element of an insert in, and answers whether it was put in, or the target of another edit is there.
-fn place(elements: &mut TombSeq, request: Request) -> Result<bool, NoMemory>
-    ensures test { IfOk result (λ placed. placed ≡ is_placeable (names_in elements.old) request.id request.edit) }
-    ensures names { IfOk result (λ placed. placed ≡ true → names_in elements.new ≡ names_after (names_in elements.old) request.id request.edit) }
+fn place<E: Elements>(elements: &mut E, request: Request) -> Result<bool, NoMemory>
+    ensures test { IfOk result (λ placed. placed ≡ is_placeable (E.names elements.old) request.id request.edit) }
+    ensures names { IfOk result (λ placed. placed ≡ true → E.names elements.new ≡ names_after (E.names elements.old) request.id request.edit) }
 {
     match request.edit() {
-        Edit::Insert { after, .. } => match elements.insert(request.id(), after) {
-            Ok(_) => Ok(true),
-            Err(SeqFault::NoMemory) => Err(NoMemory),
-            Err(_) => Ok(false),
-        },
-        Edit::Delete { target } => Ok(elements.has(target)),
-        Edit::Update { target, .. } => Ok(elements.has(target)),
+        Edit::Insert { after, .. } => elements.put(request.id(), after),
+        Edit::Delete { target } => Ok(elements.knows(target)),
+        Edit::Update { target, .. } => Ok(elements.knows(target)),
     }
 }
 
@@ -85,16 +83,16 @@ fn note(ids: &mut BTreeSet<Name>, id: Name) -> Result<(), NoMemory>
 }
 
 // Takes a request in that may join, and answers whether it was taken.
-fn take_request(
+fn take_request<E: Elements>(
     front: u32,
-    elements: &mut TombSeq,
+    elements: &mut E,
     ids: &mut BTreeSet<Name>,
     request: Request,
 ) -> Result<bool, NoMemory>
     requires { contains name_cmp ids.old request.id ≡ false }
-    ensures test { IfOk result (λ taken. taken ≡ may_join front (names_in elements.old) (btree_set_len ids.old) request) }
+    ensures test { IfOk result (λ taken. taken ≡ may_join front (E.names elements.old) (btree_set_len ids.old) request) }
     ensures accepted { IsAccepted request }
-    ensures names { IfOk result (λ taken. taken ≡ true → names_in elements.new ≡ names_after (names_in elements.old) request.id request.edit) }
+    ensures names { IfOk result (λ taken. taken ≡ true → E.names elements.new ≡ names_after (E.names elements.old) request.id request.edit) }
     ensures noted { IfOk result (λ taken. taken ≡ true → ((n : Name) → contains name_cmp ids.new n ≡ (name_eq request.id n || contains name_cmp ids.old n))) }
     ensures count { IfOk result (λ taken. taken ≡ true → btree_set_len ids.new ≡ btree_set_len ids.old + 1) }
 {
@@ -108,13 +106,14 @@ fn take_request(
     Ok(true)
 }
 
-impl Basis {
-    fn new(alloc: Global) -> Result<Basis, NoMemory>
-        ensures { IfOk result (λ b. IsBasisOf [] b.log b.elements b.ids) }
+impl<E: Elements> Basis<E> {
+    fn new(alloc: Global, elements: E) -> Result<Basis<E>, NoMemory>
+        requires { E.names elements ≡ [] }
+        ensures { IfOk result (λ b. IsBasisOf [] b.log (E.names b.elements) b.ids) }
     {
         Ok(Basis {
             log: AdminLog::new(alloc)?,
-            elements: TombSeq::new(alloc),
+            elements,
             ids: BTreeSet::new(alloc),
         })
     }
@@ -130,14 +129,14 @@ impl Basis {
     }
 
     // Takes the next message of a journal in, and answers whether it was taken, which any is that may follow.
-    fn take(&mut self, message: &PackedMessage) -> Result<bool, NoMemory>
-        ensures taken { IfOk result (λ taken. taken ≡ true → ((J : List Message) → IsBasisOf J self.old.log self.old.elements self.old.ids → IsBasisOf (J ++ message.now ∷ []) self.new.log self.new.elements self.new.ids)) }
-        ensures refused { IfOk result (λ taken. taken ≡ false → ((J : List Message) → IsBasisOf J self.old.log self.old.elements self.old.ids → ¬ IsWithin (J ++ message.now ∷ []))) }
+    fn take(&mut self, message: Message) -> Result<bool, NoMemory>
+        ensures taken { IfOk result (λ taken. taken ≡ true → ((J : List Message) → IsBasisOf J self.old.log (E.names self.old.elements) self.old.ids → IsBasisOf (J ++ message ∷ []) self.new.log (E.names self.new.elements) self.new.ids)) }
+        ensures refused { IfOk result (λ taken. taken ≡ false → ((J : List Message) → IsBasisOf J self.old.log (E.names self.old.elements) self.old.ids → ¬ IsWithin (J ++ message ∷ []))) }
     {
         if self.knows(message.key()) {
             return Ok(false);
         }
-        match message.copied()? {
+        match message {
             Message::Coop(request) => {
                 let front = self.log.len();
                 let joined = take_request(front, &mut self.elements, &mut self.ids, request)?;
@@ -150,20 +149,54 @@ impl Basis {
         }
     }
 
-    /// What is kept of these messages. Takes time in their number, for each also that of a look-up among the names and
-    /// one among the elements, and memory for each name, each element and the log.
+    /// What is kept of these messages, where no elements are kept yet. Takes time in their number, for each also that of
+    /// a look-up among the names and one among the elements, and memory for each name, each element and the log.
     ///
     /// Fails with the number of the first with which they are no journal, or one above its limits, and where memory is
     /// wanting.
-    pub(crate) fn of(alloc: Global, journal: &[&PackedMessage]) -> Result<Basis, CertFail>
-        ensures ok { IfOk result (λ b. IsBasisOf (map (λ m. m.now) journal.now) b.log b.elements b.ids) }
-        ensures fail { IfErr result (IsFailOf (map (λ m. m.now) journal.now)) }
+    pub(crate) fn of(
+        alloc: Global,
+        elements: E,
+        journal: &[JournalItem<'_>],
+    ) -> Result<Basis<E>, CertFail>
+        requires { E.names elements ≡ [] }
+        ensures ok { IfOk result (λ b. IsBasisOf journal.now b.log (E.names b.elements) b.ids) }
+        ensures fail { IfErr result (IsFailOf journal.now) }
     {
-        let mut basis = Basis::new(alloc)?;
+        let mut basis = Basis::new(alloc, elements)?;
         for place in 0..journal.len() {
-            let taken = basis.take(journal[place])?;
+            let message = journal[place].copied()?;
+            let taken = basis.take(message)?;
             if !taken {
                 return Err(CertFail::NotJournal(place + 1));
+            }
+        }
+        Ok(basis)
+    }
+
+    /// What is kept of the messages of frames, as [`Basis::of`] keeps it.
+    ///
+    /// Fails with the number of the first frame that is no message, or with which the messages are no journal, or one
+    /// above its limits; and where memory is wanting.
+    pub(crate) fn of_frames(
+        alloc: Global,
+        elements: E,
+        frames: &[Frame],
+    ) -> Result<Basis<E>, AuditFault>
+        requires { E.names elements ≡ [] }
+        ensures ok { IfOk result (λ b. IsBasisOf (messages_of frames.now) b.log (E.names b.elements) b.ids) }
+        ensures items { OnOk result (AreItems frames.now) }
+        ensures fault { IfErr result (IsFaultIn frames.now) }
+    {
+        let mut basis = Basis::new(alloc, elements)?;
+        for place in 0..frames.len() {
+            let Frame::Item(item) = &frames[place] else {
+                return Err(AuditFault::NotJournal(place + 1));
+            };
+            let message = item.copied()?;
+            let taken = basis.take(message)?;
+            if !taken {
+                return Err(AuditFault::NotJournal(place + 1));
             }
         }
         Ok(basis)

@@ -78,8 +78,8 @@ fn grants_from<P: Places>(
     Ok(grants)
 }
 
-// The last version at which the request is judged.
-fn until(log: &AdminLog, request: Request) -> u32
+/// The last version at which the request is judged.
+pub(crate) fn until(log: &AdminLog, request: Request) -> u32
     requires { request.version ≤ length log.now }
     ensures value { result ≡ until log.now request }
     ensures rising { request.version ≤ result }

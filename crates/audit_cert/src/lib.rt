@@ -3,13 +3,22 @@
 //! A certificate follows from the journal alone, so that who has both may check the one by the other.
 #![tactic(auto)]
 
+mod auditing;
 mod basis;
+mod elements;
 mod fail;
+mod fault;
 mod grant;
 mod granting;
 pub mod laws;
 mod lines;
 mod making;
+mod opening;
+mod ranks;
+mod text;
+mod walk;
 
+pub use auditing::audit;
 pub use fail::CertFail;
+pub use fault::AuditFault;
 pub use making::certify;

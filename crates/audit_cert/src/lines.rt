@@ -1,23 +1,27 @@
 //! Writing the lines of a certificate.
 //!
 //! Where memory is wanting a part of the lines may stand in the output.
-ghost use Rattle.std.specs.Prelude.{◌≡◌, ◌≤◌, ◌++◌, ◌∷◌, true, IsTrue, map, length, codes, OnOk};
+ghost use Rattle.std.specs.Prelude.{◌≡◌, ◌≤◌, ◌++◌, ◌∷◌, true, [], IsTrue, map, length, codes, OnOk};
 ghost use Rattle.std.specs.List.{concat, flat_map, list_all};
 ghost use Rattle.element_name.specs.Name.{has_name};
 ghost use Rattle.coop_request.specs.Request.{element_of};
+ghost use Rattle.check_remote.specs.State.{state_of};
 ghost use Rattle.line_engine.specs.Output.{line_of};
 ghost use Rattle.step_spelling.specs.Values.{spaced, name_text};
 ghost use Rattle.step_spelling.specs.Answers.{state_words};
+ghost use Rattle.audit_cert.specs.Audit.{messages_of};
 ghost use Rattle.audit_cert.specs.Basis.{may_be_judged, message_bytes};
 ghost use Rattle.audit_cert.specs.Certificate.{counts_line, element_line, grant_line, request_lines};
 
 use crate::grant::{Grant, grants_of};
+use crate::walk::state_of;
 use admin_log::AdminLog;
 use check_remote::check_remote;
 use coop_request::Request;
+use edit_frame::Frame;
 use edit_message::Message;
 use element_name::{Name, NoMemory, Places};
-use packed_message::PackedMessage;
+use peer_core::JournalItem;
 use request_state::State;
 use std::alloc::Global;
 use step_write::{put, put_name_word, put_number_word, put_state};
@@ -79,19 +83,21 @@ fn put_state_line(out: &mut Vec<u8>, name: Name, state: State) -> Result<(), NoM
     put(out, b"\n")
 }
 
-// Appends the lines of one request.
+// Appends the lines of one request, whose state this is.
 fn put_request<P: Places>(
     alloc: Global,
     out: &mut Vec<u8>,
     log: &AdminLog,
     places: &P,
     request: Request,
+    state: State,
 ) -> Result<(), NoMemory>
+    requires state { state ≡ state_of (P.names places.now) log.now request }
     requires carried { request.version ≤ length log.now }
     requires element { has_name (P.names places.now) (element_of request) ≡ true }
     ensures { OnOk result (out.new.items ≡ out.old.items ++ concat (request_lines (P.names places.now) log.now request)) }
 {
-    put_state_line(out, request.id(), check_remote(log, request, places)?)?;
+    put_state_line(out, request.id(), state)?;
     let grants = grants_of(alloc, log, request, places)?;
     put_grants(out, &grants)
 }
@@ -102,13 +108,16 @@ fn put_message<P: Places>(
     out: &mut Vec<u8>,
     log: &AdminLog,
     places: &P,
-    message: &PackedMessage,
+    message: &JournalItem<'_>,
 ) -> Result<(), NoMemory>
     requires { may_be_judged (P.names places.now) (length log.now) message.now ≡ true }
     ensures { OnOk result (out.new.items ≡ out.old.items ++ message_bytes (P.names places.now) log.now message.now) }
 {
     match message.copied()? {
-        Message::Coop(request) => put_request(alloc, out, log, places, request),
+        Message::Coop(request) => {
+            let state = check_remote(log, request, places)?;
+            put_request(alloc, out, log, places, request, state)
+        }
         Message::Admin(_) => Ok(()),
     }
 }
@@ -119,13 +128,50 @@ pub(crate) fn put_requests<P: Places>(
     out: &mut Vec<u8>,
     log: &AdminLog,
     places: &P,
-    journal: &[&PackedMessage],
+    journal: &[JournalItem<'_>],
 ) -> Result<(), NoMemory>
-    requires { IsTrue (list_all (may_be_judged (P.names places.now) (length log.now)) (map (λ m. m.now) journal.now)) }
-    ensures { OnOk result (out.new.items ≡ out.old.items ++ flat_map (message_bytes (P.names places.now) log.now) (map (λ m. m.now) journal.now)) }
+    requires { IsTrue (list_all (may_be_judged (P.names places.now) (length log.now)) journal.now) }
+    ensures { OnOk result (out.new.items ≡ out.old.items ++ flat_map (message_bytes (P.names places.now) log.now) journal.now) }
 {
     for message in journal {
         put_message(alloc, out, log, places, message)?;
+    }
+    Ok(())
+}
+
+// Appends the lines of a frame, which are those of its request, if it has one; the state is found by each version.
+fn put_frame<P: Places>(
+    alloc: Global,
+    out: &mut Vec<u8>,
+    log: &AdminLog,
+    places: &P,
+    frame: &Frame,
+) -> Result<(), NoMemory>
+    requires { IsTrue (list_all (may_be_judged (P.names places.now) (length log.now)) (messages_of (frame.now ∷ []))) }
+    ensures { OnOk result (out.new.items ≡ out.old.items ++ flat_map (message_bytes (P.names places.now) log.now) (messages_of (frame.now ∷ []))) }
+{
+    match frame {
+        Frame::Item(Message::Coop(request)) => {
+            let state = state_of(log, *request, places)?;
+            put_request(alloc, out, log, places, *request, state)
+        }
+        Frame::Item(Message::Admin(_)) | Frame::Turn | Frame::End => Ok(()),
+    }
+}
+
+/// Appends the lines of each request among frames.
+pub(crate) fn put_frames<P: Places>(
+    alloc: Global,
+    out: &mut Vec<u8>,
+    log: &AdminLog,
+    places: &P,
+    frames: &[Frame],
+) -> Result<(), NoMemory>
+    requires { IsTrue (list_all (may_be_judged (P.names places.now) (length log.now)) (messages_of frames.now)) }
+    ensures { OnOk result (out.new.items ≡ out.old.items ++ flat_map (message_bytes (P.names places.now) log.now) (messages_of frames.now)) }
+{
+    for frame in frames {
+        put_frame(alloc, out, log, places, frame)?;
     }
     Ok(())
 }

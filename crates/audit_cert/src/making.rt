@@ -1,5 +1,6 @@
 //! Making certificates.
-ghost use Rattle.std.specs.Prelude.{◌≡◌, ◌++◌, map, IfOk, IfErr, OnOk, OnErr};
+ghost use Rattle.std.specs.Prelude.{◌≡◌, ◌++◌, IfOk, IfErr, OnOk, OnErr};
+ghost use Rattle.tomb_seq.specs.Slots.{names_in};
 ghost use Rattle.peer_core.specs.Sound.{IsWithin};
 ghost use Rattle.audit_cert.specs.Basis.{IsBasisOf};
 ghost use Rattle.audit_cert.specs.Certificate.{certificate_bytes};
@@ -9,17 +10,18 @@ use crate::basis::Basis;
 use crate::fail::CertFail;
 use crate::lines::{put_counts, put_elements, put_requests};
 use element_name::NoMemory;
-use packed_message::PackedMessage;
+use peer_core::JournalItem;
 use std::alloc::Global;
+use tomb_seq::TombSeq;
 
 // The bytes of the certificate of a journal, of which this is kept.
 fn certificate_of(
     alloc: Global,
-    basis: &Basis,
-    journal: &[&PackedMessage],
+    basis: &Basis<TombSeq>,
+    journal: &[JournalItem<'_>],
 ) -> Result<Vec<u8>, NoMemory>
-    requires { IsBasisOf (map (λ m. m.now) journal.now) basis.now.log basis.now.elements basis.now.ids }
-    ensures { IfOk result (λ lines. lines.items ≡ certificate_bytes (map (λ m. m.now) journal.now)) }
+    requires { IsBasisOf journal.now basis.now.log (names_in basis.now.elements) basis.now.ids }
+    ensures { IfOk result (λ lines. lines.items ≡ certificate_bytes journal.now) }
 {
     let mut lines = Vec::new(alloc);
     put_counts(
@@ -35,20 +37,23 @@ fn certificate_of(
 
 /// Appends the certificate of a journal.
 ///
-/// The messages are lent, so that a journal that is kept elsewhere isn't copied as a whole: one entry at a time is. Takes
-/// time in the number of messages, for each request also in the number of versions at which it is judged, each of which
+/// The messages are those that a peer gives of its journal, whose entries are lent: one at a time is copied. Takes time in the number of messages, for each request also in the number of versions at which it is judged, each of which
 /// is looked at, and in the certificate's length; and memory for the names of the requests, the elements, the log, a
 /// policy, and twice the certificate.
 ///
 /// Fails with the number of the first message with which they are no journal, or one above its limits, and where memory
 /// is wanting.
-pub fn certify(alloc: Global, journal: &[&PackedMessage], out: &mut Vec<u8>) -> Result<(), CertFail>
-    ensures journal { OnOk result (IsWithin (map (λ m. m.now) journal.now)) }
-    ensures certificate { OnOk result (out.new.items ≡ out.old.items ++ certificate_bytes (map (λ m. m.now) journal.now)) }
-    ensures fail { IfErr result (IsFailOf (map (λ m. m.now) journal.now)) }
+pub fn certify(
+    alloc: Global,
+    journal: &[JournalItem<'_>],
+    out: &mut Vec<u8>,
+) -> Result<(), CertFail>
+    ensures journal { OnOk result (IsWithin journal.now) }
+    ensures certificate { OnOk result (out.new.items ≡ out.old.items ++ certificate_bytes journal.now) }
+    ensures fail { IfErr result (IsFailOf journal.now) }
     ensures unchanged { OnErr result (out.new.items ≡ out.old.items) }
 {
-    let basis = Basis::of(alloc, journal)?;
+    let basis = Basis::of(alloc, TombSeq::new(alloc), journal)?;
     let lines = certificate_of(alloc, &basis, journal)?;
     out.extend_from_slice(&lines)?;
     Ok(())

@@ -1,4 +1,4 @@
-use Rattle.std.proofs.Common.{◌≡◌, ◌++◌, drop, map, length}
+use Rattle.std.proofs.Common.{◌≡◌, ◌++◌, drop, length}
 use Rattle.std.specs.Prelude.{IsTrue}
 use Rattle.std.specs.List.{flat_map, list_all}
 use Rattle.audit_cert.specs.Basis.{may_be_judged, message_bytes}
@@ -8,7 +8,7 @@ abbrev pub invariant-loop-message : goal.invariant-loop-message
 invariant-loop-message g l =
     let names = g.P.Places.names l.places in
     record {
-      judged : IsTrue (list_all (may_be_judged names (length l.log)) (map (λ m. m.now) (drop l.message-index l.journal)));
-      written : l.out.items ++ flat_map (message_bytes names l.log) (map (λ m. m.now) (drop l.message-index l.journal))
-          ≡ l.fn.out.items ++ flat_map (message_bytes names l.log) (map (λ m. m.now) l.journal);
+      judged : IsTrue (list_all (may_be_judged names (length l.log)) (drop l.message-index l.journal));
+      written : l.out.items ++ flat_map (message_bytes names l.log) (drop l.message-index l.journal)
+          ≡ l.fn.out.items ++ flat_map (message_bytes names l.log) l.journal;
     }

@@ -1,17 +1,18 @@
-use Rattle.std.proofs.Common.{List, length, map, ap, ◌∙◌}
+use Rattle.std.proofs.Common.{List, length, ap, ◌∙◌}
 use Rattle.std.specs.List.{list_all}
 use Rattle.element_name.specs.Name.{Name}
 use Rattle.coop_request.specs.History.{text_order}
 use Rattle.policy_book.specs.Entry.{Entry}
 use Rattle.edit_message.specs.declared.message.Message.{Message}
 use Rattle.edit_message.specs.Message.{requests_of}
+use Rattle.tomb_seq.specs.Slots.{names_in}
 use Rattle.audit_cert.specs.Basis.{may_be_judged}
 use Rattle.audit_cert.proofs.LineLists.{all_judgeable, written}
 use Rattle.audit_cert.proofs.making.certificate_of.Goals as goal
 
 pub put_requests-requires : goal.put_requests-requires
 put_requests-requires c =
-    let J : List Message = map (λ m. m.now) c.args.journal.now in
+    let J : List Message = c.args.journal.now in
     let log : List Entry = c.args.basis.now.log in
     let basis = c.requires in
     ap (λ (ns : List Name). list_all (may_be_judged ns (length log)) J) basis.elements
@@ -21,7 +22,7 @@ put_requests-requires c =
 pub returns : goal.returns
 returns c =
     let kept = c.args.basis.now in
-    written (map (λ m. m.now) c.args.journal.now) kept.log kept.elements kept.ids c.requires
+    written c.args.journal.now kept.log (names_in kept.elements) kept.ids c.requires
     c.len.result c.from.result c.deref.result.now c.new-lines.result.items c.put_counts.new.out.items c.put_elements.new.out.items c.put_requests.new.out.items
     c.new-lines.ensures.items c.len.ensures.len (c.from.ensures ∙ c.len-2.ensures.count) (c.deref.ensures.value ∙ c.in_ok-names.ensures)
     c.in_ok-put_counts.ensures c.in_ok-put_elements.ensures c.in_ok-put_requests.ensures

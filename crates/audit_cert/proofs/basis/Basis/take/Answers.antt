@@ -5,53 +5,54 @@ use Rattle.edit_message.specs.declared.message.Message.{Message}
 use Rattle.edit_message.specs.declared.message.Message.TheVariants.{Coop, Admin}
 use Rattle.edit_message.specs.Message.{key_of}
 use Rattle.edit_message.specs.Formed.{is_message}
-use Rattle.tomb_seq.specs.Slots.{names_in}
 use Rattle.peer_core.specs.Sound.{IsWithin}
 use Rattle.audit_cert.specs.Basis.{IsBasisOf, is_known, may_join}
 use Rattle.audit_cert.proofs.NextMessages.{known_refused, request_taken, request_refused, entry_taken, entry_refused}
 use Rattle.audit_cert.proofs.basis.Basis.take.Goals as goal
 
 pub returns-then-knows-clause-refused : goal.returns-then-knows-clause-refused
-returns-then-knows-clause-refused c = λ no J basis.
+returns-then-knows-clause-refused g c = λ no J basis.
     let self = c.args.self.now in
-    known_refused J self.log self.elements self.ids basis c.args.message.now
+    known_refused J self.log (g.E.Elements.names self.elements) self.ids basis c.args.message
     (ap (is_known (length self.log) self.ids) (sym c.key.ensures.value) ∙ sym c.knows.ensures ∙ c.if-knows.true)
 
 pub returns-in_ok-joined-in-Coop-clause-taken : goal.returns-in_ok-joined-in-Coop-clause-taken
-returns-in_ok-joined-in-Coop-clause-taken c = λ yes J basis.
+returns-in_ok-joined-in-Coop-clause-taken g c = λ yes J basis.
     let self = c.args.self.now in
+    let names = g.E.Elements.names in
     let q = c.in-Coop.request in
-    let is : Coop q ≡ c.args.message.now = sym c.in-Coop.is ∙ c.in_ok-request.ensures in
+    let is : Coop q ≡ c.args.message = sym c.in-Coop.is in
     let formed : is_message (Coop q) ≡ true = ap is_message is ∙ c.key.ensures.message in
     let new : contains name_cmp self.ids q.id ≡ false =
     ap (λ (m : Message). is_known (length self.log) self.ids (key_of m)) is ∙ ap (is_known (length self.log) self.ids) (sym c.key.ensures.value) ∙ sym c.knows.ensures ∙ c.if-knows.false in
-    let joins : may_join (length self.log) (names_in self.elements) (btree_set_len self.ids) q ≡ true =
-    ap (λ n. may_join n (names_in self.elements) (btree_set_len self.ids) q) (sym c.len-front.ensures.count) ∙ sym c.in_ok-joined-in-Coop.ensures.test ∙ yes in
-    subst (λ (m : Message). IsBasisOf (J ++ m ∷ []) self.log c.take_request.new.elements c.take_request.new.ids) is
-    (request_taken J self.log self.elements self.ids basis q c.take_request.new.elements c.take_request.new.ids c.in_ok-joined-in-Coop.ensures.accepted formed new joins
+    let joins : may_join (length self.log) (names self.elements) (btree_set_len self.ids) q ≡ true =
+    ap (λ n. may_join n (names self.elements) (btree_set_len self.ids) q) (sym c.len-front.ensures.count) ∙ sym c.in_ok-joined-in-Coop.ensures.test ∙ yes in
+    subst (λ (m : Message). IsBasisOf (J ++ m ∷ []) self.log (names c.take_request.new.elements) c.take_request.new.ids) is
+    (request_taken J self.log (names self.elements) self.ids basis q (names c.take_request.new.elements) c.take_request.new.ids c.in_ok-joined-in-Coop.ensures.accepted formed new joins
     (c.in_ok-joined-in-Coop.ensures.names yes) (c.in_ok-joined-in-Coop.ensures.noted yes) (c.in_ok-joined-in-Coop.ensures.count yes))
 
 pub returns-in_ok-joined-in-Coop-clause-refused : goal.returns-in_ok-joined-in-Coop-clause-refused
-returns-in_ok-joined-in-Coop-clause-refused c = λ no J basis.
+returns-in_ok-joined-in-Coop-clause-refused g c = λ no J basis.
     let self = c.args.self.now in
+    let names = g.E.Elements.names in
     let q = c.in-Coop.request in
-    let is : Coop q ≡ c.args.message.now = sym c.in-Coop.is ∙ c.in_ok-request.ensures in
-    let joins : may_join (length self.log) (names_in self.elements) (btree_set_len self.ids) q ≡ false =
-    ap (λ n. may_join n (names_in self.elements) (btree_set_len self.ids) q) (sym c.len-front.ensures.count) ∙ sym c.in_ok-joined-in-Coop.ensures.test ∙ no in
-    subst (λ (m : Message). ¬ IsWithin (J ++ m ∷ [])) is (request_refused J self.log self.elements self.ids basis q joins)
+    let is : Coop q ≡ c.args.message = sym c.in-Coop.is in
+    let joins : may_join (length self.log) (names self.elements) (btree_set_len self.ids) q ≡ false =
+    ap (λ n. may_join n (names self.elements) (btree_set_len self.ids) q) (sym c.len-front.ensures.count) ∙ sym c.in_ok-joined-in-Coop.ensures.test ∙ no in
+    subst (λ (m : Message). ¬ IsWithin (J ++ m ∷ [])) is (request_refused J self.log (names self.elements) self.ids basis q joins)
 
 pub returns-in_ok-pushed-in-Admin-clause-taken : goal.returns-in_ok-pushed-in-Admin-clause-taken
-returns-in_ok-pushed-in-Admin-clause-taken c = λ yes J basis.
+returns-in_ok-pushed-in-Admin-clause-taken g c = λ yes J basis.
     let self = c.args.self.now in
     let e = c.in-Admin.entry in
-    let is : Admin e ≡ c.args.message.now = sym c.in-Admin.is ∙ c.in_ok-request.ensures in
+    let is : Admin e ≡ c.args.message = sym c.in-Admin.is in
     let formed : is_message (Admin e) ≡ true = ap is_message is ∙ c.key.ensures.message in
-    subst (λ (m : Message). IsBasisOf (J ++ m ∷ []) c.take_entry.new.log self.elements self.ids) is
-    (entry_taken J self.log self.elements self.ids basis e c.take_entry.new.log formed (sym c.in_ok-pushed-in-Admin.ensures.test ∙ yes) (c.in_ok-pushed-in-Admin.ensures.log yes))
+    subst (λ (m : Message). IsBasisOf (J ++ m ∷ []) c.take_entry.new.log (g.E.Elements.names self.elements) self.ids) is
+    (entry_taken J self.log (g.E.Elements.names self.elements) self.ids basis e c.take_entry.new.log formed (sym c.in_ok-pushed-in-Admin.ensures.test ∙ yes) (c.in_ok-pushed-in-Admin.ensures.log yes))
 
 pub returns-in_ok-pushed-in-Admin-clause-refused : goal.returns-in_ok-pushed-in-Admin-clause-refused
-returns-in_ok-pushed-in-Admin-clause-refused c = λ no J basis.
+returns-in_ok-pushed-in-Admin-clause-refused g c = λ no J basis.
     let self = c.args.self.now in
     let e = c.in-Admin.entry in
-    let is : Admin e ≡ c.args.message.now = sym c.in-Admin.is ∙ c.in_ok-request.ensures in
-    subst (λ (m : Message). ¬ IsWithin (J ++ m ∷ [])) is (entry_refused J self.log self.elements self.ids basis e (sym c.in_ok-pushed-in-Admin.ensures.test ∙ no))
+    let is : Admin e ≡ c.args.message = sym c.in-Admin.is in
+    subst (λ (m : Message). ¬ IsWithin (J ++ m ∷ [])) is (entry_refused J self.log (g.E.Elements.names self.elements) self.ids basis e (sym c.in_ok-pushed-in-Admin.ensures.test ∙ no))
