@@ -1,0 +1,13 @@
+//! The steps of a peer as bytes, as a file keeps them.
+//!
+//! A body is a kind and its fields. An operation is spelled by the entry that it makes, so its body speaks of the
+//! version that it makes too.
+#![tactic(auto)]
+
+mod kinds;
+pub mod laws;
+mod reading;
+mod writing;
+
+pub use reading::read_body;
+pub use writing::body_of;
