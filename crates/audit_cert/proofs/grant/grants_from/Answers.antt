@@ -24,7 +24,7 @@ returns-in_default g c =
     let q = c.args.request in
     let f = granting_at names c.args.log.now q in
     let v = c.loop-version.version in
-    let none : f (v + 1) ≡ None = ap (λ (p : Policy). granting_auth names p q) (sym c.in_ok-advance.ensures) ∙ sym c.granting_auth.ensures ∙ c.in_default.is in
+    let none : f (v + 1) ≡ None = ap (λ (p : Policy). granting_auth names p q) (sym c.in_ok-advance.ensures.ok) ∙ sym c.granting_auth.ensures ∙ c.in_default.is in
     let le : v + 1 ≤ c.args.last = omega arith in
     c.in_ok-push.ensures.items
     ∙ ap (λ (gs : List Grant). c.loop-version.grants.items ++ put_in_front c.loop-version.current gs) (sym (over_denied f (v + 1) c.args.last le none))
@@ -37,9 +37,9 @@ loop-version-preserved g c =
     let f = granting_at names c.args.log.now q in
     let v = c.loop-version.version in
     let le : v + 1 ≤ c.args.last = omega arith in
-    let here : f (v + 1) ≡ Some c.in-Some.by = ap (λ (p : Policy). granting_auth names p q) (sym c.in_ok-advance.ensures) ∙ sym c.granting_auth.ensures ∙ c.in-Some.is in
+    let here : f (v + 1) ≡ Some c.in-Some.by = ap (λ (p : Policy). granting_auth names p q) (sym c.in_ok-advance.ensures.ok) ∙ sym c.granting_auth.ensures ∙ c.in-Some.is in
     record {
-      policy = c.in_ok-advance.ensures;
+      policy = c.in_ok-advance.ensures.ok;
       left = c.in_ok-go_on.ensures (grants_over f (range_with_len (v + 1 + 1) (c.args.last + 1 - (v + 1 + 1))))
           ∙ ap (λ (gs : List Grant). c.loop-version.grants.items ++ put_in_front c.loop-version.current gs) (sym (over_granted f (v + 1) c.args.last c.in-Some.by le here))
           ∙ c.loop-version.invariant.left;
