@@ -3,24 +3,15 @@ ghost use Rattle.std.specs.Prelude.{◌≡◌, ◌≤◌, true, length, IfOk};
 ghost use Rattle.element_name.specs.Name.{has_name};
 ghost use Rattle.coop_request.specs.Request.{element_of};
 ghost use Rattle.admin_log.specs.Log.{validated_at};
-ghost use Rattle.auth_match.specs.Requests.{request_verdict};
 ghost use Rattle.check_remote.specs.State.{denial_by, state_by, state_of};
 
 use crate::grant::until;
 use admin_log::AdminLog;
-use auth_match::{Judged, Verdict, decide};
+use auth_match::{Verdict, request_verdict};
 use coop_request::Request;
 use element_name::{NoMemory, Places};
 use policy_book::Policy;
 use request_state::State;
-
-fn verdict_by<P: Places>(policy: &Policy, request: Request, places: &P) -> Verdict
-    requires { has_name (P.names places.now) (element_of request) ≡ true }
-    ensures { result ≡ request_verdict (P.names places.now) policy.now request }
-{
-    let judged = Judged::There(request.element());
-    decide(policy, request.user(), request.right(), judged, places)
-}
 
 // The state of a request that was granted before this version, which is the last.
 fn state_by(log: &AdminLog, request: Request, version: u32, verdict: Verdict) -> State
@@ -50,11 +41,11 @@ pub(crate) fn state_of<P: Places>(
     let last = until(log, request);
     let mut policy = log.policy_at(first)?;
     for version in first..last {
-        match verdict_by(&policy, request, places) {
+        match request_verdict(&policy, request, places) {
             Verdict::Denied { by } => return Ok(State::Invalid { at: version, by }),
             Verdict::Granted => log.advance(&mut policy, version, version + 1)?,
         }
     }
-    let verdict = verdict_by(&policy, request, places);
+    let verdict = request_verdict(&policy, request, places);
     Ok(state_by(log, request, last, verdict))
 }

@@ -8,7 +8,7 @@ ghost use Rattle.request_state.specs.Table.{kept_of, is_in_order, with_state};
 ghost use Rattle.retro_undo.specs.Undo.{is_denied, counted_of, with_counted, states_after_in};
 ghost use Rattle.retro_undo.specs.Part.{is_named};
 
-use auth_match::{Judged, Verdict, decide};
+use auth_match::{Verdict, request_verdict};
 use coop_request::Request;
 use elem_show::ElemTable;
 use element_name::Places;
@@ -43,8 +43,7 @@ pub(crate) fn judge<P: Places>(
     ensures states { states.new ≡ states_after_in (is_named request.id) (P.names places.now) policy.now version states.old }
     ensures cells { table.new ≡ with_counted table.old states.new }
 {
-    let judged = Judged::There(request.element());
-    match decide(policy, request.user(), request.right(), judged, places) {
+    match request_verdict(policy, request, places) {
         Verdict::Granted => false,
         Verdict::Denied { by } => {
             undo(request, version, by, states, table);

@@ -30,7 +30,7 @@ returns-in-Denied g c =
     let v = c.loop-version.version in
     let kept = c.loop-version.invariant in
     let denied : verdict_at names log q v ≡ Denied c.in-Denied.by =
-    ap (λ (p : Policy). request_verdict names p q) (sym kept.policy) ∙ sym c.verdict_by.ensures ∙ c.in-Denied.is in
+    ap (λ (p : Policy). request_verdict names p q) (sym kept.policy) ∙ sym c.request_verdict.ensures ∙ c.in-Denied.is in
     sym (denied_here names log q v c.in-Denied.by kept.rising denied kept.left)
 
 pub loop-version-preserved : goal.loop-version-preserved
@@ -41,9 +41,9 @@ loop-version-preserved g c =
     let v = c.loop-version.version in
     let kept = c.loop-version.invariant in
     let granted : denial_at names log q v ≡ None =
-    ap (λ (p : Policy). denial_by v (request_verdict names p q)) (sym kept.policy) ∙ ap (denial_by v) (sym c.verdict_by.ensures ∙ c.in-Granted.is) in
+    ap (λ (p : Policy). denial_by v (request_verdict names p q)) (sym kept.policy) ∙ ap (denial_by v) (sym c.request_verdict.ensures ∙ c.in-Granted.is) in
     record {
-      policy = c.in_ok-advance-in-Granted.ensures;
+      policy = c.in_ok-advance-in-Granted.ensures.ok;
       rising = omega (arith, c.until-last.ensures.value);
       left = kept.left ∙ first_later (denial_at names log q) v (until log q) kept.rising granted;
     }
@@ -57,5 +57,5 @@ returns g c =
     let kept = c.loop-version.invariant in
     let end : v ≡ c.until-last.result = omega (arith, kept.rising, c.until-last.ensures.value, c.loop-version-test.false) in
     c.state_by.ensures
-    ∙ last_decides names log q v c.until-last.result c.verdict_by-verdict.result c.until-last.ensures.value end
-    (c.verdict_by-verdict.ensures ∙ ap (λ (p : Policy). request_verdict names p q) kept.policy) kept.left
+    ∙ last_decides names log q v c.until-last.result c.request_verdict-verdict.result c.until-last.ensures.value end
+    (c.request_verdict-verdict.ensures ∙ ap (λ (p : Policy). request_verdict names p q) kept.policy) kept.left

@@ -1,8 +1,6 @@
 use Rattle.std.proofs.Common.{◌≡◌, sym, ◌∙◌}
 use Rattle.auth_match.specs.declared.verdict.Verdict.TheVariants.{Granted, Denied}
-use Rattle.auth_match.specs.Verdict.{verdict}
-use Rattle.coop_request.specs.Edit.{right_of}
-use Rattle.coop_request.specs.Request.{user_of, element_of}
+use Rattle.auth_match.specs.Requests.{request_verdict}
 use Rattle.retro_undo.proofs.Undoing.{counted_again, judged_granted, judged_denied}
 use Rattle.retro_undo.proofs.judge.judge.Goals as goal
 
@@ -10,14 +8,14 @@ pub returns-in-Granted-clause-states : goal.returns-in-Granted-clause-states
 returns-in-Granted-clause-states g c =
     let names = g.P.Places.names c.args.places.now in
     let q = c.args.request in
-    let granted : verdict names c.args.policy.now (user_of q) (right_of q.edit) (element_of q) ≡ Granted = cc (c.decide.ensures, c.user.ensures, c.right.ensures, c.element.ensures, c.in-Granted.is) in
+    let granted : request_verdict names c.args.policy.now q ≡ Granted = sym c.request_verdict.ensures ∙ c.in-Granted.is in
     sym (judged_granted names c.args.policy.now c.args.version q c.args.states.now c.requires.order c.requires.tentative granted)
 
 pub returns-in-Denied-clause-states : goal.returns-in-Denied-clause-states
 returns-in-Denied-clause-states g c =
     let names = g.P.Places.names c.args.places.now in
     let q = c.args.request in
-    let denied : verdict names c.args.policy.now (user_of q) (right_of q.edit) (element_of q) ≡ Denied c.in-Denied.by = cc (c.decide.ensures, c.user.ensures, c.right.ensures, c.element.ensures, c.in-Denied.is) in
+    let denied : request_verdict names c.args.policy.now q ≡ Denied c.in-Denied.by = sym c.request_verdict.ensures ∙ c.in-Denied.is in
     c.undo.ensures.states ∙ sym (judged_denied names c.args.policy.now c.args.version q c.args.states.now c.requires.order c.requires.tentative c.in-Denied.by denied)
 
 pub returns-in-Granted-clause-cells : goal.returns-in-Granted-clause-cells
