@@ -1,7 +1,7 @@
 -- The numbers of the statuses, and which status a failure gives.
 use Rattle.std.specs.Prelude.{◌≡◌, ℕ, ◌⊎◌}
 use Rattle.line_engine.specs.declared.status.Status.{Status}
-use Rattle.line_engine.specs.declared.status.Status.TheVariants.{Done, Usage, BadInput, ReadFault, WriteFault, LinkFault, NoMemory, TooLong}
+use Rattle.line_engine.specs.declared.status.Status.TheVariants.{Done, Usage, BadInput, ReadFault, WriteFault, LinkFault, NoMemory, TooLong, NotShown, DiskFault, BadStore, StoreFull}
 use Rattle.line_engine.specs.declared.status.Stop.{Stop}
 use Rattle.line_engine.specs.declared.status.Stop.TheVariants as stops
 use Rattle.edit_io.specs.declared.fail.OutFail.{OutFail}
@@ -17,6 +17,10 @@ code_of WriteFault = 5
 code_of LinkFault = 6
 code_of NoMemory = 7
 code_of TooLong = 8
+code_of NotShown = 9
+code_of DiskFault = 10
+code_of BadStore = 11
+code_of StoreFull = 12
 
 -- a status that a sink's failure gives
 abbrev pub IsSinkFail : Status → Type 0
