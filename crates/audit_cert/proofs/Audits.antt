@@ -29,17 +29,17 @@ use Rattle.peer_core.proofs.JournalLemmas.{requests_append, entries_append}
 use Rattle.audit_cert.specs.declared.fault.AuditFault.{AuditFault}
 use Rattle.audit_cert.specs.declared.fault.AuditFault.TheVariants.{BadFrame, NotJournal, Differs, NoMemory}
 use Rattle.audit_cert.specs.Certificate.{certificate_bytes}
-use Rattle.audit_cert.specs.Audit.{IsCertified, is_end, messages_of, IsClosed, BreaksIn, differing_line, IsAuditFault, IsFaultIn, IsFaultOf, AreItems, IsTold}
+use Rattle.audit_cert.specs.Audit.{IsCertified, is_end_frame, messages_of_frames, IsClosed, BreaksIn, differing_line, IsAuditFault, IsFaultIn, IsFaultOf, AreItems, IsTold}
 use Rattle.audit_cert.proofs.Fronts.{one_further}
 use Rattle.audit_cert.proofs.Closings.{one_closing, not_broken}
 
 -- ---- messages as frames
 
-pub messages_items : (J : List Message) → messages_of (map Item J) ≡ J
+pub messages_items : (J : List Message) → messages_of_frames (map Item J) ≡ J
 messages_items [] = refl
 messages_items (m ∷ J) = ap (λ (K : List Message). m ∷ K) (messages_items J)
 
-pub messages_append : (fs gs : List Frame) → messages_of (fs ++ gs) ≡ messages_of fs ++ messages_of gs
+pub messages_append : (fs gs : List Frame) → messages_of_frames (fs ++ gs) ≡ messages_of_frames fs ++ messages_of_frames gs
 messages_append [] gs = refl
 messages_append (Item m ∷ fs) gs = ap (λ (K : List Message). m ∷ K) (messages_append fs gs)
 messages_append (Turn ∷ fs) gs = messages_append fs gs
@@ -49,13 +49,13 @@ items_formed : (J : List Message) → list_all is_message J ≡ true → list_al
 items_formed [] h = refl
 items_formed (m ∷ J) h = let p = and_parts (is_message m) (list_all is_message J) h in rw (p.0, items_formed J p.1) refl
 
-items_no_end : (J : List Message) → list_any is_end (map Item J) ≡ false
+items_no_end : (J : List Message) → list_any is_end_frame (map Item J) ≡ false
 items_no_end [] = refl
 items_no_end (m ∷ J) = items_no_end J
 
-pub one_item_more : (fs : List Frame) (m : Message) → fs ≡ map Item (messages_of fs) → fs ++ Item m ∷ [] ≡ map Item (messages_of (fs ++ Item m ∷ []))
+pub one_item_more : (fs : List Frame) (m : Message) → fs ≡ map Item (messages_of_frames fs) → fs ++ Item m ∷ [] ≡ map Item (messages_of_frames (fs ++ Item m ∷ []))
 one_item_more fs m items =
-    ap (λ (gs : List Frame). gs ++ Item m ∷ []) items ∙ sym (map_last (messages_of fs)) ∙ ap (λ (J : List Message). map Item J) (sym (messages_append fs (Item m ∷ [])))
+    ap (λ (gs : List Frame). gs ++ Item m ∷ []) items ∙ sym (map_last (messages_of_frames fs)) ∙ ap (λ (J : List Message). map Item J) (sym (messages_append fs (Item m ∷ [])))
   where
     map_last : (J : List Message) → map Item (J ++ m ∷ []) ≡ map Item J ++ Item m ∷ []
     map_last [] = refl
@@ -126,7 +126,7 @@ module _ (bytes : List ℕ) (counts : ℕ × ℕ) (certified : IsCertified bytes
   no_fault (NotJournal k) at other = unbroken certified.journal at.frames k certified.within (closed_so at.frames at.told at.closed).0 at.first
   no_fault (Differs k) at other =
       let so = closed_so (map Item at.journal) at.told at.closed in
-      let same : certified.journal ≡ at.journal = sym (messages_items certified.journal) ∙ ap messages_of so.0 ∙ messages_items at.journal in
+      let same : certified.journal ≡ at.journal = sym (messages_items certified.journal) ∙ ap messages_of_frames so.0 ∙ messages_items at.journal in
       at.other (sym so.1 ∙ ap certificate_bytes same)
   no_fault NoMemory at other = other refl
 
@@ -134,10 +134,10 @@ module _ (bytes : List ℕ) (counts : ℕ × ℕ) (certified : IsCertified bytes
 
 pub certified_by : (bytes told : List ℕ) (frames : List Frame) (counts : ℕ × ℕ) → IsClosed bytes frames told → IsTold frames told counts → IsCertified bytes counts
 certified_by bytes told frames counts closed is = record {
-  journal = messages_of frames;
+  journal = messages_of_frames frames;
   within = is.journal.within;
   whole = closed.whole ∙ ap (λ (fs : List Frame). flat_map spelling fs ++ (spelling End ++ told)) is.journal.items
-      ∙ ap (λ (xs : List ℕ). flat_map spelling (map Item (messages_of frames)) ++ (spelling End ++ xs)) is.certificate;
+      ∙ ap (λ (xs : List ℕ). flat_map spelling (map Item (messages_of_frames frames)) ++ (spelling End ++ xs)) is.certificate;
   counted = is.counted;
 }
 
@@ -145,7 +145,7 @@ pub fault_by : (bytes told : List ℕ) (frames : List Frame) (fault : AuditFault
 fault_by bytes told frames (BadFrame fault) closed is = absurd is
 fault_by bytes told frames (NotJournal k) closed is = record { frames = frames; told = told; closed = closed; first = is }
 fault_by bytes told frames (Differs k) closed is = record {
-  journal = messages_of frames;
+  journal = messages_of_frames frames;
   told = told;
   closed = subst (λ (fs : List Frame). IsClosed bytes fs told) is.journal.items closed;
   within = is.journal.within;
@@ -169,21 +169,21 @@ order_once R history = once_law (placed_of R) (IsTree-placed_of R history)
 
 -- what is told is the certificate, with these counts
 pub told_by : (frames : List Frame) (told : List ℕ) (log : List Entry) (names : List Name) (ids : BTreeSet Name) (requests entries : ℕ) → AreItems frames
-    → IsBasisOf (messages_of frames) log names ids → requests ≡ btree_set_len ids → entries ≡ length log → told ≡ certificate_bytes (messages_of frames)
+    → IsBasisOf (messages_of_frames frames) log names ids → requests ≡ btree_set_len ids → entries ≡ length log → told ≡ certificate_bytes (messages_of_frames frames)
     → IsTold frames told (requests, entries)
 told_by frames told log names ids requests entries items basis few front certificate = record {
   journal = items;
   certificate = certificate;
-  counted = ap (λ n. (n, entries)) (few ∙ basis.count) ∙ ap (λ n. (length (requests_of (messages_of frames)), n)) (front ∙ ap (λ (L : List Entry). length L) basis.entries);
+  counted = ap (λ n. (n, entries)) (few ∙ basis.count) ∙ ap (λ n. (length (requests_of (messages_of_frames frames)), n)) (front ∙ ap (λ (L : List Entry). length L) basis.entries);
 }
 
 -- ---- frames that break
 
 -- the frame at a place breaks what stands before it
-pub breaks_here : (frames : List Frame) (i : ℕ) (f : Frame) → i < length frames → f ≡ get_or frames i f → take i frames ≡ map Item (messages_of (take i frames))
-    → IsWithin (messages_of (take i frames)) → ((m : Message) → f ≡ Item m → ¬ IsWithin (messages_of (take i frames) ++ m ∷ [])) → BreaksIn frames (i + 1)
+pub breaks_here : (frames : List Frame) (i : ℕ) (f : Frame) → i < length frames → f ≡ get_or frames i f → take i frames ≡ map Item (messages_of_frames (take i frames))
+    → IsWithin (messages_of_frames (take i frames)) → ((m : Message) → f ≡ Item m → ¬ IsWithin (messages_of_frames (take i frames) ++ m ∷ [])) → BreaksIn frames (i + 1)
 breaks_here frames i f lt is items within breaks =
-    let J = messages_of (take i frames) in
+    let J = messages_of_frames (take i frames) in
     let size : i ≡ length J = omega (arith, lt, length-take-le i frames (omega (arith, lt)), ap (λ (fs : List Frame). length fs) items, length-map J (λ (m : Message). Item m)) in
     record {
       journal = J;

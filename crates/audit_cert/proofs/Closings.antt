@@ -17,7 +17,7 @@ use Rattle.edit_frame.proofs.Outcomes.{bad, no_frame}
 use Rattle.edit_frame.proofs.Frames.{frame_at_again, no_prefix}
 use Rattle.audit_cert.specs.declared.fault.AuditFault.{AuditFault}
 use Rattle.audit_cert.specs.declared.fault.AuditFault.TheVariants.{BadFrame, NotJournal, Differs, NoMemory}
-use Rattle.audit_cert.specs.Audit.{is_end, StartWith, IsClosed, IsFaultAt, IsAuditFault}
+use Rattle.audit_cert.specs.Audit.{is_end_frame, StartWith, IsClosed, IsFaultAt, IsAuditFault}
 
 -- ---- one frame more
 
@@ -29,22 +29,22 @@ flat_last frames f =
     flat_map-append spelling frames (f ∷ [])
     ∙ ap (λ (xs : List ℕ). flat_map spelling frames ++ xs) (flat_map-cons spelling f [] ∙ append-nil (spelling f))
 
-pub one_more : (bytes rest behind : List ℕ) (frames : List Frame) (f : Frame) → StartWith bytes frames rest → rest ≡ spelling f ++ behind → is_frame f ≡ true → is_end f ≡ false
+pub one_more : (bytes rest behind : List ℕ) (frames : List Frame) (f : Frame) → StartWith bytes frames rest → rest ≡ spelling f ++ behind → is_frame f ≡ true → is_end_frame f ≡ false
     → StartWith bytes (frames ++ f ∷ []) behind
 one_more bytes rest behind frames f start next formed other = record {
   whole = start.whole ∙ ap (λ (xs : List ℕ). flat_map spelling frames ++ xs) next
       ∙ sym (append_assoc (flat_map spelling frames) (spelling f) behind)
       ∙ ap (λ (xs : List ℕ). xs ++ behind) (sym (flat_last frames f));
   formed = list_all-append is_frame frames (f ∷ []) ∙ and_from (list_all is_frame frames) (is_frame f && true) start.formed (and_from (is_frame f) true formed refl);
-  before_end = list_any-append is_end frames (f ∷ []) ∙ ap (λ b. b || (is_end f || false)) start.before_end ∙ ap (λ b. b || false) other;
+  before_end = list_any-append is_end_frame frames (f ∷ []) ∙ ap (λ b. b || (is_end_frame f || false)) start.before_end ∙ ap (λ b. b || false) other;
 }
 
-end_only : (f : Frame) → is_end f ≡ true → f ≡ End
+end_only : (f : Frame) → is_end_frame f ≡ true → f ≡ End
 end_only (Item m) h = absurd cc
 end_only Turn h = absurd cc
 end_only End h = refl
 
-pub closed_here : (bytes rest behind : List ℕ) (frames : List Frame) (f : Frame) → StartWith bytes frames rest → rest ≡ spelling f ++ behind → is_end f ≡ true → IsClosed bytes frames behind
+pub closed_here : (bytes rest behind : List ℕ) (frames : List Frame) (f : Frame) → StartWith bytes frames rest → rest ≡ spelling f ++ behind → is_end_frame f ≡ true → IsClosed bytes frames behind
 closed_here bytes rest behind frames f start next last =
     subst (λ (xs : List ℕ). StartWith bytes frames xs) (next ∙ ap (λ (g : Frame). spelling g ++ behind) (end_only f last)) start
 
@@ -65,16 +65,16 @@ broken_here bytes rest frames NoMemory start at = tt
 
 -- ---- one way alone
 
-no_end : (f : Frame) → End ≡ f → is_end f ≡ false → ⊥
-no_end f is other = let yes : true ≡ is_end f = ap is_end is in cc
+no_end : (f : Frame) → End ≡ f → is_end_frame f ≡ false → ⊥
+no_end f is other = let yes : true ≡ is_end_frame f = ap is_end_frame is in cc
 
 grouped : (f : Frame) (frames : List Frame) (rest : List ℕ) → flat_map spelling (f ∷ frames) ++ rest ≡ spelling f ++ (flat_map spelling frames ++ rest)
 grouped f frames rest = ap (λ (xs : List ℕ). xs ++ rest) (flat_map-cons spelling f frames) ∙ append_assoc (spelling f) (flat_map spelling frames) rest
 
-none_first : (f : Frame) (frames : List Frame) → list_any is_end (f ∷ frames) ≡ false → (is_end f ≡ false) × (list_any is_end frames ≡ false)
-none_first f frames h = or_parts (is_end f) (list_any is_end frames) h
+none_first : (f : Frame) (frames : List Frame) → list_any is_end_frame (f ∷ frames) ≡ false → (is_end_frame f ≡ false) × (list_any is_end_frame frames ≡ false)
+none_first f frames h = or_parts (is_end_frame f) (list_any is_end_frame frames) h
 
-pub one_closing : (fs gs : List Frame) (x y : List ℕ) → list_all is_frame fs ≡ true → list_all is_frame gs ≡ true → list_any is_end fs ≡ false → list_any is_end gs ≡ false
+pub one_closing : (fs gs : List Frame) (x y : List ℕ) → list_all is_frame fs ≡ true → list_all is_frame gs ≡ true → list_any is_end_frame fs ≡ false → list_any is_end_frame gs ≡ false
     → flat_map spelling fs ++ (spelling End ++ x) ≡ flat_map spelling gs ++ (spelling End ++ y) → (fs ≡ gs) × (x ≡ y)
 one_closing [] [] x y hf hg ef eg h = (refl, (no_prefix End End x y refl refl h).1)
 one_closing [] (g ∷ gs) x y hf hg ef eg h =
@@ -95,7 +95,7 @@ one_closing (f ∷ fs) (g ∷ gs) x y hf hg ef eg h =
 no_fault : (f : Frame) (rest : List ℕ) (kind : FrameKind) → is_frame f ≡ true → frame_at (spelling f ++ rest) ≡ Err kind → ⊥
 no_fault f rest kind formed fault = no_frame kind f (sym fault ∙ frame_at_again f rest formed)
 
-pub not_broken : (fs gs : List Frame) (x rest : List ℕ) (kind : FrameKind) → list_all is_frame fs ≡ true → list_all is_frame gs ≡ true → list_any is_end gs ≡ false
+pub not_broken : (fs gs : List Frame) (x rest : List ℕ) (kind : FrameKind) → list_all is_frame fs ≡ true → list_all is_frame gs ≡ true → list_any is_end_frame gs ≡ false
     → flat_map spelling fs ++ (spelling End ++ x) ≡ flat_map spelling gs ++ rest → frame_at rest ≡ Err kind → ⊥
 not_broken [] [] x rest kind hf hg eg h fault = no_fault End x kind refl (ap frame_at h ∙ fault)
 not_broken (f ∷ fs) [] x rest kind hf hg eg h fault =

@@ -24,23 +24,23 @@ pub record IsCertified (bytes : List ℕ) (counts : ℕ × ℕ) : Type 0 where
 -- ---- frames
 
 -- the frame ends a journal
-abbrev pub is_end : Frame → Bool
-is_end (Item m) = false
-is_end Turn = false
-is_end End = true
+abbrev pub is_end_frame : Frame → Bool
+is_end_frame (Item m) = false
+is_end_frame Turn = false
+is_end_frame End = true
 
 -- the messages among frames
-abbrev pub messages_of : List Frame → List Message
-messages_of [] = []
-messages_of (Item m ∷ frames) = m ∷ messages_of frames
-messages_of (Turn ∷ frames) = messages_of frames
-messages_of (End ∷ frames) = messages_of frames
+abbrev pub messages_of_frames : List Frame → List Message
+messages_of_frames [] = []
+messages_of_frames (Item m ∷ frames) = m ∷ messages_of_frames frames
+messages_of_frames (Turn ∷ frames) = messages_of_frames frames
+messages_of_frames (End ∷ frames) = messages_of_frames frames
 
 -- the bytes begin with these frames, of which none is End
 pub record StartWith (bytes : List ℕ) (frames : List Frame) (rest : List ℕ) : Type 0 where
   pub whole : bytes ≡ flat_map spelling frames ++ rest
   pub formed : list_all is_frame frames ≡ true
-  pub before_end : list_any is_end frames ≡ false
+  pub before_end : list_any is_end_frame frames ≡ false
 
 -- the bytes are these frames, the first End, and what is told behind it
 abbrev pub IsClosed : List ℕ → List Frame → List ℕ → Type 0
@@ -113,20 +113,20 @@ IsFaultIn frames NoMemory = Unit {0}
 
 -- frames are those of a journal
 pub record AreItems (frames : List Frame) : Type 0 where
-  pub items : frames ≡ map Item (messages_of frames)
-  pub within : IsWithin (messages_of frames)
+  pub items : frames ≡ map Item (messages_of_frames frames)
+  pub within : IsWithin (messages_of_frames frames)
 
 -- what is told of frames is the certificate of their journal
 pub record IsTold (frames : List Frame) (told : List ℕ) (counts : ℕ × ℕ) : Type 0 where
   pub journal : AreItems frames
-  pub certificate : told ≡ certificate_bytes (messages_of frames)
-  pub counted : counts ≡ (length (requests_of (messages_of frames)), length (entries_of (messages_of frames)))
+  pub certificate : told ≡ certificate_bytes (messages_of_frames frames)
+  pub counted : counts ≡ (length (requests_of (messages_of_frames frames)), length (entries_of (messages_of_frames frames)))
 
 -- from line k on it isn't
 pub record IsOther (frames : List Frame) (told : List ℕ) (k : ℕ) : Type 0 where
   pub journal : AreItems frames
-  pub other : told ≢ certificate_bytes (messages_of frames)
-  pub line : k ≡ differing_line (certificate_bytes (messages_of frames)) told
+  pub other : told ≢ certificate_bytes (messages_of_frames frames)
+  pub line : k ≡ differing_line (certificate_bytes (messages_of_frames frames)) told
 
 -- what a fault says of frames and what is told of them
 abbrev pub IsFaultOf : List Frame → List ℕ → AuditFault → Type 0

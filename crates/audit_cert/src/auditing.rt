@@ -3,7 +3,7 @@ ghost use Rattle.std.specs.Prelude.{◌≡◌, ◌≢◌, ℕ, IfOk, IfErr};
 ghost use Rattle.audit_cert.specs.declared.fault.AuditFault.TheVariants.{NoMemory as no_memory};
 ghost use Rattle.audit_cert.specs.Basis.{IsBasisOf};
 ghost use Rattle.audit_cert.specs.Certificate.{certificate_bytes};
-ghost use Rattle.audit_cert.specs.Audit.{IsCertified, IsAuditFault, AreItems, IsTold, IsFaultOf, differing_line, messages_of};
+ghost use Rattle.audit_cert.specs.Audit.{IsCertified, IsAuditFault, AreItems, IsTold, IsFaultOf, differing_line, messages_of_frames};
 
 use crate::basis::Basis;
 use crate::fault::AuditFault;
@@ -39,8 +39,8 @@ fn differing_line(due: &[u8], told: &[u8]) -> usize
 // The certificate that is due to the journal of these frames.
 fn due_certificate(alloc: Global, basis: Basis<Text>, frames: &[Frame]) -> Result<Vec<u8>, NoMemory>
     requires journal { AreItems frames.now }
-    requires basis { IsBasisOf (messages_of frames.now) basis.log basis.elements.names.items basis.ids }
-    ensures { IfOk result (λ due. due.items ≡ certificate_bytes (messages_of frames.now)) }
+    requires basis { IsBasisOf (messages_of_frames frames.now) basis.log basis.elements.names.items basis.ids }
+    ensures { IfOk result (λ due. due.items ≡ certificate_bytes (messages_of_frames frames.now)) }
 {
     let Basis { log, elements, ids } = basis;
     let Text { names } = elements;

@@ -10,7 +10,7 @@ ghost use Rattle.peer_core.specs.Kept.{names_after};
 ghost use Rattle.audit_cert.specs.Basis.{IsBasisOf, is_known, is_placeable, may_join, may_extend};
 ghost use Rattle.coop_request.specs.Request.{IsAccepted};
 ghost use Rattle.audit_cert.specs.Journals.{IsFailOf};
-ghost use Rattle.audit_cert.specs.Audit.{AreItems, IsFaultIn, messages_of};
+ghost use Rattle.audit_cert.specs.Audit.{AreItems, IsFaultIn, messages_of_frames};
 
 use crate::elements::Elements;
 use crate::fail::CertFail;
@@ -184,7 +184,7 @@ impl<E: Elements> Basis<E> {
         frames: &[Frame],
     ) -> Result<Basis<E>, AuditFault>
         requires { E.names elements ≡ [] }
-        ensures ok { IfOk result (λ b. IsBasisOf (messages_of frames.now) b.log (E.names b.elements) b.ids) }
+        ensures ok { IfOk result (λ b. IsBasisOf (messages_of_frames frames.now) b.log (E.names b.elements) b.ids) }
         ensures items { OnOk result (AreItems frames.now) }
         ensures fault { IfErr result (IsFaultIn frames.now) }
     {

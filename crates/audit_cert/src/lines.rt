@@ -9,7 +9,7 @@ ghost use Rattle.check_remote.specs.State.{state_of};
 ghost use Rattle.line_engine.specs.Output.{line_of};
 ghost use Rattle.step_spelling.specs.Values.{spaced, name_text};
 ghost use Rattle.step_spelling.specs.Answers.{state_words};
-ghost use Rattle.audit_cert.specs.Audit.{messages_of};
+ghost use Rattle.audit_cert.specs.Audit.{messages_of_frames};
 ghost use Rattle.audit_cert.specs.Basis.{may_be_judged, message_bytes};
 ghost use Rattle.audit_cert.specs.Certificate.{counts_line, element_line, grant_line, request_lines};
 
@@ -147,8 +147,8 @@ fn put_frame<P: Places>(
     places: &P,
     frame: &Frame,
 ) -> Result<(), NoMemory>
-    requires { IsTrue (list_all (may_be_judged (P.names places.now) (length log.now)) (messages_of (frame.now ∷ []))) }
-    ensures { OnOk result (out.new.items ≡ out.old.items ++ flat_map (message_bytes (P.names places.now) log.now) (messages_of (frame.now ∷ []))) }
+    requires { IsTrue (list_all (may_be_judged (P.names places.now) (length log.now)) (messages_of_frames (frame.now ∷ []))) }
+    ensures { OnOk result (out.new.items ≡ out.old.items ++ flat_map (message_bytes (P.names places.now) log.now) (messages_of_frames (frame.now ∷ []))) }
 {
     match frame {
         Frame::Item(Message::Coop(request)) => {
@@ -167,8 +167,8 @@ pub(crate) fn put_frames<P: Places>(
     places: &P,
     frames: &[Frame],
 ) -> Result<(), NoMemory>
-    requires { IsTrue (list_all (may_be_judged (P.names places.now) (length log.now)) (messages_of frames.now)) }
-    ensures { OnOk result (out.new.items ≡ out.old.items ++ flat_map (message_bytes (P.names places.now) log.now) (messages_of frames.now)) }
+    requires { IsTrue (list_all (may_be_judged (P.names places.now) (length log.now)) (messages_of_frames frames.now)) }
+    ensures { OnOk result (out.new.items ≡ out.old.items ++ flat_map (message_bytes (P.names places.now) log.now) (messages_of_frames frames.now)) }
 {
     for frame in frames {
         put_frame(alloc, out, log, places, frame)?;

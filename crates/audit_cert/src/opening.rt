@@ -2,7 +2,7 @@
 ghost use Rattle.std.specs.Prelude.{◌≡◌, ◌≤◌, ◌<◌, ◌-◌, ◌++◌, true, length, IfOk, IfErr};
 ghost use Rattle.edit_frame.specs.Spelling.{spelling};
 ghost use Rattle.edit_frame.specs.Spells.{is_frame};
-ghost use Rattle.audit_cert.specs.Audit.{is_end, IsClosed, IsAuditFault, IsFaultAt};
+ghost use Rattle.audit_cert.specs.Audit.{is_end_frame, IsClosed, IsAuditFault, IsFaultAt};
 
 use crate::fault::AuditFault;
 use edit_frame::{Frame, FrameFail, FrameFault, FrameKind, first_frame};
@@ -15,8 +15,8 @@ pub(crate) struct Opened<'a> {
     pub(crate) told: &'a [u8],
 }
 
-fn is_end(frame: &Frame) -> bool
-    ensures { result ≡ is_end frame.now }
+fn is_end_frame(frame: &Frame) -> bool
+    ensures { result ≡ is_end_frame frame.now }
 {
     matches!(frame, Frame::End)
 }
@@ -55,7 +55,7 @@ pub(crate) fn open(alloc: Global, bytes: &[u8]) -> Result<Opened<'_>, AuditFault
     'frames: loop {
         let (frame, behind) = next_frame(alloc, bytes, rest)?;
         rest = behind;
-        if is_end(&frame) {
+        if is_end_frame(&frame) {
             return Ok(Opened { frames, told: rest });
         }
         frames.push(frame)?;

@@ -7,20 +7,20 @@ use Rattle.edit_message.specs.declared.message.Message.{Message}
 use Rattle.edit_message.specs.Message.{requests_of}
 use Rattle.peer_core.proofs.JournalLemmas.{history_law}
 use Rattle.audit_cert.specs.Basis.{may_be_judged, message_bytes}
-use Rattle.audit_cert.specs.Audit.{messages_of}
+use Rattle.audit_cert.specs.Audit.{messages_of_frames}
 use Rattle.audit_cert.proofs.LineLists.{all_judgeable, written}
 use Rattle.audit_cert.proofs.Audits.{order_once}
 use Rattle.audit_cert.proofs.auditing.due_certificate.Goals as goal
 
 pub of-places-requires : goal.of-places-requires
 of-places-requires c =
-    let J : List Message = messages_of c.args.frames.now in
+    let J : List Message = messages_of_frames c.args.frames.now in
     let basis = c.requires.basis in
     ap are_distinct basis.elements ∙ order_once (requests_of J) (history_law J basis.within.journal_is)
 
 pub put_frames-requires : goal.put_frames-requires
 put_frames-requires c =
-    let J : List Message = messages_of c.args.frames.now in
+    let J : List Message = messages_of_frames c.args.frames.now in
     let log : List Entry = c.args.basis.log in
     let basis = c.requires.basis in
     ap (λ (ns : List Name). list_all (may_be_judged ns (length log)) J) (c.of-places.ensures ∙ basis.elements)
@@ -29,7 +29,7 @@ put_frames-requires c =
 
 pub returns : goal.returns
 returns c =
-    let J : List Message = messages_of c.args.frames.now in
+    let J : List Message = messages_of_frames c.args.frames.now in
     let kept = c.args.basis in
     written J kept.log kept.elements.names.items kept.ids c.requires.basis
     c.len.result c.from.result c.deref.result.now c.new-due.result.items c.put_counts.new.out.items c.put_elements.new.out.items c.put_frames.new.out.items
