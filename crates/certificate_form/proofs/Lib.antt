@@ -1,0 +1,6 @@
+pub mod Fronts
+pub mod NextMessages
+pub mod AuditAnswers
+pub mod CertifyOutputs
+pub mod CertifyForms
+pub mod AuditForms

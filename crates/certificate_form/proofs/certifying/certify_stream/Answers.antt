@@ -1,0 +1,7 @@
+use Rattle.std.specs.Prelude.{⊤}
+use Rattle.line_engine.proofs.Pumping.{ran_nothing}
+use Rattle.certificate_form.specs.Certify.{certify_output, certify_part}
+use Rattle.certificate_form.proofs.certifying.certify_stream.Goals as goal
+
+pub returns-in_default-clause-ran : goal.returns-in_default-clause-ran
+returns-in_default-clause-ran g c = ran_nothing (certify_output c.args.site) certify_part (λ cut bytes. ⊤) _ _

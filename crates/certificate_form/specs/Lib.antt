@@ -1,0 +1,5 @@
+pub mod Certify
+pub mod Answer
+pub mod Audit
+pub mod Form
+pub mod Laws

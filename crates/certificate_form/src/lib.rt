@@ -1,0 +1,12 @@
+//! The forms that certify a journal, and that check a certificate.
+//!
+//! [`certify_stream`] takes a stream of frames in, and writes the journal that it leaves with its certificate.
+//! [`audit_input`] reads such a writing, and says whether it holds.
+#![tactic(auto)]
+
+mod auditing;
+mod certifying;
+pub mod laws;
+
+pub use auditing::audit_input;
+pub use certifying::certify_stream;
