@@ -1,0 +1,91 @@
+-- Passes that were dealt, and jobs that have them.
+use Rattle.std.proofs.Common.{◌≡◌, ℕ, zero, suc, ◌+◌, ◌<◌, List, [], ◌∷◌, ◌++◌, Some, length, slice_index_or, refl, sym, ap, ◌∙◌, subst, arith}
+use Rattle.std.specs.Prelude.{slice_get, remove}
+use Rattle.std.proofs.lemmas.Option.{get_or_from_slice_get}
+use Rattle.std.proofs.lemmas.List.{nil_from_length}
+use Rattle.atomic_table.specs.Seated.{TableId}
+use Rattle.peer_step.specs.declared.step.Step.{Step}
+use Rattle.peer_core.specs.Peer.{Peer, fresh_peer}
+use Rattle.peer_lock.specs.declared.call.Call.{Call}
+use Rattle.peer_lock.specs.declared.view.View.{View}
+use Rattle.peer_lock.specs.KnownPass.{KnownPass}
+use Rattle.peer_lock.specs.Rule.{newcomer, HasNumber}
+use Rattle.peer_lock.specs.Run.{steps_by, peer_after_run}
+use Rattle.peer_lock.specs.Laws.{steps_below}
+use Rattle.peer_lock.specs.Answers.{ClosesRun}
+use Rattle.peer_lock.proofs.ByCaller.{all_owned}
+use Rattle.peer_lock.specs.Dealt.{Dealt, Others, IsDealt}
+use Rattle.serve_core.specs.declared.job.Job.{Job}
+use Rattle.serve_core.specs.Gathered.{EachOf}
+use Rattle.serve_core.specs.Jobs.{passes_of}
+use Rattle.serve_core.specs.Served.{HaveDealtPasses}
+use Rattle.serve_core.proofs.Wholly.{has_one}
+
+pub same_some : {A : Type 0} (x y : A) → Some x ≡ Some y → x ≡ y
+same_some x y e = get_or_from_slice_get (x ∷ []) 0 y x e
+
+-- the first of the passes
+pub first_dealt : (table : TableId) (site passes : ℕ) (ks : List KnownPass) (k : KnownPass) → Dealt table site passes ks → 0 < passes → k ≡ slice_index_or ks 0 k
+    → (k.table ≡ table) × (k.view ≡ newcomer 0 passes site)
+first_dealt table site passes [] k dealt some e = absurd (omega (arith, dealt.all))
+first_dealt table site passes (x ∷ xs) k dealt some e =
+    let d = dealt.each 0 some in
+    let same : d.0 ≡ k = sym (same_some x d.0 d.1) ∙ sym e in
+    subst (λ (y : KnownPass). IsDealt table site passes 0 y) same d.2
+
+-- all others
+pub others_dealt : (table : TableId) (site passes : ℕ) (ks : List KnownPass) → Dealt table site passes ks → 0 < passes → Others table site passes (remove ks 0)
+others_dealt table site passes [] dealt some = absurd (omega (arith, dealt.all))
+others_dealt table site passes (x ∷ xs) dealt some = record {
+  rest = omega (arith, dealt.all);
+  each = λ i h.
+      let d = dealt.each (suc i) (omega (arith, h, dealt.all)) in
+      let next : suc i ≡ i + 1 = omega arith in
+      (d.0, d.1, d.2.0, d.2.1 ∙ ap (λ (n : ℕ). newcomer n 0 site) next);
+}
+
+-- what holds at each place holds of each
+pub each_of : (P : KnownPass → Type 0) (ks : List KnownPass) → ((i : ℕ) → i < length ks → (k : KnownPass) × (slice_get ks i ≡ Some k) × P k) → EachOf P ks
+each_of P [] f = tt
+each_of P (x ∷ xs) f = let here = f 0 (omega arith) in
+    (subst P (sym (same_some x here.0 here.1)) here.2, each_of P xs (λ i h. f (suc i) (omega arith)))
+
+pub each_front : (P : KnownPass → Type 0) (xs ys : List KnownPass) → EachOf P (xs ++ ys) → EachOf P xs
+each_front P [] ys h = tt
+each_front P (x ∷ xs) ys h = (h.0, each_front P xs ys h.1)
+
+pub tables_of : (table : TableId) (site passes : ℕ) (ks : List KnownPass) → Others table site passes ks → EachOf (λ k. k.table ≡ table) ks
+tables_of table site passes ks o = each_of (λ k. k.table ≡ table) ks (λ i h. let d = o.each i h in (d.0, d.1, d.2))
+
+pub made_of : (table : TableId) (site passes : ℕ) (ks : List KnownPass) → Others table site passes ks → EachOf (λ k. k.view.made ≡ 0) ks
+made_of table site passes ks o = each_of (λ k. k.view.made ≡ 0) ks (λ i h. let d = o.each i h in (d.0, d.1, ap (λ (v : View). v.made) d.3))
+
+-- the pass of a job
+pass_is : {L : Type 0} (jobs : List (Job L)) (i : ℕ) (d : Job L) (k : KnownPass) → i < length jobs → slice_get (passes_of jobs) i ≡ Some k → k ≡ (slice_index_or jobs i d).pass
+pass_is [] i d k h e = absurd (omega arith)
+pass_is (j ∷ js) zero d k h e = sym (same_some j.pass k e)
+pass_is (j ∷ js) (suc i) d k h e = pass_is js i d k (omega arith) e
+
+pub length-passes_of : {L : Type 0} (jobs : List (Job L)) → length (passes_of jobs) ≡ length jobs
+length-passes_of [] = refl
+length-passes_of (j ∷ js) = omega (arith, length-passes_of js)
+
+-- jobs with the passes that were dealt
+pub jobs_dealt : {L : Type 0} (table : TableId) (site passes : ℕ) (ks : List KnownPass) (jobs : List (Job L)) → Others table site passes ks → passes_of jobs ≡ ks → HaveDealtPasses table site jobs
+jobs_dealt {L} table site passes ks jobs o e = λ i d h.
+    let there : Others table site passes (passes_of jobs) = subst (λ (l : List KnownPass). Others table site passes l) (sym e) o in
+    let dealt = there.each i (omega (arith, h, length-passes_of jobs)) in
+    let is : dealt.0 ≡ (slice_index_or jobs i d).pass = pass_is jobs i d dealt.0 h dealt.1 in
+    (subst (λ (k : KnownPass). k.table ≡ table) is dealt.2, subst (λ (k : KnownPass). k.view ≡ newcomer (i + 1) 0 site) is dealt.3)
+
+-- the run of a peer that was closed before any step
+pub idle_run : (v : View) (p : Peer) (run : List Call) (site : ℕ) → v ≡ newcomer 0 1 site → ClosesRun v p run → (p ≡ fresh_peer site) × (run ≡ [])
+idle_run v p run site new closes =
+    let one : v.made ≡ 1 = ap (λ (x : View). x.made) new in
+    let mine : HasNumber v.numbers 0 = has_one 0 v.numbers (ap (λ (x : View). x.numbers) new) in
+    let none : steps_by 0 run ≡ [] = closes.steps 0 mine ∙ ap (λ (x : View). steps_by 0 x.seen) new in
+    let all : length run ≡ steps_below 1 run = all_owned 1 run (λ n h. closes.callers n (omega (arith, one, h))) in
+    let empty : run ≡ [] = nil_from_length run (omega (arith, all, ap (λ (l : List Step). length l) none)) in (
+      closes.peer ∙ ap (λ (l : List Call). peer_after_run (fresh_peer v.origin) l) empty ∙ ap (λ (x : View). fresh_peer x.origin) new,
+      empty,
+    )

@@ -1,0 +1,3 @@
+mod DealtPasses
+mod Standings
+mod Endings

@@ -1,0 +1,28 @@
+use Rattle.std.proofs.Common.{Option, sym, ◌∙◌, subst}
+use Rattle.serve_core.specs.declared.own.OwnEnd.{OwnEnd}
+use Rattle.link_run.specs.Ends.{OwnEnds}
+use Rattle.link_run.proofs.Endings.{fresh_sole, sole_same, stands_for_all, peer_of_run, own_in_run}
+use Rattle.link_run.proofs.dialling.run_alone.Goals as goal
+
+pub close_alone-requires-clause-whole : goal.close_alone-requires-clause-whole
+close_alone-requires-clause-whole g c =
+    let k = c.in_ok-shared.pass in
+    stands_for_all c.in_ok-shared.shared c.args.site c.make_own-pass.result.0
+    (sole_same c.in_ok-shared.shared c.args.site k c.make_own-pass.result.0 (fresh_sole k c.in_ok-shared.shared c.args.site c.in_ok-shared.ensures.0 c.in_ok-shared.ensures.1) c.make_own-pass.ensures.same)
+
+pub returns-clause-peer : goal.returns-clause-peer
+returns-clause-peer g c =
+    let k = c.in_ok-shared.pass in
+    let sole = sole_same c.in_ok-shared.shared c.args.site k c.make_own-pass.result.0 (fresh_sole k c.in_ok-shared.shared c.args.site c.in_ok-shared.ensures.0 c.in_ok-shared.ensures.1) c.make_own-pass.ensures.same in
+    peer_of_run c.in_ok-shared.shared c.args.site c.make_own-pass.result.0 c.close_alone.result.peer c.close_alone.result.history sole c.close_alone.ensures.closes
+
+pub returns-clause-ends : goal.returns-clause-ends
+returns-clause-ends g c =
+    let k = c.in_ok-shared.pass in
+    let run = c.close_alone.result.history in
+    let sole = sole_same c.in_ok-shared.shared c.args.site k c.make_own-pass.result.0 (fresh_sole k c.in_ok-shared.shared c.args.site c.in_ok-shared.ensures.0 c.in_ok-shared.ensures.1) c.make_own-pass.ensures.same in record {
+      own_steps = subst (λ (o : Option OwnEnd). OwnEnds c.args.steps.now o run) (sym c.close_alone.ensures.ends.0)
+          (own_in_run k c.make_own-pass.result.0 c.in_ok-shared.shared c.args.site c.args.steps.now c.make_own-pass.result.1 c.close_alone.result.peer run c.in_ok-shared.ensures.1 sole c.make_own-pass.ensures.mine c.close_alone.ensures.closes);
+      no_fault = c.close_alone.ensures.ends.1;
+      no_link = c.close_alone.ensures.ends.2 ∙ c.new.ensures.items;
+    }

@@ -1,0 +1,4 @@
+pub mod Passes
+pub mod Standing
+pub mod Ends
+pub mod Counts

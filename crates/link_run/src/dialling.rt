@@ -1,0 +1,137 @@
+//! A peer that dials.
+ghost use Rattle.std.specs.Prelude.{◌≡◌, ◌+◌, ◌≤◌, ◌<◌, [], length, IfOk, OnErr, vec_capacity, false, sum_by};
+ghost use Rattle.edit_io.specs.Door.{HasRoom, IsUnused};
+ghost use Rattle.peer_core.specs.Peer.{fresh_peer};
+ghost use Rattle.peer_lock.specs.Answers.{ClosesRun};
+ghost use Rattle.peer_lock.specs.Run.{peer_after_run};
+ghost use Rattle.session_core.specs.Session.{pass_steps};
+ghost use Rattle.link_run.specs.Passes.{IsSolePass};
+ghost use Rattle.link_run.specs.Ends.{AloneEnds, DialEnds};
+ghost use Rattle.link_run.specs.Counts.{links_given, links_hurt, door_failures, failures_in};
+
+use crate::dealing::deal_one;
+use crate::left::LinkRun;
+use edit_io::{Door, Failed};
+use element_name::NoMemory;
+use peer_lock::{Pass, SharedPeer};
+use peer_step::Step;
+use serve_core::{OwnEnd, make_own};
+use session_core::{SessionFault, dial_link};
+use std::alloc::Global;
+use std::sync::Wait;
+
+// Closes a shared peer whose own steps ended so.
+fn close_alone(
+    shared: SharedPeer,
+    pass: Pass,
+    own: OwnEnd,
+    door_failed: bool,
+    links: Vec<Option<Result<u32, SessionFault>>>,
+) -> LinkRun
+    requires own { pass.table ≡ shared }
+    requires whole { length pass.view.numbers ≡ pass.view.made }
+    ensures closes { ClosesRun pass.view result.peer result.history }
+    ensures ends { (result.own ≡ Some own) × (result.door_failed ≡ door_failed) × (result.links.items ≡ links.items) }
+{
+    let (peer, history) = shared.close(pass);
+    LinkRun {
+        peer,
+        history,
+        own: Some(own),
+        door_failed,
+        links,
+    }
+}
+
+// Has a session on a link that the door gave, and gives it back.
+fn dial_over<D: Door, R: Wait>(
+    rt: &R,
+    alloc: Global,
+    site: u16,
+    rounds: u32,
+    shared: SharedPeer,
+    pass: Pass,
+    link: D::Line,
+    door: &mut D,
+    outcomes: Vec<Option<Result<u32, SessionFault>>>,
+) -> LinkRun
+    requires own { IsSolePass shared site pass }
+    requires unused { IsUnused (D.Line.faults link) (D.Line.closes link) (D.Line.got link) (D.Line.sent link) }
+    requires given { D.returned door.old < D.given door.old }
+    requires room { (outcomes.items ≡ []) × (0 < vec_capacity outcomes) }
+    ensures peer { result.peer ≡ peer_after_run (fresh_peer site) result.history }
+    ensures ends { DialEnds D.Line.got D.Line.sent D.Line.faults D.Line.closes site rounds (pass_steps pass) (D.used door.old) (D.used door.new) result.own result.door_failed result.links.items result.history }
+    ensures whole { (result.door_failed ≡ false) × (length result.links.items ≡ 1) }
+    ensures given { D.given door.new ≡ D.given door.old }
+    ensures returned { D.returned door.new ≡ D.returned door.old + 1 }
+    ensures hurt { D.hurt door.new ≡ D.hurt door.old + sum_by failures_in result.links.items }
+    ensures faults { D.faults door.new ≡ D.faults door.old }
+{
+    let mut pass = pass;
+    let mut link = link;
+    let mut outcomes = outcomes;
+    let ended = dial_link(rt, alloc, &shared, &mut pass, &mut link, rounds, site == 0);
+    door.back(link);
+    outcomes.push_reserved(Some(ended));
+    close_alone(shared, pass, OwnEnd::Done, false, outcomes)
+}
+
+/// Makes the steps of a list on a peer of a site, and asks no door: for one whose steps can't all be had.
+///
+/// It takes the time of the steps, and the memory of the peer and of the run. Fails where there was no memory to begin
+/// with; where memory was wanting later, the run tells so.
+pub fn run_alone<R: Wait>(
+    rt: &R,
+    alloc: Global,
+    site: u16,
+    steps: &[Step],
+) -> Result<LinkRun, NoMemory>
+    ensures peer { IfOk result (λ r. r.peer ≡ peer_after_run (fresh_peer site) r.history) }
+    ensures ends { IfOk result (λ r. AloneEnds steps.now r.own r.door_failed r.links.items r.history) }
+{
+    let (shared, pass) = deal_one(alloc, site)?;
+    let (pass, own) = make_own(rt, &shared, pass, steps);
+    Ok(close_alone(shared, pass, own, false, Vec::new(alloc)))
+}
+
+/// Makes the steps of a list on a peer of a site, and then dials: it connects to a port, has a session of so many rounds
+/// on the link, and gives the link back. Site 0 validates.
+///
+/// Where the own steps are cut, by a full run or for want of memory, it doesn't connect. It waits for the other side.
+/// Fails where there was no memory to begin with, and has not asked the door then; where memory was wanting later, the
+/// run tells so.
+pub fn dial<D: Door, R: Wait>(
+    rt: &R,
+    alloc: Global,
+    site: u16,
+    port: u16,
+    rounds: u32,
+    steps: &[Step],
+    door: &mut D,
+) -> Result<LinkRun, NoMemory>
+    requires room { HasRoom (D.faults door.old) (D.given door.old) }
+    requires back { D.returned door.old ≤ D.given door.old }
+    // The peer is what the run leads to.
+    ensures peer { IfOk result (λ r. r.peer ≡ peer_after_run (fresh_peer site) r.history) }
+    // The own steps stand in the run, and behind them those of the session on the link that came back.
+    ensures ends { IfOk result (λ r. DialEnds D.Line.got D.Line.sent D.Line.faults D.Line.closes site rounds steps.now (D.used door.old) (D.used door.new) r.own r.door_failed r.links.items r.history) }
+    // The door gave no more links than came back, and counts those that failed, and its own failure.
+    ensures given { D.given door.new ≡ D.given door.old + links_given result }
+    ensures returned { D.returned door.new ≡ D.returned door.old + links_given result }
+    ensures hurt { D.hurt door.new ≡ D.hurt door.old + links_hurt result }
+    ensures faults { D.faults door.new ≡ D.faults door.old + door_failures result }
+    ensures used { OnErr result (D.used door.new ≡ D.used door.old) }
+{
+    let (shared, pass) = deal_one(alloc, site)?;
+    let outcomes = Vec::with_capacity(alloc, 1)?;
+    let (pass, own) = make_own(rt, &shared, pass, steps);
+    match own {
+        OwnEnd::Done => match door.connect(port) {
+            Ok(link) => Ok(dial_over(rt, alloc, site, rounds, shared, pass, link, door, outcomes)),
+            Err(Failed) => Ok(close_alone(shared, pass, own, true, outcomes)),
+        },
+        OwnEnd::RunFull | OwnEnd::NoMemory => {
+            Ok(close_alone(shared, pass, own, false, outcomes))
+        }
+    }
+}
