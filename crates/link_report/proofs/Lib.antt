@@ -1,0 +1,3 @@
+mod Listing
+mod Statuses
+mod Tellings
