@@ -1,0 +1,4 @@
+pub mod Named
+pub mod Within
+pub mod Carried
+pub mod Swept

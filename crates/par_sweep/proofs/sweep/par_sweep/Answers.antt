@@ -1,0 +1,76 @@
+use Rattle.std.proofs.Common.{◌≡◌, ◌+◌, List, length, take, sym, ap, ◌∙◌, arith}
+use Rattle.std.proofs.lemmas.List.{length-map}
+use Rattle.request_state.specs.declared.kept.Kept.{Kept}
+use Rattle.request_state.specs.Table.{is_in_order}
+use Rattle.elem_show.specs.Table.{Table}
+use Rattle.retro_undo.proofs.Parts.{states_of_none, undone_of_none, few_undone}
+use Rattle.retro_undo.proofs.Steps.{one_counted}
+use Rattle.retro_undo.proofs.Undoing.{counted_again, counted_last}
+use Rattle.par_sweep.specs.declared.judging.Judgement.{Judgement}
+use Rattle.par_sweep.specs.Judged.{judgement_on}
+use Rattle.par_sweep.specs.Listed.{names_within}
+use Rattle.par_sweep.proofs.Swept.{is_among, order_after, judged_at, states_more, undone_more, states_swept, undone_swept}
+use Rattle.par_sweep.proofs.sweep.par_sweep.Goals as goal
+
+pub loop-judgement-init : goal.loop-judgement-init
+loop-judgement-init g c = record {
+  states = sym (states_of_none (g.P.Places.names c.args.places.now) c.args.policy.now c.args.version c.args.states.now);
+  count = sym (undone_of_none (g.P.Places.names c.args.places.now) c.args.policy.now c.args.version c.args.states.now);
+  cells = counted_again c.args.table.now c.args.states.now c.requires.tables.counted;
+}
+
+pub carry_out-requires-clause-order : goal.carry_out-requires-clause-order
+carry_out-requires-clause-order g c =
+    let ids = names_within c.args.reach c.args.states.now in
+    ap (λ (t : List Kept). is_in_order t) c.loop-judgement.invariant.states
+    ∙ order_after (g.P.Places.names c.args.places.now) c.args.policy.now c.args.version (is_among (take c.loop-judgement.judgement-index ids)) c.args.states.now
+    ∙ c.in-Some.ensures.in_order
+
+pub carry_out-requires-clause-counted : goal.carry_out-requires-clause-counted
+carry_out-requires-clause-counted g c = ap (λ (t : Table). t.counted) c.loop-judgement.invariant.cells
+
+pub overflow_add-count : goal.overflow_add-count
+overflow_add-count g c =
+    let names = g.P.Places.names c.args.places.now in
+    let p = c.args.policy.now in
+    let table = c.args.states.now in
+    let ids = names_within c.args.reach table in
+    let i = c.loop-judgement.judgement-index in
+    let j = c.judgement-item.result in
+    let at = judged_at names p c.args.version ids table c.as_slice-judgement-items.result.now i j j (c.as_slice-judgement-items.ensures.value ∙ c.in-Some.ensures.judged) c.loop-judgement-test.true (sym c.judgement-item.is) in
+    let more = undone_more names p c.args.version ids table i j c.loop-judgement.states at.0 at.1 c.in-Some.ensures.in_order c.loop-judgement.invariant.states in
+    let few = few_undone names p c.args.version (is_among (take (i + 1) ids)) table in
+    let one = one_counted _ _ _ c.from-count.ensures c.carry_out.ensures.undone in
+    omega (arith, more, few, one, c.loop-judgement.invariant.count, c.requires.tables.few)
+
+pub loop-judgement-preserved : goal.loop-judgement-preserved
+loop-judgement-preserved g c =
+    let names = g.P.Places.names c.args.places.now in
+    let p = c.args.policy.now in
+    let table = c.args.states.now in
+    let ids = names_within c.args.reach table in
+    let i = c.loop-judgement.judgement-index in
+    let j = c.judgement-item.result in
+    let at = judged_at names p c.args.version ids table c.as_slice-judgement-items.result.now i j j (c.as_slice-judgement-items.ensures.value ∙ c.in-Some.ensures.judged) c.loop-judgement-test.true (sym c.judgement-item.is) in
+    let more = undone_more names p c.args.version ids table i j c.loop-judgement.states at.0 at.1 c.in-Some.ensures.in_order c.loop-judgement.invariant.states in
+    let one = one_counted _ _ _ c.from-count.ensures c.carry_out.ensures.undone in
+    record {
+      states = states_more names p c.args.version ids table i j c.loop-judgement.states c.carry_out.new.states at.0 at.1 c.in-Some.ensures.in_order c.loop-judgement.invariant.states c.carry_out.ensures.states;
+      count = omega (arith, more, one, c.loop-judgement.invariant.count);
+      cells = counted_last c.args.table.now c.loop-judgement.table c.carry_out.new.table c.loop-judgement.states c.carry_out.new.states c.loop-judgement.invariant.cells c.carry_out.ensures.cells;
+    }
+
+pub returns : goal.returns
+returns g c =
+    let names = g.P.Places.names c.args.places.now in
+    let p = c.args.policy.now in
+    let table = c.args.states.now in
+    let ids = names_within c.args.reach table in
+    let i = c.loop-judgement.judgement-index in
+    let judged = ap (λ (js : List Judgement). length js) (c.as_slice-judgement-items.ensures.value ∙ c.in-Some.ensures.judged) ∙ length-map ids (judgement_on names p table) in
+    let end : i ≡ length ids = omega (arith, judged, c.loop-judgement-test.false, c.loop-judgement.auto.judgement-index-end) in
+    record {
+      states = c.loop-judgement.invariant.states ∙ states_swept names p c.args.version c.args.reach table i end c.requires.outside;
+      cells = c.loop-judgement.invariant.cells;
+      count = c.loop-judgement.invariant.count ∙ undone_swept names p c.args.version c.args.reach table i end c.requires.outside;
+    }

@@ -1,0 +1,61 @@
+//! A verdict that was taken before is carried out.
+ghost use Rattle.std.specs.Prelude.{◌≡◌, ◌&&◌, Some, IsTrue};
+ghost use Rattle.request_state.specs.declared.state.State.TheVariants.{Tentative, Invalid};
+ghost use Rattle.request_state.specs.Table.{kept_of, is_in_order, with_state};
+ghost use Rattle.retro_undo.specs.Undo.{is_denied, counted_of, with_counted};
+ghost use Rattle.par_sweep.specs.Judged.{tentative_named, is_tentative_named, with_verdict};
+
+use crate::judging::Judgement;
+use auth_match::Verdict;
+use coop_request::Request;
+use elem_show::ElemTable;
+use element_name::Name;
+use request_state::{State, StateTable};
+
+// The request of a name, if it is Tentative.
+fn tentative(states: &StateTable, id: Name) -> Option<Request>
+    ensures { result ≡ tentative_named states.now id }
+{
+    match states.state(id)? {
+        State::Tentative => states.request(id),
+        State::Valid { .. } | State::Invalid { .. } => None,
+    }
+}
+
+// A Tentative request becomes Invalid, and counts no more.
+fn undo(request: Request, at: u32, by: Option<u32>, states: &mut StateTable, table: &mut ElemTable)
+    requires tentative { kept_of states.old request.id ≡ Some (record { request = request; state = Tentative }) }
+    requires counted { table.old.counted ≡ counted_of states.old }
+    ensures states { states.new ≡ with_state states.old request.id (Invalid at by) }
+    ensures cells { table.new ≡ with_counted table.old states.new }
+{
+    states.set(request.id(), State::Invalid { at, by });
+    table.withdraw(request);
+}
+
+/// Undoes the judged request if it was denied and is Tentative. Whether it did.
+///
+/// A reach may name a user twice, and the user's requests are then listed twice: the second time they are Invalid.
+pub(crate) fn carry_out(
+    judged: &Judgement,
+    version: u32,
+    states: &mut StateTable,
+    table: &mut ElemTable,
+) -> bool
+    requires order { IsTrue (is_in_order states.old) }
+    requires counted { table.old.counted ≡ counted_of states.old }
+    ensures undone { result ≡ (is_tentative_named states.old judged.now.id && is_denied judged.now.verdict) }
+    ensures states { states.new ≡ with_verdict version judged.now states.old }
+    ensures cells { table.new ≡ with_counted table.old states.new }
+{
+    let Verdict::Denied { by } = judged.verdict else {
+        return false;
+    };
+    match tentative(states, judged.id) {
+        Some(request) => {
+            undo(request, version, by, states, table);
+            true
+        }
+        None => false,
+    }
+}

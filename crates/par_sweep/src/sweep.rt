@@ -1,0 +1,74 @@
+//! The sweep on several threads.
+ghost use Rattle.std.specs.Prelude.{◌≡◌, true, IfSome, IsTrue, map};
+ghost use Rattle.request_state.specs.Table.{is_in_order};
+ghost use Rattle.retro_undo.specs.Undo.{have_elements, are_reached};
+ghost use Rattle.retro_undo.specs.Sweep.{every_request, MaySweep, IsSwept};
+ghost use Rattle.par_sweep.specs.Judged.{judgement_on};
+ghost use Rattle.par_sweep.specs.Listed.{names_within};
+
+use crate::judging::{Judgement, judge_each};
+use crate::listing::list_reach;
+use crate::setting::carry_out;
+use elem_show::ElemTable;
+use element_name::{Name, Places};
+use policy_book::{Policy, Reach};
+use request_state::{StateTable, Undone};
+use retro_undo::sweep_reach;
+use std::alloc::Global;
+use std::thread::Threads;
+
+/// Fewer requests than these are judged on the caller's thread.
+const FEW: usize = 1_024;
+
+// The judgements on the Tentative requests within the reach; none where these are few, or memory is wanting.
+fn judge_reach<P: Places + Sync, R: Threads + Sync>(
+    rt: &R,
+    alloc: Global,
+    reach: &Reach,
+    policy: &Policy,
+    states: &StateTable,
+    places: &P,
+) -> Option<Vec<Judgement>>
+    requires { have_elements (P.names places.now) states.now ≡ true }
+    ensures judged { IfSome result (λ judged. judged.items
+        ≡ map (judgement_on (P.names places.now) policy.now states.now) (names_within reach.now states.now)) }
+    ensures in_order { IfSome result (λ judged. IsTrue (is_in_order states.now)) }
+{
+    // Where no request is Tentative there is none to list.
+    states.next_tentative(Name::start())?;
+    let ids = list_reach(alloc, reach, states).ok()?;
+    if ids.len() < FEW {
+        return None;
+    }
+    judge_each(rt, alloc, ids.as_slice(), policy, states, places).ok()
+}
+
+/// Undoes each Tentative request that the policy of a new version denies, and says how many, as `sweep_reach` does.
+///
+/// The verdicts are taken on as many threads as there are processors, before anything is changed: a change of a
+/// state or of what counts changes no verdict. What is denied is then undone on the caller's thread. Where there are
+/// few requests, or no memory for the list or the verdicts, `sweep_reach` does it all. Takes for a while 16 bytes for
+/// each Tentative request within the reach and 32 for its verdict, and up to twice that while lists grow and are joined.
+pub fn par_sweep<P: Places + Sync, R: Threads + Sync>(
+    rt: &R,
+    alloc: Global,
+    reach: Reach,
+    policy: &Policy,
+    version: u32,
+    states: &mut StateTable,
+    table: &mut ElemTable,
+    places: &P,
+) -> Undone
+    requires tables { MaySweep (P.names places.now) states.old table.old }
+    requires outside { are_reached reach (P.names places.now) policy.now states.old ≡ true }
+    ensures { IsSwept every_request (P.names places.now) policy.now version states.old table.old states.new table.new result.count }
+{
+    let Some(judged) = judge_reach(rt, alloc, &reach, policy, states, places) else {
+        return sweep_reach(reach, policy, version, states, table, places);
+    };
+    let mut count = 0;
+    for judgement in judged.as_slice() {
+        count += u32::from(carry_out(judgement, version, states, table));
+    }
+    Undone { count }
+}
