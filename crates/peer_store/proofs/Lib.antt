@@ -1,0 +1,6 @@
+mod Changes
+mod Opening
+mod Putting
+mod Readings
+mod Replays
+mod Saving

@@ -1,0 +1,29 @@
+//! Laws of stores.
+ghost use Rattle.std.specs.Prelude.{◌≡◌, ◌↔◌, ℕ, List, true, false};
+ghost use Rattle.peer_step.specs.declared.step.Step.{Step};
+ghost use Rattle.peer_core.specs.Peer.{Peer};
+ghost use Rattle.peer_core.specs.After.{peer_after};
+ghost use Rattle.peer_store.specs.Steps.{changes, is_look};
+ghost use Rattle.peer_store.specs.Store.{StandsFor, IsNoStoreFrom};
+
+/// A step changes a count of a peer's messages exactly where it changes the peer, and a look changes nothing.
+pub fn changing_steps()
+    ensures counts { (p : Peer) (step : Step) → (changes p step ≡ false) ↔ (peer_after p step ≡ p) }
+    ensures looks { (p : Peer) (step : Step) → is_look step ≡ true → changes p step ≡ false }
+{}
+
+/// A store stands for one list of steps.
+pub fn one_list()
+    ensures { (site : ℕ) (file : List ℕ) (first second : List Step) → StandsFor site first file → StandsFor site second file → first ≡ second }
+{
+    record_file::laws::one_reading();
+    step_body::laws::one_step();
+}
+
+/// A file that is no store from some offset on stands for no steps.
+pub fn no_store()
+    ensures { (site offset : ℕ) (file : List ℕ) (steps : List Step) → IsNoStoreFrom site offset file → StandsFor site steps file → ⊥ }
+{
+    record_file::laws::broken_has_none();
+    step_body::laws::one_step();
+}

@@ -1,0 +1,18 @@
+//! A peer that is kept in a file: the steps that changed it, each in a record of its own.
+//!
+//! A store of a site is a file of records, which stands for steps: replayed from the fresh peer of the site, each
+//! changes it. So a peer is there again when its file is opened. A crash at any moment while a step is put leaves
+//! the steps from before it, with that step or without.
+#![tactic(auto)]
+
+mod fault;
+pub mod laws;
+mod limits;
+mod replay;
+mod spelled;
+mod stepped;
+mod store;
+
+pub use fault::StoreFault;
+pub use limits::MAX_GATE;
+pub use store::Store;

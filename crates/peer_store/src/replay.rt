@@ -1,0 +1,69 @@
+//! Peers from the bodies of their steps.
+ghost use Rattle.std.specs.Prelude.{◌≡◌, ◌<◌, ◌^◌, false, IfOk, IfErr, IsTrue};
+ghost use Rattle.record_file.specs.declared.walk.Ending.{Ending};
+ghost use Rattle.record_file.specs.Records.{gate_place, bytes_of_each};
+ghost use Rattle.peer_core.specs.Peer.{fresh_peer};
+ghost use Rattle.peer_store.specs.Store.{IsNoStep};
+ghost use Rattle.peer_store.specs.Replay.{MakesBody, IsReplay, IsStoppedBy, IsRefusedBy};
+
+use crate::fault::StoreFault;
+use crate::limits::FIRST_GATE;
+use crate::spelled::next_version;
+use crate::stepped::make_step;
+use element_name::NoMemory;
+use peer_core::Peer;
+use record_file::{Ending, Loaded};
+use std::alloc::Global;
+use step_body::read_body;
+
+// Makes the step of a body, and says whether it is one that changes the peer.
+fn make_body(alloc: Global, peer: &mut Peer, body: &[u8]) -> Result<bool, NoMemory>
+    ensures made { IfOk result (λ made. IsTrue made → MakesBody peer.old body.now peer.new) }
+    ensures no_step { IfOk result (λ made. made ≡ false → IsNoStep peer.old body.now) }
+{
+    let Some(step) = read_body(alloc, next_version(peer), body)? else {
+        return Ok(false);
+    };
+    let stepped = make_step(peer, step)?;
+    Ok(stepped.changed)
+}
+
+// Makes the steps of these bodies, and gives the place of the gate behind their records.
+fn replay(alloc: Global, peer: &mut Peer, bodies: &[Vec<u8>]) -> Result<u64, StoreFault>
+    requires { gate_place (bytes_of_each bodies.now) < 2 ^ 64 }
+    ensures place { IfOk result (λ place. place ≡ gate_place (bytes_of_each bodies.now)) }
+    ensures replay { IfOk result (λ _. IsReplay peer.old (bytes_of_each bodies.now) peer.new) }
+    ensures stopped { IfErr result (λ fault. IsStoppedBy fault peer.old (bytes_of_each bodies.now)) }
+{
+    let mut place = FIRST_GATE;
+    for body in bodies {
+        if !make_body(alloc, peer, body)? {
+            return Err(StoreFault::NotAStore(place));
+        }
+        place += 3 + body.len() as u64;
+    }
+    Ok(place)
+}
+
+/// The peer of a file's bodies, and the place of the gate behind their records.
+pub(crate) struct Replayed {
+    pub(crate) peer: Peer,
+    pub(crate) place: u64,
+}
+
+/// The peer of a site by what was read of its file, unless this is no store.
+#[tactic(auto, using(crate::proofs::Opening::refused_by, crate::proofs::Opening::refused_broken))]
+pub(crate) fn replay_file(alloc: Global, site: u16, loaded: &Loaded) -> Result<Replayed, StoreFault>
+    requires { gate_place (bytes_of_each loaded.now.bodies.items) < 2 ^ 64 }
+    ensures place { IfOk result (λ r. r.place ≡ gate_place (bytes_of_each loaded.now.bodies.items)) }
+    ensures replay { IfOk result (λ r. IsReplay (fresh_peer site) (bytes_of_each loaded.now.bodies.items) r.peer) }
+    ensures closed { IfOk result (λ _. loaded.now.ending ≡ Ending.Closed) }
+    ensures refused { IfErr result (λ fault. IsRefusedBy fault site loaded.now) }
+{
+    let mut peer = Peer::new(alloc, site)?;
+    let place = replay(alloc, &mut peer, &loaded.bodies)?;
+    match loaded.ending {
+        Ending::Closed => Ok(Replayed { peer, place }),
+        Ending::Broken => Err(StoreFault::NotAStore(place)),
+    }
+}
