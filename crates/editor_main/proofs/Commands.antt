@@ -10,8 +10,9 @@ use Rattle.line_engine.specs.Output.{Output, Ends}
 use Rattle.line_engine.specs.Engine.{Told, Says, Ran}
 use Rattle.edit_make.specs.Schedule.{made_world}
 use Rattle.edit_make.specs.Summary.{summary_text}
+use Rattle.certificate_form.specs.Laws.{IsRightlyAnswered}
 use Rattle.editor_main.specs.declared.command.Command.{Command}
-use Rattle.editor_main.specs.declared.command.Command.TheVariants.{Replay}
+use Rattle.editor_main.specs.declared.command.Command.TheVariants.{Replay, Audit}
 use Rattle.replay_form.specs.Headline.{Headline}
 use Rattle.editor_main.specs.Plain.{RanPlain, plain_output, plain_part, is_reader, make_output}
 
@@ -23,9 +24,10 @@ named found f g e h = sym e ∙ ap (λ (x : Command). Some x) h
 pub ran_read : (command : Option Command) (output : List ℕ → Output) (part : List ℕ → Option (List ℕ)) (Leaves : Bool → List ℕ → Type 0) (l r a b : Option (List ℕ)) (status : Status)
     → is_reader command ≡ true → ((input : List ℕ) → plain_output command input ≡ output input) → ((bytes : List ℕ) → plain_part command bytes ≡ part bytes)
     → ((input : List ℕ) → command ≡ Some Replay → Headline input)
+    → ((input : List ℕ) → command ≡ Some Audit → IsRightlyAnswered input)
     → (input : List ℕ) × (written : List ℕ) × Ran output part Leaves l r a b status input written
     → (input : List ℕ) × (written : List ℕ) × RanPlain command l r a b status input written
-ran_read command output part Leaves l r a b status reads outputs parts heads (input, written, ran) = (
+ran_read command output part Leaves l r a b status reads outputs parts heads answers (input, written, ran) = (
   input,
   written,
   record {
@@ -36,6 +38,7 @@ ran_read command output part Leaves l r a b status reads outputs parts heads (in
     read_fault = λ fault. let f = ran.read_fault fault in (f.0, f.1, f.2, parts f.0 ∙ f.3);
     kept = λ silent. absurd (true≢false (sym reads ∙ silent));
     headline = heads input;
+    answer = answers input;
   },
 )
 
@@ -70,6 +73,7 @@ ran_said command status out left a b written silent is other says =
         read_fault = λ read. absurd (not_read status written out other says.given read);
         kept = λ none. keeps_itself left;
         headline = λ named. absurd (true≢false (sym (ap is_reader named) ∙ silent));
+        answer = λ named. absurd (true≢false (sym (ap is_reader named) ∙ silent));
       },
     )
 

@@ -1,3 +1,4 @@
 pub mod Command
+pub mod Concurrent
 pub mod Plain
 pub mod Editor

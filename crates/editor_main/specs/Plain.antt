@@ -9,13 +9,16 @@ use Rattle.line_engine.specs.Engine.{Told}
 use Rattle.replay_form.specs.Replay.{replay_output, replay_part}
 use Rattle.replay_form.specs.Headline.{Headline}
 use Rattle.feed_form.specs.Feed.{feed_output, feed_part}
+use Rattle.certificate_form.specs.Certify.{certify_output, certify_part}
+use Rattle.certificate_form.specs.Audit.{audit_output, audit_part}
+use Rattle.certificate_form.specs.Laws.{IsRightlyAnswered}
 use Rattle.edit_make.specs.Schedule.{made_world}
 use Rattle.edit_make.specs.Summary.{summary_text}
 use Rattle.editor_main.specs.declared.command.Command.{Command}
-use Rattle.editor_main.specs.declared.command.Command.TheVariants.{Replay, Feed, Make}
+use Rattle.editor_main.specs.declared.command.Command.TheVariants.{Replay, Feed, Make, Certify, Audit}
 
 abbrev pub usage_line : List ℕ
-usage_line = line_of (codes "usage: replay | feed SITE | make SEED EDITS | race SITE | serve SITE PORT LINKS | dial SITE PORT ROUNDS")
+usage_line = line_of (codes "usage: replay | feed SITE | make SEED EDITS | race SITE | serve SITE PORT LINKS | dial SITE PORT ROUNDS | certify SITE | audit")
 
 -- what is written where the words name no command, and the status
 abbrev pub usage_output : Output
@@ -30,6 +33,8 @@ abbrev pub plain_output : Option Command → List ℕ → Output
 plain_output (Some Replay) input = replay_output input
 plain_output (Some (Feed site)) input = feed_output site input
 plain_output (Some (Make seed edits)) input = make_output seed edits
+plain_output (Some (Certify site)) input = certify_output site input
+plain_output (Some Audit) input = audit_output input
 plain_output None input = usage_output
 
 -- what a command writes of bytes after which reading fails; none where it reads nothing or they have a fault
@@ -37,6 +42,8 @@ abbrev pub plain_part : Option Command → List ℕ → Option (List ℕ)
 plain_part (Some Replay) bytes = replay_part bytes
 plain_part (Some (Feed site)) bytes = feed_part site bytes
 plain_part (Some (Make seed edits)) bytes = None
+plain_part (Some (Certify site)) bytes = certify_part bytes
+plain_part (Some Audit) bytes = audit_part bytes
 plain_part None bytes = None
 
 -- whether a command reads its input
@@ -44,6 +51,8 @@ abbrev pub is_reader : Option Command → Bool
 is_reader (Some Replay) = true
 is_reader (Some (Feed site)) = true
 is_reader (Some (Make seed edits)) = false
+is_reader (Some (Certify site)) = true
+is_reader (Some Audit) = true
 is_reader None = false
 
 -- A top call over a source that had this input and a sink that was given these bytes.
@@ -62,3 +71,5 @@ pub record RanPlain (command : Option Command) (left_old left_new sink_old sink_
   pub kept : is_reader command ≡ false → Keeps left_old left_new
   -- what the output of `replay` says of the texts that are shown
   pub headline : command ≡ Some Replay → Headline input
+  -- what is answered of a journal and its certificate is right
+  pub answer : command ≡ Some Audit → IsRightlyAnswered input

@@ -1,43 +1,54 @@
-//! The top call that may start threads.
-ghost use Rattle.std.specs.Prelude.{◌≡◌, ℕ, List};
-ghost use Rattle.line_engine.specs.Engine.{Reads, StatusCause};
-ghost use Rattle.peer_lock.specs.declared.call.Call.{Call};
-ghost use Rattle.editor_main.specs.Editor.{RanEditor};
+//! The top call that may start threads and talk to other programs.
+ghost use Rattle.std.specs.Prelude.{◌≡◌};
+ghost use Rattle.line_engine.specs.Engine.{Reads};
+ghost use Rattle.link_form.specs.Form.{door_state};
+ghost use Rattle.editor_main.specs.Concurrent.{concurrent_command_of};
+ghost use Rattle.editor_main.specs.Editor.{stream_state, EditorEnds};
 
-use crate::command::race_site;
+use crate::command::{ConcurrentCommand, concurrent_command_of};
 use crate::plain_call::plain;
 use crate::word::Word;
 use edit_io::{Door, Sink, Source};
 use line_engine::Status;
+use link_form::{dial_form, serve_form};
 use race_form::race_form;
 use race_run::Gate;
 use std::alloc::Global;
 use std::sync::Wait;
 use std::thread::Threads;
 
-/// Runs the command that the words name over a source and a sink, a door to other programs, and a gate that the
-/// workers of a race pass.
+/// Runs the command that the words name over a source and a sink, a door to other programs that wasn't asked yet, and a
+/// gate that the workers of a race pass.
 ///
-/// A race reads its input to the end, and then runs its steps on threads. All other commands are those of
-/// [`plain`](crate::plain). No command uses the door yet.
+/// A race, and a peer that is run over links, read their input to the end, or to its first fault, and then run its steps.
+/// All other commands are those of [`plain`](crate::plain). It waits for threads, and for the programs that connect or
+/// are connected to.
 pub fn editor<R: Threads + Wait + Sync, S: Source + Send, K: Sink, D: Door, G: Gate + Sync>(
     rt: &R,
     alloc: Global,
     words: &[Word],
     source: &mut S,
     sink: &mut K,
-    _door: &mut D,
+    door: &mut D,
     gate: &G,
 ) -> Status
-    ensures ran { (input : List ℕ) × (written : List ℕ) × (run : List Call) ×
-        RanEditor words.now (S.left source.old) (S.left source.new) (K.written sink.old) (K.written sink.new) result input written run }
+    requires { (D.faults door.old ≡ 0) × (D.given door.old ≡ 0) × (D.returned door.old ≡ 0) }
+    ensures ends { EditorEnds D.Line.got D.Line.sent D.Line.faults D.Line.closes words.now (concurrent_command_of words.now)
+        (stream_state (S.left source.old) (S.faults source.old)) (stream_state (S.left source.new) (S.faults source.new))
+        (stream_state (K.written sink.old) (K.faults sink.old)) (stream_state (K.written sink.new) (K.faults sink.new))
+        (door_state (D.faults door.old) (D.given door.old) (D.returned door.old) (D.hurt door.old) (D.used door.old))
+        (door_state (D.faults door.new) (D.given door.new) (D.returned door.new) (D.hurt door.new) (D.used door.new))
+        result }
     ensures reads { Reads (S.left source.old) (S.left source.new) }
-    ensures read_cause { StatusCause (S.faults source.old) (S.faults source.new) result Status.ReadFault }
-    ensures write_cause { StatusCause (K.faults sink.old) (K.faults sink.new) result Status.WriteFault }
-    ensures door { _door.new ≡ _door.old }
 {
-    match race_site(words) {
-        Some(site) => race_form(rt, alloc, site, source, sink, gate),
+    match concurrent_command_of(words) {
+        Some(ConcurrentCommand::Race(site)) => race_form(rt, alloc, site, source, sink, gate),
+        Some(ConcurrentCommand::Serve { site, port, links }) => {
+            serve_form(rt, alloc, site, port, links, source, sink, door)
+        }
+        Some(ConcurrentCommand::Dial { site, port, rounds }) => {
+            dial_form(rt, alloc, site, port, rounds, source, sink, door)
+        }
         None => plain(alloc, words, source, sink),
     }
 }

@@ -1,4 +1,4 @@
-//! The shared editor's program: the top call over standard input and standard output.
+//! The shared editor's program: the top call over standard input, standard output and links on this machine.
 #![tactic(auto)]
 
 mod command;
@@ -6,9 +6,10 @@ mod editor_call;
 mod plain_call;
 mod word;
 
-use edit_io::{MemDoor, ReadSource, WriteSink};
+use edit_io::{ReadSource, WriteSink};
 pub use editor_call::editor;
 use line_engine::Status;
+use link_ws::TcpDoor;
 pub use plain_call::plain;
 use race_run::FreeGate;
 use std::process::ExitCode;
@@ -39,8 +40,7 @@ fn main(rt: HostRuntime) -> ExitCode {
     };
     let mut source = ReadSource::new(rt.stdin());
     let mut sink = WriteSink::new(rt.stdout());
-    // No command asks for a link yet.
-    let mut door = MemDoor::new(Vec::new(rt.alloc()), Vec::new(rt.alloc()));
+    let mut door = TcpDoor::new(rt, rt.alloc());
     let status = editor(
         &rt,
         rt.alloc(),

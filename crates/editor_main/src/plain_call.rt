@@ -7,6 +7,7 @@ ghost use Rattle.editor_main.specs.Plain.{RanPlain, make_output};
 
 use crate::command::{Command, command_of};
 use crate::word::Word;
+use certificate_form::{audit_input, certify_stream};
 use edit_io::{Sink, Source};
 use edit_make::summary;
 use feed_form::feed;
@@ -15,8 +16,8 @@ use replay_form::replay;
 use std::alloc::Global;
 
 // What is written where the words name no command.
-const USAGE: &[u8; 104] =
-    b"usage: replay | feed SITE | make SEED EDITS | race SITE | serve SITE PORT LINKS | dial SITE PORT ROUNDS\n";
+const USAGE: &[u8; 127] = b"usage: replay | feed SITE | make SEED EDITS | race SITE \
+    | serve SITE PORT LINKS | dial SITE PORT ROUNDS | certify SITE | audit\n";
 
 // Writes the summary of the world that a seed makes.
 fn make<K: Sink>(alloc: Global, seed: u32, edits: u32, sink: &mut K) -> Status
@@ -52,6 +53,11 @@ pub fn plain<S: Source, K: Sink>(
         }
         Some(Command::Feed(site)) => feed(alloc, site, source, sink),
         Some(Command::Make { seed, edits }) => make(alloc, seed, edits, sink),
+        Some(Command::Certify(site)) => certify_stream(alloc, site, source, sink),
+        Some(Command::Audit) => {
+            certificate_form::laws::answer_is_right();
+            audit_input(alloc, source, sink)
+        }
         None => say(sink, USAGE, Status::Usage),
     }
 }

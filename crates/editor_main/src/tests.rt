@@ -10,8 +10,8 @@ use std::thread::Threads;
 
 const LEAST: &[u8] = b"peers 1\n0 insert 0 a\nshow 0\n";
 
-const USAGE: &[u8] =
-    b"usage: replay | feed SITE | make SEED EDITS | race SITE | serve SITE PORT LINKS | dial SITE PORT ROUNDS\n";
+const USAGE: &[u8] = b"usage: replay | feed SITE | make SEED EDITS | race SITE \
+    | serve SITE PORT LINKS | dial SITE PORT ROUNDS | certify SITE | audit\n";
 
 /// A run: the words, what the source gives and the sink takes, at how many bytes a call and which call of each fails
 /// (none where it is 0), and how it ends.
@@ -60,6 +60,28 @@ const RACED: &[u8] = b"run 2\n\
     1 message entry 2 deluser 3 => held version 1\n\
     1 message entry 1 adduser 1 => version 1 undone 0\n\
     show\nheld 1\nwaits entry 2 for settle\n";
+
+// The administrator takes user 1 in and lets him insert, and he inserts an `x`.
+const GRANTED: &[u8] = b"\x00\x00\x00\x07\x01\x04\x00\x01\x01\x00\x01\
+    \x00\x00\x00\x0f\x01\x04\x00\x02\x05\x00\x00\x01\x01\x01\x00\x01\x01\x00\x00\
+    \x00\x00\x00\x18\x01\x01\x00\x00\x00\x00\x00\x01\x00\x01\x00\x02\x00\x00\x00\x00\x00\x00\x00\x00\x00\x00\x00\x78";
+
+// The same with the certificate behind it.
+const CERTIFIED: &[u8] = b"\x00\x00\x00\x07\x01\x04\x00\x01\x01\x00\x01\
+    \x00\x00\x00\x0f\x01\x04\x00\x02\x05\x00\x00\x01\x01\x01\x00\x01\x01\x00\x00\
+    \x00\x00\x00\x18\x01\x01\x00\x00\x00\x00\x00\x01\x00\x01\x00\x02\x00\x00\x00\x00\x00\x00\x00\x00\x00\x00\x00\x78\
+    \x00\x00\x00\x02\x01\x06certificate 1 2\nelement 1.1\nrequest 1.1 tentative\ngrant 2 2 by 2\n";
+
+// With another state of the request.
+const CHANGED: &[u8] = b"\x00\x00\x00\x07\x01\x04\x00\x01\x01\x00\x01\
+    \x00\x00\x00\x0f\x01\x04\x00\x02\x05\x00\x00\x01\x01\x01\x00\x01\x01\x00\x00\
+    \x00\x00\x00\x18\x01\x01\x00\x00\x00\x00\x00\x01\x00\x01\x00\x02\x00\x00\x00\x00\x00\x00\x00\x00\x00\x00\x00\x78\
+    \x00\x00\x00\x02\x01\x06certificate 1 2\nelement 1.1\nrequest 1.1 valid 2\ngrant 2 2 by 2\n";
+
+// Without the second frame.
+const WITHOUT_GRANT: &[u8] = b"\x00\x00\x00\x07\x01\x04\x00\x01\x01\x00\x01\
+    \x00\x00\x00\x18\x01\x01\x00\x00\x00\x00\x00\x01\x00\x01\x00\x02\x00\x00\x00\x00\x00\x00\x00\x00\x00\x00\x00\x78\
+    \x00\x00\x00\x02\x01\x06certificate 1 2\nelement 1.1\nrequest 1.1 tentative\ngrant 2 2 by 2\n";
 
 fn fails(alloc: Global, call: u64) -> Result<Vec<u64>, AllocError> {
     let mut calls = Vec::new(alloc);
@@ -155,10 +177,88 @@ fn forms(rt: HostRuntime) -> Result<(), Fail> {
     Ok(())
 }
 
+// What is written where a door has no link.
+const NO_LINK: &[u8] = b"run 0\nshow\nheld 0\ndoor fault\n";
+
+#[test]
+fn doors_without_links(rt: HostRuntime) -> Result<(), Fail> {
+    let rows = [
+        call(
+            &[b"serve", b"0", b"7000", b"1"],
+            b"",
+            Status::LinkFault,
+            NO_LINK,
+        ),
+        call(
+            &[b"serve", b"9", b"65535", b"16"],
+            b"show\n",
+            Status::LinkFault,
+            NO_LINK,
+        ),
+        call(
+            &[b"dial", b"1", b"7000", b"1000"],
+            b"",
+            Status::LinkFault,
+            NO_LINK,
+        ),
+        call(
+            &[b"dial", b"1", b"7000", b"1"],
+            b"show\nshow me\n",
+            Status::BadInput,
+            b"run 1\n0 show => show\nshow\nheld 0\nbad line 2\n",
+        ),
+    ];
+    for row in rows {
+        let (status, written) = run(&rt, rt.alloc(), &row)?;
+        assert_eq!(rt; written.as_slice(), row.written);
+        assert_eq!(rt; status, row.status);
+    }
+    Ok(())
+}
+
+#[test]
+fn certificates(rt: HostRuntime) -> Result<(), Fail> {
+    let audit: &[&[u8]] = &[b"audit"];
+    let holds = call(audit, CERTIFIED, Status::Done, b"certificate holds 1 2\n");
+    let rows = [
+        call(&[b"certify", b"2"], GRANTED, Status::Done, CERTIFIED),
+        call(
+            &[b"certify", b"2"],
+            b"\x00\x00",
+            Status::BadInput,
+            b"bad frame 0 5\n",
+        ),
+        holds,
+        Row {
+            read_fails: 3,
+            status: Status::ReadFault,
+            written: b"",
+            ..holds
+        },
+        call(
+            audit,
+            CHANGED,
+            Status::NotShown,
+            b"certificate line 3 differs\n",
+        ),
+        call(audit, WITHOUT_GRANT, Status::NotShown, b"not a journal 2\n"),
+        call(audit, GRANTED, Status::BadInput, b"bad frame 58 5\n"),
+    ];
+    for row in rows {
+        let (status, written) = run(&rt, rt.alloc(), &row)?;
+        assert_eq!(rt; written.as_slice(), row.written);
+        assert_eq!(rt; status, row.status);
+    }
+    Ok(())
+}
+
 #[test]
 fn words_that_name_no_form(rt: HostRuntime) -> Result<(), Fail> {
-    let rows: [&[&[u8]]; 15] = [
+    let rows: [&[&[u8]]; 22] = [
         &[],
+        &[b"audit", b"2"],
+        &[b"certify"],
+        &[b"certify", b"65536"],
         &[b"replay", b"now"],
         &[b"Replay"],
         &[b"feed"],
@@ -171,8 +271,12 @@ fn words_that_name_no_form(rt: HostRuntime) -> Result<(), Fail> {
         &[b"make", b"+7", b"0"],
         &[b"race"],
         &[b"race", b"65536"],
-        &[b"serve", b"0", b"7000", b"1"],
-        &[b"dial", b"0", b"7000", b"1"],
+        &[b"serve", b"0", b"0", b"1"],
+        &[b"serve", b"0", b"65536", b"1"],
+        &[b"serve", b"0", b"7000", b"0"],
+        &[b"serve", b"0", b"7000", b"17"],
+        &[b"dial", b"0", b"7000"],
+        &[b"dial", b"0", b"7000", b"1001"],
     ];
     for words in rows {
         let (status, written) = run(&rt, rt.alloc(), &call(words, b"", Status::Usage, USAGE))?;

@@ -1,10 +1,13 @@
 use Rattle.std.proofs.Common.{◌≡◌, ℕ, List, Some, None, ap, sym, ◌∙◌}
 use Rattle.std.specs.Bool.{⊤}
 use Rattle.std.specs.declared.option.Option.{Option}
+use Rattle.line_engine.specs.Input.{counted_bytes}
 use Rattle.replay_form.specs.Replay.{replay_output, replay_part}
 use Rattle.feed_form.specs.Feed.{feed_output, feed_part}
+use Rattle.certificate_form.specs.Certify.{certify_output, certify_part}
+use Rattle.certificate_form.specs.Audit.{audit_output, audit_part}
 use Rattle.editor_main.specs.declared.command.Command.{Command}
-use Rattle.editor_main.specs.declared.command.Command.TheVariants.{Replay, Feed, Make}
+use Rattle.editor_main.specs.declared.command.Command.TheVariants.{Replay, Feed, Make, Certify, Audit}
 use Rattle.editor_main.specs.Command.{command_of}
 use Rattle.editor_main.specs.Plain.{plain_output, plain_part, is_reader, make_output, usage_output}
 use Rattle.editor_main.proofs.Commands.{named, ran_read, ran_said}
@@ -16,6 +19,7 @@ returns-in-Some-Replay-clause-ran g c =
     ran_read (command_of c.args.words.now) replay_output replay_part (λ cut bytes. ⊤) _ _ _ _ _
     (ap is_reader is) (λ (input : List ℕ). ap (λ (f : Option Command). plain_output f input) is) (λ (bytes : List ℕ). ap (λ (f : Option Command). plain_part f bytes) is)
     (λ input named. c.headline.ensures input)
+    (λ input other. let clash : Some Replay ≡ Some Audit = sym is ∙ other in let none : ⊥ = cc in absurd none)
     c.replay.ensures.ran
 
 pub returns-in-Some-Feed-clause-ran : goal.returns-in-Some-Feed-clause-ran
@@ -25,7 +29,28 @@ returns-in-Some-Feed-clause-ran g c =
     ran_read (command_of c.args.words.now) (feed_output site) (feed_part site) (λ cut bytes. ⊤) _ _ _ _ _
     (ap is_reader is) (λ (input : List ℕ). ap (λ (f : Option Command). plain_output f input) is) (λ (bytes : List ℕ). ap (λ (f : Option Command). plain_part f bytes) is)
     (λ input other. let clash : Some (Feed site) ≡ Some Replay = sym is ∙ other in let none : ⊥ = cc in absurd none)
+    (λ input other. let clash : Some (Feed site) ≡ Some Audit = sym is ∙ other in let none : ⊥ = cc in absurd none)
     c.feed.ensures.ran
+
+pub returns-in-Some-Certify-clause-ran : goal.returns-in-Some-Certify-clause-ran
+returns-in-Some-Certify-clause-ran g c =
+    let site = c.in-Some-Certify.site in
+    let is : command_of c.args.words.now ≡ Some (Certify site)
+    = named (command_of c.args.words.now) c.in-Some-Certify.field-0 (Certify site) c.in-Some-Certify.ensures.command c.in-Some-Certify.field-0-is in
+    ran_read (command_of c.args.words.now) (certify_output site) certify_part (λ cut bytes. ⊤) _ _ _ _ _
+    (ap is_reader is) (λ (input : List ℕ). ap (λ (f : Option Command). plain_output f input) is) (λ (bytes : List ℕ). ap (λ (f : Option Command). plain_part f bytes) is)
+    (λ input other. let clash : Some (Certify site) ≡ Some Replay = sym is ∙ other in let none : ⊥ = cc in absurd none)
+    (λ input other. let clash : Some (Certify site) ≡ Some Audit = sym is ∙ other in let none : ⊥ = cc in absurd none)
+    c.certify_stream.ensures.ran
+
+pub returns-in-Some-Audit-clause-ran : goal.returns-in-Some-Audit-clause-ran
+returns-in-Some-Audit-clause-ran g c =
+    let is : command_of c.args.words.now ≡ Some Audit = named (command_of c.args.words.now) c.in-Some-Audit.field-0 Audit c.in-Some-Audit.ensures.command c.in-Some-Audit.field-0-is in
+    ran_read (command_of c.args.words.now) audit_output audit_part (λ cut bytes. ⊤) _ _ _ _ _
+    (ap is_reader is) (λ (input : List ℕ). ap (λ (f : Option Command). plain_output f input) is) (λ (bytes : List ℕ). ap (λ (f : Option Command). plain_part f bytes) is)
+    (λ input other. let clash : Some Audit ≡ Some Replay = sym is ∙ other in let none : ⊥ = cc in absurd none)
+    (λ input named fits. c.answer_is_right.ensures (counted_bytes input) fits)
+    c.audit_input.ensures.ran
 
 pub returns-in-Some-Make-clause-ran : goal.returns-in-Some-Make-clause-ran
 returns-in-Some-Make-clause-ran g c =
