@@ -1,6 +1,8 @@
 //! Worked streams, over a source and a sink that come in pieces.
 use edit_io::{MemSink, MemSource};
 use feed_form::feed;
+use line_engine::Status;
+use std::alloc::{AllocError, Global};
 use std::test::Fail;
 
 // The insert 1.0 of `a` at the start.
@@ -59,7 +61,54 @@ const STREAMS: [(&[&[u8]], &[u8]); 12] = [
     ),
 ];
 
-// The bytes come by seven at a call, and are taken by four.
+// Streams that are damaged, and what is written of them by a peer of site 2.
+const DAMAGED: [(&[u8], &[u8]); 12] = [
+    (b"\0\0\0", b"bad frame 0 5\n"),
+    (b"\0\0\0\x01", b"bad frame 0 1\n"),
+    (b"\0\0\x02\0", b"bad frame 0 1\n"),
+    (b"\0\0\0\x02\x02\x05", b"bad frame 0 2\n"),
+    (b"\0\0\0\x02\x01\x07", b"bad frame 0 2\n"),
+    (
+        b"\0\0\0\x02\x01\x05\0\0\0\x02\x01",
+        b"turn\nbad frame 6 5\n",
+    ),
+    // An entry of version 0.
+    (b"\0\0\0\x07\x01\x04\0\0\x01\0\x01", b"bad frame 0 3\n"),
+    // The delete 0.1 of 1.0.
+    (
+        b"\0\0\0\x14\x01\x02\0\0\0\0\0\0\0\x01\0\0\0\0\0\0\0\x01\0\0",
+        b"bad frame 0 3\n",
+    ),
+    // The insert 1.0 of a surrogate.
+    (
+        b"\0\0\0\x18\x01\x01\0\0\0\0\0\x01\0\0\0\0\0\0\0\0\0\0\0\0\0\0\xd8\0",
+        b"bad frame 0 3\n",
+    ),
+    // The delete 1.0 of the start, of version 16,384.
+    (
+        b"\0\0\0\x14\x01\x02\0\0\0\0\0\x01\0\0\x40\0\0\0\0\0\0\0\0\0",
+        b"bad frame 0 6 1\n",
+    ),
+    // The same of version 0.
+    (
+        b"\0\0\0\x14\x01\x02\0\0\0\0\0\x01\0\0\0\0\0\0\0\0\0\0\0\0",
+        b"bad frame 0 6 2\n",
+    ),
+    // The delete 1.0 of 1.1.
+    (
+        b"\0\0\0\x14\x01\x02\0\0\0\0\0\x01\0\0\0\0\0\0\0\0\0\x01\0\x01",
+        b"bad frame 0 6 3\n",
+    ),
+];
+
+// Feeds the bytes, which come by seven at a call, to a peer of site 2; what it writes is taken by four.
+fn fed(alloc: Global, bytes: Vec<u8>) -> Result<(Status, Vec<u8>), AllocError> {
+    let mut source = MemSource::new(bytes, 7, Vec::new(alloc));
+    let mut sink = MemSink::new(alloc, 4, Vec::new(alloc));
+    let status = feed(alloc, 2, &mut source, &mut sink);
+    Ok((status, Vec::from_slice(alloc, sink.written())?))
+}
+
 #[test]
 fn streams(rt: HostRuntime) -> Result<(), Fail> {
     let alloc = rt.alloc();
@@ -68,10 +117,19 @@ fn streams(rt: HostRuntime) -> Result<(), Fail> {
         for frame in frames {
             bytes.extend_from_slice(frame)?;
         }
-        let mut source = MemSource::new(bytes, 7, Vec::new(alloc));
-        let mut sink = MemSink::new(alloc, 4, Vec::new(alloc));
-        let _ = feed(alloc, 2, &mut source, &mut sink);
-        assert_eq!(rt; sink.written(), wanted);
+        let (_, written) = fed(alloc, bytes)?;
+        assert_eq!(rt; written.as_slice(), wanted);
+    }
+    Ok(())
+}
+
+#[test]
+fn damaged_streams(rt: HostRuntime) -> Result<(), Fail> {
+    let alloc = rt.alloc();
+    for (bytes, wanted) in DAMAGED {
+        let (status, written) = fed(alloc, Vec::from_slice(alloc, bytes)?)?;
+        assert_eq!(rt; written.as_slice(), wanted);
+        assert_eq!(rt; status, Status::BadInput);
     }
     Ok(())
 }
