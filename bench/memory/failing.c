@@ -1,39 +1,85 @@
-/* Stands before the C library's malloc and realloc: the call of the number in FAIL_AT finds no memory.
-   At the end the number of calls is written into the file that COUNT_IN names. */
+/* Stands before the C library's calls that give memory. The call of the number in FAIL_AT, counted from 1, finds none, and so do
+   those behind it, FAIL_FOR in all: 1 where that isn't set, and all that come where it is 0. At the end the number of calls
+   is written into the file that COUNT_IN names. */
+#include <errno.h>
+#include <fcntl.h>
 #include <stdio.h>
 #include <stdlib.h>
+#include <sys/syscall.h>
+#include <unistd.h>
 
 void *__libc_malloc(size_t size);
+void *__libc_calloc(size_t count, size_t size);
 void *__libc_realloc(void *old, size_t size);
+void *__libc_memalign(size_t alignment, size_t size);
 
 static unsigned long calls;
 static unsigned long fail_at;
+static unsigned long fail_for;
 
 static int fails(void) {
-    calls += 1;
-    return calls == fail_at;
+    unsigned long call = __atomic_add_fetch(&calls, 1, __ATOMIC_SEQ_CST);
+    if (fail_at == 0 || call < fail_at || (fail_for != 0 && call - fail_at >= fail_for)) {
+        return 0;
+    }
+    errno = ENOMEM;
+    return 1;
 }
 
 void *malloc(size_t size) {
     return fails() ? NULL : __libc_malloc(size);
 }
 
+void *calloc(size_t count, size_t size) {
+    return fails() ? NULL : __libc_calloc(count, size);
+}
+
 void *realloc(void *old, size_t size) {
     return fails() ? NULL : __libc_realloc(old, size);
 }
 
+void *memalign(size_t alignment, size_t size) {
+    return fails() ? NULL : __libc_memalign(alignment, size);
+}
+
+void *aligned_alloc(size_t alignment, size_t size) {
+    return memalign(alignment, size);
+}
+
+int posix_memalign(void **to, size_t alignment, size_t size) {
+    void *made = memalign(alignment, size);
+    if (made == NULL) {
+        return ENOMEM;
+    }
+    *to = made;
+    return 0;
+}
+
 __attribute__((constructor)) static void begin(void) {
     const char *at = getenv("FAIL_AT");
+    const char *row = getenv("FAIL_FOR");
     calls = 0;
+    fail_for = row ? strtoul(row, NULL, 10) : 1;
     fail_at = at ? strtoul(at, NULL, 10) : 0;
 }
 
 __attribute__((destructor)) static void end(void) {
     const char *path = getenv("COUNT_IN");
-    unsigned long seen = calls;
-    FILE *file = path ? fopen(path, "w") : NULL;
-    if (file) {
-        fprintf(file, "%lu\n", seen);
-        fclose(file);
+    char text[24];
+    int length = snprintf(text, sizeof text, "%lu\n", calls);
+    int file = path ? open(path, O_WRONLY | O_CREAT | O_TRUNC, 0666) : -1;
+    if (file >= 0) {
+        if (write(file, text, length) != length) {
+            abort();
+        }
+        close(file);
+    }
+}
+
+/* A program that ends so runs no destructor. */
+void _exit(int status) {
+    end();
+    for (;;) {
+        syscall(SYS_exit_group, status);
     }
 }
