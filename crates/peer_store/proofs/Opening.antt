@@ -16,7 +16,7 @@ use Rattle.peer_store.specs.declared.fault.StoreFault.TheVariants.{DiskFault, No
 use Rattle.peer_store.specs.Faults.{fault_of_load, MayFailOpening}
 use Rattle.peer_step.specs.declared.step.Step.{Step}
 use Rattle.peer_core.specs.Peer.{Peer, fresh_peer}
-use Rattle.peer_store.specs.Store.{Saved, IsSaved, HasGate, StopsAt, IsNoStoreFrom}
+use Rattle.peer_store.specs.Store.{Saved, IsSaved, HasGate, BreaksOffAt, IsNoStoreFrom}
 use Rattle.peer_store.specs.Replay.{IsReplay, StopsBefore, IsStoppedBy, IsRefusedBy}
 use Rattle.peer_store.proofs.Replays.{records-append}
 
@@ -84,7 +84,7 @@ body_short : (made others : List (List ℕ)) (body : List ℕ) → All FitsRecor
 body_short [] others body short = short 0 [] (omega arith)
 body_short (m ∷ made) others body short = body_short made others body (All-tail FitsRecord m (made ++ body ∷ others) short)
 
-stops_in : (site offset : ℕ) (bodies : List (List ℕ)) (file end : List ℕ) → file ≡ file_head site ++ records bodies ++ end → All FitsRecord bodies → StopsBefore (fresh_peer site) offset bodies → StopsAt site offset file
+stops_in : (site offset : ℕ) (bodies : List (List ℕ)) (file end : List ℕ) → file ≡ file_head site ++ records bodies ++ end → All FitsRecord bodies → StopsBefore (fresh_peer site) offset bodies → BreaksOffAt site offset file
 stops_in site offset bodies file end bytes short stop =
     let shorts : All FitsRecord (stop.made ++ stop.body ∷ stop.others) = subst (All FitsRecord) stop.bodies_are short in
     record {

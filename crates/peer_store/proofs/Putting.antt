@@ -15,7 +15,7 @@ use Rattle.peer_store.specs.declared.fault.StoreFault.{StoreFault}
 use Rattle.peer_store.specs.declared.fault.StoreFault.TheVariants.{Spent, StoreFull}
 use Rattle.peer_store.specs.Faults.{refusal_of, IsLeftBy}
 use Rattle.peer_store.specs.Steps.{changes, if_changing, is_look}
-use Rattle.peer_store.specs.Store.{Spells, StandsWithOrWithout, StandsForNoneIfAny, Saved, IsSaved, finds_no_gate}
+use Rattle.peer_store.specs.Store.{IsBodyFor, StandsWithOrWithout, StandsForNoneIfAny, Saved, IsSaved, finds_no_gate}
 use Rattle.peer_store.proofs.Changes.{unchanged, looks_change_nothing}
 use Rattle.peer_store.proofs.Saving.{none_if_any, if_it_stays, leaves_steps, stands_so, saves_more}
 
@@ -42,7 +42,7 @@ module _ {D : Type 0} (moment : D → ℕ) (left_since : D → ℕ → List ℕ 
       started moment left_since disk (StandsWithOrWithout site steps more) (λ left since. inl (leaves_steps site steps saved (seen disk) (may_leave disk) kept left (only_now disk left since)))
 
   -- where the body was put, it leaves the steps, with this one or without
-  pub body_put : (old new : D) (site : ℕ) (steps : List Step) (saved : Saved) (kept : IsSaved site steps saved (seen old) (may_leave old)) (step : Step) (body : List ℕ) → Spells saved.peer step body
+  pub body_put : (old new : D) (site : ℕ) (steps : List Step) (saved : Saved) (kept : IsSaved site steps saved (seen old) (may_leave old)) (step : Step) (body : List ℕ) → IsBodyFor saved.peer step body
       → changes saved.peer step ≡ true → LeavesOnly moment left_since old new (IsBeforeOrAfter site kept.bodies body)
       → LeavesOnly moment left_since old new (StandsWithOrWithout site steps (if_changing saved.peer step))
   body_put old new site steps saved kept step body spells turns leaves =
@@ -104,7 +104,7 @@ module _ (inside saved : Saved) (same : inside ≡ saved) (step : Step) where
   pub not_quiet : {A : Type 0} → changes inside.peer step ≡ true → changes saved.peer step ≡ false → A
   not_quiet turns quiet = absurd (both_ways (changes inside.peer step) (quiet_inside quiet) turns)
 
-  module _ (body : List ℕ) (spells : Spells inside.peer step body) (turns : changes inside.peer step ≡ true) (site : ℕ) (steps : List Step) where
+  module _ (body : List ℕ) (spells : IsBodyFor inside.peer step body) (turns : changes inside.peer step ≡ true) (site : ℕ) (steps : List Step) where
     -- the disk then keeps the step too
     pub put_saves : (seen seen_now : Option (List ℕ)) (may_leave may_leave_now : List ℕ → Type 0) (now : Saved) → IsSaved site steps saved seen may_leave → now.peer ≡ peer_after inside.peer step
         → ((site : ℕ) (bodies : List (List ℕ)) → Keeps site bodies inside.place seen may_leave → Keeps site (bodies ++ body ∷ []) now.place seen_now may_leave_now)

@@ -12,7 +12,7 @@ use Rattle.peer_step.specs.declared.step.Step.{Step}
 use Rattle.peer_core.specs.Peer.{Peer, fresh_peer, front}
 use Rattle.peer_core.specs.After.{peer_after}
 use Rattle.peer_store.specs.Steps.{changes, replay_of}
-use Rattle.peer_store.specs.Store.{KeptAs, StandsFor, IsNoStep, BeginsWithNoStep, StopsAt, IsNoStoreFrom}
+use Rattle.peer_store.specs.Store.{KeptAs, StandsFor, IsNoStep, BeginsWithNoStep, BreaksOffAt, IsNoStoreFrom}
 use Rattle.peer_store.proofs.Replays.{records-append}
 
 -- bodies are read in one way
@@ -92,7 +92,7 @@ one_more_record : (made : List (List ℕ)) (body rest : List ℕ) → records (m
 one_more_record made body rest =
     ap (λ (l : List ℕ). l ++ rest) (records-append made (body ∷ []) ∙ ap (λ (l : List ℕ). records made ++ l) (append-nil (record_of body))) ∙ append_assoc (records made) (record_of body) rest
 
-begins_with_none : OneStep → (site offset : ℕ) (file : List ℕ) (steps : List Step) (stop : StopsAt site offset file) → BeginsWithNoStep (replay_of site stop.steps) stop.rest → StandsFor site steps file → ⊥
+begins_with_none : OneStep → (site offset : ℕ) (file : List ℕ) (steps : List Step) (stop : BreaksOffAt site offset file) → BeginsWithNoStep (replay_of site stop.steps) stop.rest → StandsFor site steps file → ⊥
 begins_with_none one site offset file steps stop none stands =
     let has = stands.has in
     let begun : file_head site ++ (records (stop.bodies ++ none.body ∷ []) ++ none.rest) ≡ file_head site ++ (records stands.bodies ++ has.gate ∷ has.rest)

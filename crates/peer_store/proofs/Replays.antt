@@ -8,7 +8,7 @@ use Rattle.record_file.specs.Records.{record_of, records, gate_place, bytes_of_e
 use Rattle.peer_core.specs.Peer.{Peer}
 use Rattle.peer_core.specs.After.{peer_after}
 use Rattle.peer_store.specs.Steps.{changes}
-use Rattle.peer_store.specs.Store.{Spells, IsNoStep}
+use Rattle.peer_store.specs.Store.{IsBodyFor, IsNoStep}
 use Rattle.peer_store.specs.Replay.{MakesBody, IsReplay, StopsBefore}
 use Rattle.peer_store.proofs.Saving.{kept_push}
 
@@ -43,7 +43,7 @@ nothing_made p = record { steps = []; spelled = tt; after = refl }
 pub made_more : (old mid new : Peer) (bodies : List (List ℕ)) (body : List ℕ) → IsReplay old bodies mid → MakesBody mid body new → IsReplay old (bodies ++ body ∷ []) new
 made_more old mid new bodies body so_far made = record {
   steps = so_far.steps ++ made.step ∷ [];
-  spelled = kept_push old so_far.steps bodies made.step body so_far.spelled (subst (λ p. Spells p made.step body) so_far.after made.spells) (subst (λ p. changes p made.step ≡ true) so_far.after made.turns);
+  spelled = kept_push old so_far.steps bodies made.step body so_far.spelled (subst (λ p. IsBodyFor p made.step body) so_far.after made.spells) (subst (λ p. changes p made.step ≡ true) so_far.after made.turns);
   after = made.after ∙ ap (λ p. peer_after p made.step) so_far.after ∙ sym (fold_push peer_after old so_far.steps made.step);
 }
 

@@ -7,10 +7,10 @@ use Rattle.peer_step.specs.declared.step.Step.{Step}
 use Rattle.peer_core.specs.Peer.{Peer, fresh_peer}
 use Rattle.peer_core.specs.After.{peer_after}
 use Rattle.peer_store.specs.Steps.{changes, if_changing}
-use Rattle.peer_store.specs.Store.{Spells, KeptAs, StandsFor, StandsWithOrWithout, StandsForNoneIfAny, Saved, IsSaved}
+use Rattle.peer_store.specs.Store.{IsBodyFor, KeptAs, StandsFor, StandsWithOrWithout, StandsForNoneIfAny, Saved, IsSaved}
 
 -- one step more, and its body
-pub kept_push : (p : Peer) (steps : List Step) (bodies : List (List ℕ)) (step : Step) (body : List ℕ) → KeptAs p steps bodies → Spells (fold peer_after p steps) step body
+pub kept_push : (p : Peer) (steps : List Step) (bodies : List (List ℕ)) (step : Step) (body : List ℕ) → KeptAs p steps bodies → IsBodyFor (fold peer_after p steps) step body
     → changes (fold peer_after p steps) step ≡ true → KeptAs p (steps ++ step ∷ []) (bodies ++ body ∷ [])
 kept_push p [] [] step body kept spells turns = (spells, turns, tt)
 kept_push p [] (b ∷ bodies) step body kept spells turns = absurd kept
@@ -41,9 +41,9 @@ module _ (site : ℕ) (steps : List Step) (saved : Saved) (seen : Option (List �
     has = subst (HasBodies site kept.bodies) (sym (kept.keeps.durable left may)) kept.keeps.has;
   }
 
-  module _ (step : Step) (body : List ℕ) (spells : Spells saved.peer step body) (turns : changes saved.peer step ≡ true) where
+  module _ (step : Step) (body : List ℕ) (spells : IsBodyFor saved.peer step body) (turns : changes saved.peer step ≡ true) where
     spelled_more : KeptAs (fresh_peer site) (steps ++ step ∷ []) (kept.bodies ++ body ∷ [])
-    spelled_more = kept_push (fresh_peer site) steps kept.bodies step body kept.spelled (subst (λ p. Spells p step body) kept.peer_is spells) (subst (λ p. changes p step ≡ true) kept.peer_is turns)
+    spelled_more = kept_push (fresh_peer site) steps kept.bodies step body kept.spelled (subst (λ p. IsBodyFor p step body) kept.peer_is spells) (subst (λ p. changes p step ≡ true) kept.peer_is turns)
 
     -- a file with these bodies, and the new one or not, stands for the steps with the new one or without
     pub stands_so : (left : List ℕ) → IsBeforeOrAfter site kept.bodies body left → StandsWithOrWithout site steps (if_changing saved.peer step) left

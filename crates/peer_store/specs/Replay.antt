@@ -9,12 +9,12 @@ use Rattle.peer_core.specs.After.{peer_after}
 use Rattle.peer_store.specs.declared.fault.StoreFault.{StoreFault}
 use Rattle.peer_store.specs.declared.fault.StoreFault.TheVariants.{DiskFault, NotAStore, Spent, StoreFull, NoMemory}
 use Rattle.peer_store.specs.Steps.{changes}
-use Rattle.peer_store.specs.Store.{Spells, KeptAs, IsNoStep, IsNoStoreFrom}
+use Rattle.peer_store.specs.Store.{IsBodyFor, KeptAs, IsNoStep, IsNoStoreFrom}
 
 -- a peer makes the step of a body, which changes it
 pub record MakesBody (old : Peer) (body : List ℕ) (new : Peer) : Type 0 where
   pub step : Step
-  pub spells : Spells old step body
+  pub spells : IsBodyFor old step body
   pub turns : changes old step ≡ true
   pub after : new ≡ peer_after old step
 

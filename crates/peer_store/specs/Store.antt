@@ -9,15 +9,15 @@ use Rattle.peer_store.specs.declared.limits.TheConstants.{MAX_GATE}
 use Rattle.peer_store.specs.Steps.{replay_of, changes, is_look}
 
 -- a body spells a step at a peer: at the version that an operation would make there
-abbrev pub Spells : Peer → Step → List ℕ → Type 0
-Spells p step body = IsBody (front p + 1) step body
+abbrev pub IsBodyFor : Peer → Step → List ℕ → Type 0
+IsBodyFor p step body = IsBody (front p + 1) step body
 
 -- steps from a peer on, each of which changes the peer, and their bodies
 abbrev pub KeptAs : Peer → List Step → List (List ℕ) → Type 0
 KeptAs p [] [] = ⊤
 KeptAs p [] (body ∷ bodies) = ⊥
 KeptAs p (step ∷ steps) [] = ⊥
-KeptAs p (step ∷ steps) (body ∷ bodies) = Spells p step body × (changes p step ≡ true) × KeptAs (peer_after p step) steps bodies
+KeptAs p (step ∷ steps) (body ∷ bodies) = IsBodyFor p step body × (changes p step ≡ true) × KeptAs (peer_after p step) steps bodies
 
 -- a file is a store of this site that stands for these steps
 pub record StandsFor (site : ℕ) (steps : List Step) (file : List ℕ) : Type 0 where
@@ -37,7 +37,7 @@ StandsForNoneIfAny site file = (steps : List Step) → StandsFor site steps file
 
 -- no step that changes the peer has this body
 abbrev pub IsNoStep : Peer → List ℕ → Type 0
-IsNoStep p body = (step : Step) → Spells p step body → changes p step ≡ false
+IsNoStep p body = (step : Step) → IsBodyFor p step body → changes p step ≡ false
 
 -- a whole record at the front, of no step that changes the peer
 pub record BeginsWithNoStep (p : Peer) (bytes : List ℕ) : Type 0 where
@@ -48,7 +48,7 @@ pub record BeginsWithNoStep (p : Peer) (bytes : List ℕ) : Type 0 where
   pub no_step : IsNoStep p body
 
 -- behind the records of steps, no gate stands at this offset, or an open one whose record isn't whole or is of no step
-pub record StopsAt (site offset : ℕ) (file : List ℕ) : Type 0 where
+pub record BreaksOffAt (site offset : ℕ) (file : List ℕ) : Type 0 where
   pub steps : List Step
   pub bodies : List (List ℕ)
   pub rest : List ℕ
@@ -60,7 +60,7 @@ pub record StopsAt (site offset : ℕ) (file : List ℕ) : Type 0 where
 
 -- a file is no store of this site from this offset on: 0 where it begins otherwise
 abbrev pub IsNoStoreFrom : ℕ → ℕ → List ℕ → Type 0
-IsNoStoreFrom site offset file = ((offset ≡ 0) × (take 3 file ≡ file_head site → ⊥)) ⊎ StopsAt site offset file
+IsNoStoreFrom site offset file = ((offset ≡ 0) × (take 3 file ≡ file_head site → ⊥)) ⊎ BreaksOffAt site offset file
 
 -- ---- a peer that is kept
 

@@ -2,7 +2,7 @@
 ghost use Rattle.std.specs.Prelude.{◌≡◌, ◌+◌, false, IfOk, IfSome, IsNone};
 ghost use Rattle.peer_core.specs.Peer.{front};
 ghost use Rattle.peer_store.specs.Steps.{changes};
-ghost use Rattle.peer_store.specs.Store.{Spells};
+ghost use Rattle.peer_store.specs.Store.{IsBodyFor};
 
 use element_name::NoMemory;
 use peer_core::Peer;
@@ -26,7 +26,7 @@ pub(crate) fn step_record(
     peer: &Peer,
     step: &Step,
 ) -> Result<Option<Record>, NoMemory>
-    ensures some { IfOk result (λ found. IfSome found (λ body. Spells peer.now step.now body)) }
+    ensures some { IfOk result (λ found. IfSome found (λ body. IsBodyFor peer.now step.now body)) }
     ensures none { IfOk result (λ found. IsNone found → changes peer.now step.now ≡ false) }
 {
     step_body::laws::short_bodies();

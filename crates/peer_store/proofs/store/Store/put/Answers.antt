@@ -2,7 +2,7 @@ use Rattle.std.proofs.Common.{◌≡◌, ℕ, List, true, false, refl, sym, ap, 
 use Rattle.std.specs.Prelude.{is_some}
 use Rattle.std.proofs.lemmas.Bool.{not-true, not-false}
 use Rattle.peer_store.specs.Steps.{if_changing, changes}
-use Rattle.peer_store.specs.Store.{Saved, Spells}
+use Rattle.peer_store.specs.Store.{Saved, IsBodyFor}
 use Rattle.peer_store.proofs.Putting.{nothing_called, saved_still, refused_left, has_room, quiet_same, not_quiet, put_saves, put_leaves}
 use Rattle.peer_store.proofs.store.Store.put.Goals as goal
 
@@ -28,7 +28,7 @@ pub returns-in_err-keep-clause-any_moment : goal.returns-in_err-keep-clause-any_
 returns-in_err-keep-clause-any_moment g c site steps kept =
     let inside : Saved = record { peer = c.self.inside.peer; place = c.self.inside.place; spent = c.self.inside.spent } in
     let same : inside ≡ c.args.self.now = c.self.view_is in
-    let spells : Spells c.self.inside.peer c.args.step c.in-Some-found.body = subst (λ (o : Option (List ℕ)). IfSome o (λ b. Spells c.self.inside.peer c.args.step b)) c.in-Some-found.is c.in_ok-found.ensures.some in
+    let spells : IsBodyFor c.self.inside.peer c.args.step c.in-Some-found.body = subst (λ (o : Option (List ℕ)). IfSome o (λ b. IsBodyFor c.self.inside.peer c.args.step b)) c.in-Some-found.is c.in_ok-found.ensures.some in
     let turns : changes c.self.inside.peer c.args.step ≡ true = sym c.in_ok-stepped.ensures.changed ∙ not-false c.in_ok-stepped.stepped.changed c.if-not-stepped.false in
     put_leaves inside c.args.self.now same c.args.step c.in-Some-found.body spells turns site steps g.D.Disk.moment g.D.Disk.left_since g.D.Disk.may_leave g.D.Disk.seen c.args.disk.now c.keep.new.disk kept c.keep.ensures.any_moment
 
@@ -36,7 +36,7 @@ pub returns-clause-any_moment : goal.returns-clause-any_moment
 returns-clause-any_moment g c site steps kept =
     let inside : Saved = record { peer = c.self.inside.peer; place = c.self.inside.place; spent = c.self.inside.spent } in
     let same : inside ≡ c.args.self.now = c.self.view_is in
-    let spells : Spells c.self.inside.peer c.args.step c.in-Some-found.body = subst (λ (o : Option (List ℕ)). IfSome o (λ b. Spells c.self.inside.peer c.args.step b)) c.in-Some-found.is c.in_ok-found.ensures.some in
+    let spells : IsBodyFor c.self.inside.peer c.args.step c.in-Some-found.body = subst (λ (o : Option (List ℕ)). IfSome o (λ b. IsBodyFor c.self.inside.peer c.args.step b)) c.in-Some-found.is c.in_ok-found.ensures.some in
     let turns : changes c.self.inside.peer c.args.step ≡ true = sym c.in_ok-stepped.ensures.changed ∙ not-false c.in_ok-stepped.stepped.changed c.if-not-stepped.false in
     put_leaves inside c.args.self.now same c.args.step c.in-Some-found.body spells turns site steps g.D.Disk.moment g.D.Disk.left_since g.D.Disk.may_leave g.D.Disk.seen c.args.disk.now c.keep.new.disk kept c.keep.ensures.any_moment
 
@@ -44,7 +44,7 @@ pub returns-clause-saved : goal.returns-clause-saved
 returns-clause-saved g c site steps kept =
     let inside : Saved = record { peer = c.self.inside.peer; place = c.self.inside.place; spent = c.self.inside.spent } in
     let same : inside ≡ c.args.self.now = c.self.view_is in
-    let spells : Spells c.self.inside.peer c.args.step c.in-Some-found.body = subst (λ (o : Option (List ℕ)). IfSome o (λ b. Spells c.self.inside.peer c.args.step b)) c.in-Some-found.is c.in_ok-found.ensures.some in
+    let spells : IsBodyFor c.self.inside.peer c.args.step c.in-Some-found.body = subst (λ (o : Option (List ℕ)). IfSome o (λ b. IsBodyFor c.self.inside.peer c.args.step b)) c.in-Some-found.is c.in_ok-found.ensures.some in
     let turns : changes c.self.inside.peer c.args.step ≡ true = sym c.in_ok-stepped.ensures.changed ∙ not-false c.in_ok-stepped.stepped.changed c.if-not-stepped.false in
     put_saves inside c.args.self.now same c.args.step c.in-Some-found.body spells turns site steps (g.D.Disk.seen c.args.disk.now) (g.D.Disk.seen c.keep.new.disk) (g.D.Disk.may_leave c.args.disk.now) (g.D.Disk.may_leave c.keep.new.disk)
     c.keep.new.self kept (ap (λ (s : Saved). s.peer) c.in_ok-keep.ensures.ok ∙ c.in_ok-stepped.ensures.after) c.in_ok-keep.ensures.kept
