@@ -17,8 +17,8 @@ use retro_undo::sweep_reach;
 use std::alloc::Global;
 use std::thread::Threads;
 
-/// Fewer requests than these are judged on the caller's thread.
-const FEW: usize = 1_024;
+/// Fewer requests than these are judged on the caller's thread: `rayon` gives no thread to fewer than half of them.
+const FEW: usize = 2_048;
 
 // The judgements on the Tentative requests within the reach; none where these are few, or memory is wanting.
 fn judge_reach<P: Places + Sync, R: Threads + Sync>(
