@@ -20,9 +20,10 @@ use Rattle.request_state.specs.State.{is_tentative}
 use Rattle.request_state.specs.Table.{kept_of, is_in_order}
 use Rattle.retro_undo.proofs.Parts.{all_by, each_by}
 use Rattle.retro_undo.proofs.Found.{IsAbove, IsAt, found_at, none_found, all_above_start}
-use Rattle.par_sweep.specs.declared.listing.Whose.{Whose}
-use Rattle.par_sweep.specs.declared.listing.Whose.TheVariants.{One}
-use Rattle.par_sweep.specs.Listed.{is_theirs, is_theirs_above, next_of_theirs, tentative_names, names_of_user, names_within}
+use Rattle.retro_undo.specs.declared.walk.Whose.{Whose}
+use Rattle.retro_undo.specs.declared.walk.Whose.TheVariants.{One}
+use Rattle.retro_undo.specs.Part.{is_in, is_above, next_of}
+use Rattle.par_sweep.specs.Listed.{tentative_names, names_of_user, names_within}
 use Rattle.par_sweep.proofs.Named.{all_both}
 
 -- a Tentative request of the part
@@ -51,69 +52,69 @@ names_none part (k ∷ table) all =
 -- ---- the walk along one line
 
 -- at the start all of theirs are above
-pub names_at_start : (whose : Whose) (table : List Kept) → kept_of table start ≡ None → tentative_names (is_theirs_above whose start) table ≡ tentative_names (is_theirs whose) table
-names_at_start whose table absent = names_same (is_theirs_above whose start) (is_theirs whose) table (all_by (IsAbove start) (λ k. is_listed (is_theirs_above whose start) k ≡ is_listed (is_theirs whose) k) (λ k above. by (is_tentative k.state) (is_theirs whose k.request) (name_lt start k.request.id) above) table (all_above_start table absent))
+pub names_at_start : (whose : Whose) (table : List Kept) → kept_of table start ≡ None → tentative_names (is_above whose start) table ≡ tentative_names (is_in whose) table
+names_at_start whose table absent = names_same (is_above whose start) (is_in whose) table (all_by (IsAbove start) (λ k. is_listed (is_above whose start) k ≡ is_listed (is_in whose) k) (λ k above. by (is_tentative k.state) (is_in whose k.request) (name_lt start k.request.id) above) table (all_above_start table absent))
   where
     by : (t a b : Bool) → b ≡ true → (t && (a && b)) ≡ (t && a)
     by true true b e = e
     by true false b e = refl
     by false a b e = refl
 
-pub names_at_end : (whose : Whose) (above : Name) (table : List Kept) → next_of_theirs table whose above ≡ None → tentative_names (is_theirs_above whose above) table ≡ []
-names_at_end whose above table none = names_none (is_theirs_above whose above) table (none_found (is_listed (is_theirs_above whose above)) table (unmapped (find (is_listed (is_theirs_above whose above)) table) none))
+pub names_at_end : (whose : Whose) (above : Name) (table : List Kept) → next_of table whose above ≡ None → tentative_names (is_above whose above) table ≡ []
+names_at_end whose above table none = names_none (is_above whose above) table (none_found (is_listed (is_above whose above)) table (unmapped (find (is_listed (is_above whose above)) table) none))
   where
     unmapped : (x : Option Kept) → option_map (λ k. k.request) x ≡ None → x ≡ None
     unmapped None e = refl
     unmapped (Some k) e = absurd cc
 
 module _ (whose : Whose) (above : Name) where
-  behind_same : (n : Name) → name_lt above n ≡ true → (x : Kept) → IsAbove n x → is_listed (is_theirs_above whose above) x ≡ is_listed (is_theirs_above whose n) x
+  behind_same : (n : Name) → name_lt above n ≡ true → (x : Kept) → IsAbove n x → is_listed (is_above whose above) x ≡ is_listed (is_above whose n) x
   behind_same n from x high =
-      ap (λ b. is_tentative x.state && (is_theirs whose x.request && b)) (name_lt-trans above n x.request.id from high ∙ sym high)
+      ap (λ b. is_tentative x.state && (is_in whose x.request && b)) (name_lt-trans above n x.request.id from high ∙ sym high)
 
-  not_above : (n : Name) (x : Kept) → name_lt n x.request.id ≡ false → is_listed (is_theirs_above whose n) x ≡ false
-  not_above n x low = ap (λ b. is_tentative x.state && (is_theirs whose x.request && b)) low ∙ by (is_tentative x.state) (is_theirs whose x.request)
+  not_above : (n : Name) (x : Kept) → name_lt n x.request.id ≡ false → is_listed (is_above whose n) x ≡ false
+  not_above n x low = ap (λ b. is_tentative x.state && (is_in whose x.request && b)) low ∙ by (is_tentative x.state) (is_in whose x.request)
     where
       by : (t a : Bool) → (t && (a && false)) ≡ false
       by true true = refl
       by true false = refl
       by false a = refl
 
-  names_at : (k : Kept) (table : List Kept) → IsAt (is_listed (is_theirs_above whose above)) k table
-      → tentative_names (is_theirs_above whose above) table ≡ k.request.id ∷ tentative_names (is_theirs_above whose k.request.id) table
+  names_at : (k : Kept) (table : List Kept) → IsAt (is_listed (is_above whose above)) k table
+      → tentative_names (is_above whose above) table ≡ k.request.id ∷ tentative_names (is_above whose k.request.id) table
   names_at k [] at = absurd at
   names_at k (x ∷ table) at =
       ⊎_elim
-      (λ (h : (x ≡ k) × (is_listed (is_theirs_above whose above) k ≡ true) × AllByRecursion (IsAbove k.request.id) table).
-      let theirs = and_parts (is_tentative k.state) (is_theirs_above whose above k.request) h.1 in
-      let from = (and_parts (is_theirs whose k.request) (name_lt above k.request.id) theirs.1).1 in
-      ap (λ (y : Kept). tentative_names (is_theirs_above whose above) (y ∷ table)) h.0
-      ∙ ap (λ t. map (λ (y : Kept). y.request.id) (cond t (k ∷ filter (is_listed (is_theirs_above whose above)) table) (filter (is_listed (is_theirs_above whose above)) table))) h.1
-      ∙ ap (λ ns. k.request.id ∷ ns) (names_same (is_theirs_above whose above) (is_theirs_above whose k.request.id) table
-      (all_by (IsAbove k.request.id) (λ y. is_listed (is_theirs_above whose above) y ≡ is_listed (is_theirs_above whose k.request.id) y) (behind_same k.request.id from) table h.2))
+      (λ (h : (x ≡ k) × (is_listed (is_above whose above) k ≡ true) × AllByRecursion (IsAbove k.request.id) table).
+      let theirs = and_parts (is_tentative k.state) (is_above whose above k.request) h.1 in
+      let from = (and_parts (is_in whose k.request) (name_lt above k.request.id) theirs.1).1 in
+      ap (λ (y : Kept). tentative_names (is_above whose above) (y ∷ table)) h.0
+      ∙ ap (λ t. map (λ (y : Kept). y.request.id) (cond t (k ∷ filter (is_listed (is_above whose above)) table) (filter (is_listed (is_above whose above)) table))) h.1
+      ∙ ap (λ ns. k.request.id ∷ ns) (names_same (is_above whose above) (is_above whose k.request.id) table
+      (all_by (IsAbove k.request.id) (λ y. is_listed (is_above whose above) y ≡ is_listed (is_above whose k.request.id) y) (behind_same k.request.id from) table h.2))
       ∙ ap (λ ns. k.request.id ∷ ns) (sym (skipped x (subst (λ (y : Kept). name_lt k.request.id y.request.id ≡ false) (sym h.0) (name_lt-irrefl k.request.id)))))
-      (λ (l : (is_listed (is_theirs_above whose above) x ≡ false) × (name_lt x.request.id k.request.id ≡ true) × IsAt (is_listed (is_theirs_above whose above)) k table).
-      ap (λ t. map (λ (y : Kept). y.request.id) (cond t (x ∷ filter (is_listed (is_theirs_above whose above)) table) (filter (is_listed (is_theirs_above whose above)) table))) l.0
+      (λ (l : (is_listed (is_above whose above) x ≡ false) × (name_lt x.request.id k.request.id ≡ true) × IsAt (is_listed (is_above whose above)) k table).
+      ap (λ t. map (λ (y : Kept). y.request.id) (cond t (x ∷ filter (is_listed (is_above whose above)) table) (filter (is_listed (is_above whose above)) table))) l.0
       ∙ names_at k table l.2
       ∙ ap (λ ns. k.request.id ∷ ns) (sym (skipped x (name_lt-asym x.request.id k.request.id l.1))))
       at
     where
       skipped : (y : Kept) → name_lt k.request.id y.request.id ≡ false
-          → tentative_names (is_theirs_above whose k.request.id) (y ∷ table) ≡ tentative_names (is_theirs_above whose k.request.id) table
-      skipped y low = ap (λ t. map (λ (z : Kept). z.request.id) (cond t (y ∷ filter (is_listed (is_theirs_above whose k.request.id)) table) (filter (is_listed (is_theirs_above whose k.request.id)) table))) (not_above k.request.id y low)
+          → tentative_names (is_above whose k.request.id) (y ∷ table) ≡ tentative_names (is_above whose k.request.id) table
+      skipped y low = ap (λ t. map (λ (z : Kept). z.request.id) (cond t (y ∷ filter (is_listed (is_above whose k.request.id)) table) (filter (is_listed (is_above whose k.request.id)) table))) (not_above k.request.id y low)
 
   -- the one that is found is the first of those above
-  pub names_step : (q : Request) (table : List Kept) → is_in_order table ≡ true → next_of_theirs table whose above ≡ Some q
-      → tentative_names (is_theirs_above whose above) table ≡ q.id ∷ tentative_names (is_theirs_above whose q.id) table
-  names_step q table order found = by (find (is_listed (is_theirs_above whose above)) table) refl found
+  pub names_step : (q : Request) (table : List Kept) → is_in_order table ≡ true → next_of table whose above ≡ Some q
+      → tentative_names (is_above whose above) table ≡ q.id ∷ tentative_names (is_above whose q.id) table
+  names_step q table order found = by (find (is_listed (is_above whose above)) table) refl found
     where
-      by : (x : Option Kept) → find (is_listed (is_theirs_above whose above)) table ≡ x → option_map (λ k. k.request) x ≡ Some q
-          → tentative_names (is_theirs_above whose above) table ≡ q.id ∷ tentative_names (is_theirs_above whose q.id) table
+      by : (x : Option Kept) → find (is_listed (is_above whose above)) table ≡ x → option_map (λ k. k.request) x ≡ Some q
+          → tentative_names (is_above whose above) table ≡ q.id ∷ tentative_names (is_above whose q.id) table
       by None e found = absurd cc
       by (Some k) e found =
           let same : k.request ≡ q = cc in
-          names_at k table (found_at (is_listed (is_theirs_above whose above)) k table order e)
-          ∙ ap (λ (r : Request). r.id ∷ tentative_names (is_theirs_above whose r.id) table) same
+          names_at k table (found_at (is_listed (is_above whose above)) k table order e)
+          ∙ ap (λ (r : Request). r.id ∷ tentative_names (is_above whose r.id) table) same
 
 -- ---- user after user
 
@@ -166,7 +167,7 @@ users_listed [] table = each_by (λ k. is_listed (λ q. false) k ≡ true → fa
     by false e = absurd cc
 users_listed (u ∷ users) table =
     all_by
-    (λ k. (is_listed (is_theirs (One u)) k ≡ true → has_name (names_of_user table u) k.request.id ≡ true)
+    (λ k. (is_listed (is_in (One u)) k ≡ true → has_name (names_of_user table u) k.request.id ≡ true)
     × (is_listed (λ q. has_number users (user_of q)) k ≡ true → has_name (flat_map (names_of_user table) users) k.request.id ≡ true))
     (λ k. is_listed (λ q. has_number (u ∷ users) (user_of q)) k ≡ true → has_name (flat_map (names_of_user table) (u ∷ users)) k.request.id ≡ true)
     (λ k both listed. has-append k.request.id (names_of_user table u) (flat_map (names_of_user table) users)
@@ -174,9 +175,9 @@ users_listed (u ∷ users) table =
     (ap (λ b. is_tentative k.state && (b || has_number users (user_of k.request))) (eq-turned (user_of k.request) u) ∙ listed) both.0 both.1)
     table
     (all_both
-    (λ k. is_listed (is_theirs (One u)) k ≡ true → has_name (names_of_user table u) k.request.id ≡ true)
+    (λ k. is_listed (is_in (One u)) k ≡ true → has_name (names_of_user table u) k.request.id ≡ true)
     (λ k. is_listed (λ q. has_number users (user_of q)) k ≡ true → has_name (flat_map (names_of_user table) users) k.request.id ≡ true)
-    table (listed_in (is_theirs (One u)) table) (users_listed users table))
+    table (listed_in (is_in (One u)) table) (users_listed users table))
   where
     by : (t a b x y : Bool) → (t && (a || b)) ≡ true → ((t && a) ≡ true → x ≡ true) → ((t && b) ≡ true → y ≡ true) → (x || y) ≡ true
     by true true b x y e first rest = ap (λ z. z || y) (first refl)

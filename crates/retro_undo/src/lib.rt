@@ -6,3 +6,4 @@ mod sweep;
 mod walk;
 
 pub use sweep::sweep_reach;
+pub use walk::{Whose, below_all, next_tentative};

@@ -5,7 +5,7 @@ ghost use Rattle.policy_book.specs.Lists.{has_number};
 ghost use Rattle.retro_undo.specs.Undo.{are_reached};
 ghost use Rattle.retro_undo.specs.Sweep.{every_request, MaySweep, IsSwept};
 
-use crate::walk::{Line, sweep_line};
+use crate::walk::{Whose, sweep_line};
 use elem_show::ElemTable;
 use element_name::Places;
 use policy_book::{Policy, Reach, UserRow};
@@ -26,7 +26,7 @@ fn sweep_users<P: Places>(
     let mut count = 0;
     for i in 0..users.len() {
         if let Some(user) = users.at(i) {
-            count += sweep_line(Line::Of(user), policy, version, states, table, places);
+            count += sweep_line(Whose::One(user), policy, version, states, table, places);
         }
     }
     count
@@ -55,7 +55,7 @@ pub fn sweep_reach<P: Places>(
             count: sweep_users(users, policy, version, states, table, places),
         },
         Reach::Everyone => Undone {
-            count: sweep_line(Line::Everyone, policy, version, states, table, places),
+            count: sweep_line(Whose::All, policy, version, states, table, places),
         },
     }
 }

@@ -1,4 +1,4 @@
-//! The walk along the Tentative requests of a line.
+//! The walk along Tentative requests.
 ghost use Rattle.std.specs.Prelude.{◌≡◌, None, IsTrue};
 ghost use Rattle.element_name.specs.Name.{start};
 ghost use Rattle.request_state.specs.Table.{kept_of, is_in_order};
@@ -14,25 +14,27 @@ use request_state::StateTable;
 
 /// Whose Tentative requests a walk visits, in ascending order of name.
 #[derive(Clone, Copy, Debug, PartialEq, Eq)]
-pub(crate) enum Line {
-    Everyone,
+pub enum Whose {
+    /// Those of all users.
+    All,
     /// Those of one user.
-    Of(u16),
+    One(u16),
 }
 
-fn next(states: &StateTable, line: Line, above: Name) -> Option<Request>
-    ensures found { result ≡ next_of states.now line above }
+/// The next Tentative request of theirs above a name. Takes time logarithmic in the table.
+pub fn next_tentative(states: &StateTable, whose: Whose, above: Name) -> Option<Request>
+    ensures found { result ≡ next_of states.now whose above }
     ensures in_order { IsTrue (is_in_order states.now) }
 {
-    match line {
-        Line::Everyone => states.next_tentative(above),
-        Line::Of(user) => states.next_tentative_of(user, above),
+    match whose {
+        Whose::All => states.next_tentative(above),
+        Whose::One(user) => states.next_tentative_of(user, above),
     }
 }
 
-// The start, from which a walk begins. It is no request's name, since a request's stamp is greater than
-// that of what it speaks of.
-fn below_all(states: &StateTable) -> Name
+/// The start, from which a walk begins. It is no request's name, since a request's stamp is greater than that of what
+/// it speaks of.
+pub fn below_all(states: &StateTable) -> Name
     ensures value { result ≡ start }
     ensures absent { kept_of states.now start ≡ None }
 {
@@ -46,9 +48,9 @@ fn below_all(states: &StateTable) -> Name
     }
 }
 
-/// Judges each Tentative request of the line, and undoes those that are denied. How many those are.
+/// Judges each Tentative request of theirs, and undoes those that are denied. How many those are.
 pub(crate) fn sweep_line<P: Places>(
-    line: Line,
+    whose: Whose,
     policy: &Policy,
     version: u32,
     states: &mut StateTable,
@@ -56,11 +58,11 @@ pub(crate) fn sweep_line<P: Places>(
     places: &P,
 ) -> u32
     requires { MaySweep (P.names places.now) states.old table.old }
-    ensures { IsSwept (is_in line) (P.names places.now) policy.now version states.old table.old states.new table.new result }
+    ensures { IsSwept (is_in whose) (P.names places.now) policy.now version states.old table.old states.new table.new result }
 {
     let mut count = 0;
     let mut above = below_all(states);
-    while let Some(request) = next(states, line, above) {
+    while let Some(request) = next_tentative(states, whose, above) {
         above = request.id();
         count += u32::from(judge(request, policy, version, states, table, places));
     }

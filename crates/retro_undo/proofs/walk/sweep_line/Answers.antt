@@ -14,11 +14,11 @@ loop-request-init g c =
     let names = g.P.Places.names c.args.places.now in
     let p = c.args.policy.now in
     record {
-      states = states_at_start names p c.args.version c.args.states.now c.args.line c.below_all-above.ensures.absent
-          ∙ sym (ap (λ (n : Name). states_after_in (is_above c.args.line n) names p c.args.version c.args.states.now) c.below_all-above.ensures.value);
+      states = states_at_start names p c.args.version c.args.states.now c.args.whose c.below_all-above.ensures.absent
+          ∙ sym (ap (λ (n : Name). states_after_in (is_above c.args.whose n) names p c.args.version c.args.states.now) c.below_all-above.ensures.value);
       count =
-          let all = undone_at_start names p c.args.version c.args.states.now c.args.line c.below_all-above.ensures.absent in
-          let same = ap (λ (n : Name). undone_in (is_above c.args.line n) names p c.args.states.now) c.below_all-above.ensures.value in
+          let all = undone_at_start names p c.args.version c.args.states.now c.args.whose c.below_all-above.ensures.absent in
+          let same = ap (λ (n : Name). undone_in (is_above c.args.whose n) names p c.args.states.now) c.below_all-above.ensures.value in
           omega (arith, all, same);
       cells = counted_again c.args.table.now c.args.states.now c.requires.counted;
       elements = c.requires.elements;
@@ -26,12 +26,12 @@ loop-request-init g c =
 
 pub judge-requires-clause-tentative : goal.judge-requires-clause-tentative
 judge-requires-clause-tentative g c =
-    next_kept c.loop-request.states c.args.line c.loop-request.above c.in-Some.request c.next.ensures.in_order (sym c.next.ensures.found ∙ c.in-Some.is)
+    next_kept c.loop-request.states c.args.whose c.loop-request.above c.in-Some.request c.next_tentative.ensures.in_order (sym c.next_tentative.ensures.found ∙ c.in-Some.is)
 
 pub judge-requires-clause-element : goal.judge-requires-clause-element
 judge-requires-clause-element g c =
     kept_element (g.P.Places.names c.args.places.now) c.in-Some.request c.loop-request.states c.loop-request.invariant.elements
-    (next_kept c.loop-request.states c.args.line c.loop-request.above c.in-Some.request c.next.ensures.in_order (sym c.next.ensures.found ∙ c.in-Some.is))
+    (next_kept c.loop-request.states c.args.whose c.loop-request.above c.in-Some.request c.next_tentative.ensures.in_order (sym c.next_tentative.ensures.found ∙ c.in-Some.is))
 
 pub judge-requires-clause-counted : goal.judge-requires-clause-counted
 judge-requires-clause-counted g c = ap (λ (t : Table). t.counted) c.loop-request.invariant.cells
@@ -40,29 +40,29 @@ pub overflow_add-count : goal.overflow_add-count
 overflow_add-count g c =
     let names = g.P.Places.names c.args.places.now in
     let p = c.args.policy.now in
-    let few = few_undone names p c.args.version (is_in c.args.line) c.args.states.now in
-    let step = walk_count names p c.args.version c.args.line c.loop-request.above c.id-above.result c.in-Some.request c.loop-request.states c.judge.new.states
-    c.next.ensures.in_order (sym c.next.ensures.found ∙ c.in-Some.is) c.id-above.ensures.value c.judge.ensures.states in
+    let few = few_undone names p c.args.version (is_in c.args.whose) c.args.states.now in
+    let step = walk_count names p c.args.version c.args.whose c.loop-request.above c.id-above.result c.in-Some.request c.loop-request.states c.judge.new.states
+    c.next_tentative.ensures.in_order (sym c.next_tentative.ensures.found ∙ c.in-Some.is) c.id-above.ensures.value c.judge.ensures.states in
     let one = one_counted _ _ _ c.from-count.ensures c.judge.ensures.undone in
     omega (arith, few, step, one, c.loop-request.invariant.count, c.requires.few)
 
 pub loop-request-smaller : goal.loop-request-smaller
 loop-request-smaller g c =
-    walk_smaller (g.P.Places.names c.args.places.now) c.args.policy.now c.args.version c.args.line c.loop-request.above c.id-above.result c.in-Some.request c.loop-request.states c.judge.new.states
-    c.next.ensures.in_order (sym c.next.ensures.found ∙ c.in-Some.is) c.id-above.ensures.value c.judge.ensures.states
+    walk_smaller (g.P.Places.names c.args.places.now) c.args.policy.now c.args.version c.args.whose c.loop-request.above c.id-above.result c.in-Some.request c.loop-request.states c.judge.new.states
+    c.next_tentative.ensures.in_order (sym c.next_tentative.ensures.found ∙ c.in-Some.is) c.id-above.ensures.value c.judge.ensures.states
 
 pub loop-request-preserved : goal.loop-request-preserved
 loop-request-preserved g c =
     let names = g.P.Places.names c.args.places.now in
     let p = c.args.policy.now in
-    let found = sym c.next.ensures.found ∙ c.in-Some.is in
-    let step = walk_count names p c.args.version c.args.line c.loop-request.above c.id-above.result c.in-Some.request c.loop-request.states c.judge.new.states
-    c.next.ensures.in_order found c.id-above.ensures.value c.judge.ensures.states in
+    let found = sym c.next_tentative.ensures.found ∙ c.in-Some.is in
+    let step = walk_count names p c.args.version c.args.whose c.loop-request.above c.id-above.result c.in-Some.request c.loop-request.states c.judge.new.states
+    c.next_tentative.ensures.in_order found c.id-above.ensures.value c.judge.ensures.states in
     let one = one_counted _ _ _ c.from-count.ensures c.judge.ensures.undone in
     record {
       states = c.loop-request.invariant.states
-          ∙ walk_states names p c.args.version c.args.line c.loop-request.above c.id-above.result c.in-Some.request c.loop-request.states c.judge.new.states
-          c.next.ensures.in_order found c.id-above.ensures.value c.judge.ensures.states;
+          ∙ walk_states names p c.args.version c.args.whose c.loop-request.above c.id-above.result c.in-Some.request c.loop-request.states c.judge.new.states
+          c.next_tentative.ensures.in_order found c.id-above.ensures.value c.judge.ensures.states;
       count = omega (arith, step, one, c.loop-request.invariant.count);
       cells = counted_last c.args.table.now c.loop-request.table c.judge.new.table c.loop-request.states c.judge.new.states c.loop-request.invariant.cells c.judge.ensures.cells;
       elements = ap (λ (t : List Kept). have_elements names t) c.judge.ensures.states
@@ -72,10 +72,10 @@ loop-request-preserved g c =
 pub returns : goal.returns
 returns g c =
     let names = g.P.Places.names c.args.places.now in
-    let end = sym c.next.ensures.found ∙ c.in_default.is in
-    let none = undone_at_end names c.args.policy.now c.args.version c.loop-request.states c.args.line c.loop-request.above end in
+    let end = sym c.next_tentative.ensures.found ∙ c.in_default.is in
+    let none = undone_at_end names c.args.policy.now c.args.version c.loop-request.states c.args.whose c.loop-request.above end in
     record {
-      states = sym (c.loop-request.invariant.states ∙ states_at_end names c.args.policy.now c.args.version c.loop-request.states c.args.line c.loop-request.above end);
+      states = sym (c.loop-request.invariant.states ∙ states_at_end names c.args.policy.now c.args.version c.loop-request.states c.args.whose c.loop-request.above end);
       cells = c.loop-request.invariant.cells;
       count = omega (arith, none, c.loop-request.invariant.count);
     }

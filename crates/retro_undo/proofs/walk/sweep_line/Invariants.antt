@@ -8,8 +8,8 @@ abbrev pub invariant-loop-request : goal.invariant-loop-request
 invariant-loop-request g l =
     let names = g.P.Places.names l.places in
     record {
-      states : states_after_in (is_in l.line) names l.policy l.version l.fn.states ≡ states_after_in (is_above l.line l.above) names l.policy l.version l.states;
-      count : undone_in (is_in l.line) names l.policy l.fn.states ≡ l.count + undone_in (is_above l.line l.above) names l.policy l.states;
+      states : states_after_in (is_in l.whose) names l.policy l.version l.fn.states ≡ states_after_in (is_above l.whose l.above) names l.policy l.version l.states;
+      count : undone_in (is_in l.whose) names l.policy l.fn.states ≡ l.count + undone_in (is_above l.whose l.above) names l.policy l.states;
       cells : l.table ≡ with_counted l.fn.table l.states;
       elements : have_elements names l.states ≡ true;
     }
