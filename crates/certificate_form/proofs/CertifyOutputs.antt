@@ -1,6 +1,6 @@
 -- What is written of a stream whose journal is certified, by what stands at its front.
 use Rattle.std.proofs.Common.{◌≡◌, ℕ, ◌+◌, ◌-◌, ◌<◌, ◌≤◌, Bool, true, false, List, [], ◌∷◌, ◌++◌, length, Option, Some, None, Err, Ok, refl, sym, ap, ◌∙◌, arith}
-use Rattle.std.specs.Prelude.{not, ◌&&◌, is_none, option_and_then}
+use Rattle.std.specs.Prelude.{is_none}
 use Rattle.std.proofs.lemmas.List.{length-append, append-nil}
 use Rattle.element_name.specs.Cases.{when}
 use Rattle.line_engine.specs.declared.status.Status.TheVariants.{Done}
@@ -11,20 +11,19 @@ use Rattle.edit_frame.specs.declared.frame.FrameKind.{FrameKind}
 use Rattle.edit_frame.specs.declared.frame.FrameKind.TheVariants.{Truncated}
 use Rattle.edit_frame.specs.Reading.{length_field, frame_at, Stream, stream_with, stream}
 use Rattle.edit_frame.specs.Splitter.{is_truncated}
-use Rattle.edit_frame.proofs.Streams.{rest_fault_by}
 use Rattle.edit_frame.proofs.Stays.{stays}
 use Rattle.peer_core.specs.Peer.{Peer}
 use Rattle.feed_form.specs.Turn.{frame_turn, frames_turn}
-use Rattle.feed_form.specs.Feed.{counted_fault, bad_frame, peer_fed}
+use Rattle.feed_form.specs.Feed.{counted_fault, bad_frame, closing, stream_ending, peer_fed}
 use Rattle.feed_form.proofs.Streams.{behind, behind_size, stream_none, stream_more, rest_short}
-use Rattle.feed_form.proofs.Outputs.{fed_front}
-use Rattle.certificate_form.specs.Certify.{certified_bytes, certified_ending, certified_from, certify_part}
+use Rattle.feed_form.proofs.Outputs.{same_place, fed_front, fed_none, fault_counts, cut_counts, end_counts}
+use Rattle.certificate_form.specs.Certify.{certified_bytes, certified_from, certify_part}
 
 -- ---- by a stream's rest and the peer that it leaves
 
 -- what is written, where the stream has so many bytes
 abbrev certified_by : Bool → Peer → ℕ → ℕ → Stream → Output
-certified_by cut p offset size s = certified_ending cut p (offset + (size - length s.rest)) (counted_fault cut s.rest)
+certified_by cut p offset size s = stream_ending (closing cut (certified_bytes p.journal)) (offset + (size - length s.rest)) (counted_fault cut s.rest)
 
 certified_is : (cut : Bool) (p : Peer) (offset : ℕ) (bytes : List ℕ) → certified_from cut p offset bytes ≡ certified_by cut (peer_fed p bytes) offset (length bytes) (stream bytes)
 unfolding certified_from
@@ -39,10 +38,6 @@ part_is bytes = refl
 
 -- ---- a frame at the front
 
--- the rest stands at the same place
-same_place : (offset size more taken rest : ℕ) → more + taken ≡ size → rest ≤ more → offset + (size - rest) ≡ offset + taken + (more - rest)
-same_place offset size more taken rest e le = omega arith
-
 pub certified_front : (cut : Bool) (p : Peer) (offset : ℕ) (rest more : List ℕ) (f : Frame) → frame_at rest ≡ Ok f
     → certified_from cut p offset (rest ++ more) ≡ certified_from cut (frame_turn p f).peer (offset + (4 + length_field rest)) (behind rest ++ more)
 certified_front cut p offset rest more f e =
@@ -51,7 +46,7 @@ certified_front cut p offset rest more f e =
     let size : length later + taken ≡ length (rest ++ more) = omega (arith, behind_size rest f e, length-append rest more, length-append (behind rest) more) in
     certified_is cut p offset (rest ++ more)
     ∙ ap (certified_by cut (peer_fed p (rest ++ more)) offset (length (rest ++ more))) (stream_more rest more f e)
-    ∙ ap (λ (place : ℕ). certified_ending cut (peer_fed p (rest ++ more)) place (counted_fault cut (stream later).rest))
+    ∙ ap (λ (place : ℕ). stream_ending (closing cut (certified_bytes (peer_fed p (rest ++ more)).journal)) place (counted_fault cut (stream later).rest))
     (same_place offset (length (rest ++ more)) (length later) taken (length (stream later).rest) size (rest_short later))
     ∙ ap (λ (q : Peer). certified_by cut q (offset + taken) (length later) (stream later)) (fed_front p rest more f e)
     ∙ sym (certified_is cut (frame_turn p f).peer (offset + taken) later)
@@ -62,35 +57,21 @@ part_front rest more f e =
 
 -- ---- no frame at the front
 
-fed_none : (p : Peer) (bytes : List ℕ) (kind : FrameKind) → frame_at bytes ≡ Err kind → peer_fed p bytes ≡ p
-unfolding peer_fed
-fed_none p bytes kind e = ap (λ (s : Stream). (frames_turn p s.frames).peer) (stream_none bytes kind e)
-
 -- the rest begins where the bytes do
 certified_none : (cut : Bool) (p : Peer) (offset : ℕ) (bytes : List ℕ) (kind : FrameKind) (found : Option FrameKind) → frame_at bytes ≡ Err kind
-    → counted_fault cut bytes ≡ found → certified_from cut p offset bytes ≡ certified_ending cut p offset found
+    → counted_fault cut bytes ≡ found → certified_from cut p offset bytes ≡ stream_ending (closing cut (certified_bytes p.journal)) offset found
 certified_none cut p offset bytes kind found e counted =
     let here : offset + (length bytes - length bytes) ≡ offset = omega arith in
     certified_is cut p offset bytes
     ∙ ap (certified_by cut (peer_fed p bytes) offset (length bytes)) (stream_none bytes kind e)
-    ∙ ap (λ (q : Peer). certified_ending cut q (offset + (length bytes - length bytes)) (counted_fault cut bytes)) (fed_none p bytes kind e)
-    ∙ ap (λ (place : ℕ). certified_ending cut p place (counted_fault cut bytes)) here
-    ∙ ap (certified_ending cut p offset) counted
+    ∙ ap (λ (q : Peer). stream_ending (closing cut (certified_bytes q.journal)) (offset + (length bytes - length bytes)) (counted_fault cut bytes)) (fed_none p bytes kind e)
+    ∙ ap (λ (place : ℕ). stream_ending (closing cut (certified_bytes p.journal)) place (counted_fault cut bytes)) here
+    ∙ ap (stream_ending (closing cut (certified_bytes p.journal)) offset) counted
 
 part_none : (bytes : List ℕ) (kind : FrameKind) → frame_at bytes ≡ Err kind → counted_fault true bytes ≡ None → certify_part bytes ≡ Some []
 part_none bytes kind e counted = part_is bytes ∙ ap part_by (stream_none bytes kind e) ∙ ap (λ (o : Option FrameKind). when (is_none o) (let none : List ℕ = [] in none)) counted
 
 -- ---- a fault
-
--- a fault other than that the bytes end counts in any case
-counts_by : (cut short : Bool) (kind : FrameKind) → short ≡ false → when (not (cut && short)) kind ≡ Some kind
-counts_by true short kind h = ap (λ (b : Bool). when (not b) kind) h
-counts_by false short kind h = refl
-
-fault_counts : (cut : Bool) (bytes : List ℕ) (kind : FrameKind) → frame_at bytes ≡ Err kind → is_truncated kind ≡ false → counted_fault cut bytes ≡ Some kind
-fault_counts cut bytes kind e h =
-    ap (λ (o : Option FrameKind). option_and_then (λ k. when (not (cut && is_truncated k)) k) o) (rest_fault_by bytes kind e h)
-    ∙ counts_by cut (is_truncated kind) kind h
 
 pub certified_bad : (cut : Bool) (p : Peer) (offset : ℕ) (rest more : List ℕ) (kind : FrameKind) → frame_at rest ≡ Err kind → is_truncated kind ≡ false
     → certified_from cut p offset (rest ++ more) ≡ bad_frame offset kind
@@ -99,16 +80,6 @@ certified_bad cut p offset rest more kind e h =
     certified_none cut p offset (rest ++ more) kind (Some kind) still (fault_counts cut (rest ++ more) kind still h)
 
 -- ---- a rest that is empty or cut
-
--- where the stream goes on it is no fault
-cut_counts : (bytes : List ℕ) → frame_at bytes ≡ Err Truncated → counted_fault true bytes ≡ None
-cut_counts [] e = refl
-cut_counts (b ∷ bytes) e = ap (λ r. option_and_then (λ k. when (not (true && is_truncated k)) k) (elim r as (λ _. Option FrameKind) [ Ok f ↦ None | Err fault ↦ Some fault ])) e
-
--- where the stream ends it is one
-end_counts : (bytes : List ℕ) → frame_at bytes ≡ Err Truncated → 0 < length bytes → counted_fault false bytes ≡ Some Truncated
-end_counts [] e lt = absurd (omega (arith, lt))
-end_counts (b ∷ bytes) e lt = ap (λ r. option_and_then (λ k. when (not (false && is_truncated k)) k) (elim r as (λ _. Option FrameKind) [ Ok f ↦ None | Err fault ↦ Some fault ])) e
 
 pub certified_cut : (p : Peer) (offset : ℕ) (rest : List ℕ) → frame_at rest ≡ Err Truncated → certified_from true p offset (rest ++ []) ≡ too_long
 certified_cut p offset rest e = ap (certified_from true p offset) (append-nil rest) ∙ certified_none true p offset rest Truncated None e (cut_counts rest e)

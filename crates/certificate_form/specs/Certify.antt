@@ -1,17 +1,15 @@
 -- What is written of a stream of frames after which the peer's journal is certified.
-use Rattle.std.specs.Prelude.{ℕ, ◌+◌, ◌-◌, Bool, true, List, [], ◌++◌, Option, Some, None, length, map, is_none, if◌then◌else◌}
+use Rattle.std.specs.Prelude.{ℕ, ◌+◌, ◌-◌, Bool, true, List, [], ◌++◌, Option, Some, None, length, map, is_none}
 use Rattle.std.specs.List.{flat_map}
 use Rattle.element_name.specs.Cases.{when}
 use Rattle.edit_message.specs.declared.message.Message.{Message}
-use Rattle.line_engine.specs.declared.status.Status.TheVariants.{Done}
-use Rattle.line_engine.specs.Output.{Output, too_long}
+use Rattle.line_engine.specs.Output.{Output}
 use Rattle.line_engine.specs.Input.{is_cut, counted_bytes}
 use Rattle.edit_frame.specs.declared.frame.Frame.TheVariants.{Item, End}
-use Rattle.edit_frame.specs.declared.frame.FrameKind.{FrameKind}
 use Rattle.edit_frame.specs.Spelling.{spelling}
 use Rattle.edit_frame.specs.Reading.{stream}
 use Rattle.peer_core.specs.Peer.{Peer, fresh_peer}
-use Rattle.feed_form.specs.Feed.{counted_fault, bad_frame, peer_fed}
+use Rattle.feed_form.specs.Feed.{counted_fault, closing, stream_ending, peer_fed}
 use Rattle.audit_cert.specs.Certificate.{certificate_bytes}
 
 -- the frames of a journal
@@ -22,20 +20,11 @@ journal_bytes J = flat_map spelling (map Item J)
 abbrev pub certified_bytes : List Message → List ℕ
 certified_bytes J = journal_bytes J ++ (spelling End ++ certificate_bytes J)
 
--- what is written at the end, of the input or of the part of it that counts, where the rest of it has no fault
-abbrev pub certified_closing : Bool → Peer → Output
-certified_closing cut p = if cut then too_long else record { written = certified_bytes p.journal; status = Done }
-
--- what is written at the rest, which begins at this place of the stream and has this fault or none
-abbrev pub certified_ending : Bool → Peer → ℕ → Option FrameKind → Output
-certified_ending cut p offset (Some kind) = bad_frame offset kind
-certified_ending cut p offset None = certified_closing cut p
-
 -- what is written of a stream's bytes from this place on: nothing of its frames, and then at its rest
 unfoldable pub certified_from : Bool → Peer → ℕ → List ℕ → Output
 certified_from cut p offset bytes =
     let s = stream bytes in
-    certified_ending cut (peer_fed p bytes) (offset + (length bytes - length s.rest)) (counted_fault cut s.rest)
+    stream_ending (closing cut (certified_bytes (peer_fed p bytes).journal)) (offset + (length bytes - length s.rest)) (counted_fault cut s.rest)
 
 -- what `certify` with this site writes of an input, and its status
 abbrev pub certify_output : ℕ → List ℕ → Output

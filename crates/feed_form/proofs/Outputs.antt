@@ -15,7 +15,7 @@ use Rattle.edit_frame.proofs.Stays.{stays}
 use Rattle.peer_core.specs.Peer.{Peer}
 use Rattle.report_text.specs.Closing.{closing_lines}
 use Rattle.feed_form.specs.Turn.{frame_turn, frames_turn}
-use Rattle.feed_form.specs.Feed.{counted_fault, bad_frame, stream_ending, output_from, part_from, peer_fed}
+use Rattle.feed_form.specs.Feed.{counted_fault, bad_frame, closing, stream_ending, output_from, part_from, peer_fed}
 use Rattle.feed_form.proofs.Streams.{behind, behind_size, stream_none, stream_more, rest_short}
 
 -- ---- by a stream's frames and its rest
@@ -23,7 +23,7 @@ use Rattle.feed_form.proofs.Streams.{behind, behind_size, stream_none, stream_mo
 -- what is written, where the stream has so many bytes
 abbrev output_by : Bool → Peer → ℕ → ℕ → Stream → Output
 output_by cut p offset size s = let turn = frames_turn p s.frames in
-    after_bytes turn.reply (stream_ending cut turn.peer (offset + (size - length s.rest)) (counted_fault cut s.rest))
+    after_bytes turn.reply (stream_ending (closing cut (closing_lines turn.peer)) (offset + (size - length s.rest)) (counted_fault cut s.rest))
 
 abbrev part_by : Peer → Stream → Option (List ℕ)
 part_by p s = when (is_none (counted_fault true s.rest)) (frames_turn p s.frames).reply
@@ -51,15 +51,15 @@ part_both true a b = refl
 part_both false a b = refl
 
 -- the rest stands at the same place
-same_place : (offset size more taken rest : ℕ) → more + taken ≡ size → rest ≤ more → offset + (size - rest) ≡ offset + taken + (more - rest)
+pub same_place : (offset size more taken rest : ℕ) → more + taken ≡ size → rest ≤ more → offset + (size - rest) ≡ offset + taken + (more - rest)
 same_place offset size more taken rest e le = omega arith
 
 output_next : (cut : Bool) (p : Peer) (offset size more taken : ℕ) (f : Frame) (s : Stream) → more + taken ≡ size → length s.rest ≤ more
     → output_by cut p offset size (stream_with f s) ≡ after_bytes (frame_turn p f).reply (output_by cut (frame_turn p f).peer (offset + taken) more s)
 output_next cut p offset size more taken f s e le =
     let later = frames_turn (frame_turn p f).peer s.frames in
-    ap (λ (place : ℕ). after_bytes ((frame_turn p f).reply ++ later.reply) (stream_ending cut later.peer place (counted_fault cut s.rest))) (same_place offset size more taken (length s.rest) e le)
-    ∙ after_both (frame_turn p f).reply later.reply (stream_ending cut later.peer (offset + taken + (more - length s.rest)) (counted_fault cut s.rest))
+    ap (λ (place : ℕ). after_bytes ((frame_turn p f).reply ++ later.reply) (stream_ending (closing cut (closing_lines later.peer)) place (counted_fault cut s.rest))) (same_place offset size more taken (length s.rest) e le)
+    ∙ after_both (frame_turn p f).reply later.reply (stream_ending (closing cut (closing_lines later.peer)) (offset + taken + (more - length s.rest)) (counted_fault cut s.rest))
 
 pub output_front : (cut : Bool) (p : Peer) (offset : ℕ) (rest more : List ℕ) (f : Frame) → frame_at rest ≡ Ok f
     → output_from cut p offset (rest ++ more)
@@ -90,18 +90,18 @@ fed_front p rest more f e =
 
 -- nothing is answered, and the rest begins where the bytes do
 output_none : (cut : Bool) (p : Peer) (offset : ℕ) (bytes : List ℕ) (kind : FrameKind) (found : Option FrameKind) → frame_at bytes ≡ Err kind
-    → counted_fault cut bytes ≡ found → output_from cut p offset bytes ≡ stream_ending cut p offset found
+    → counted_fault cut bytes ≡ found → output_from cut p offset bytes ≡ stream_ending (closing cut (closing_lines p)) offset found
 output_none cut p offset bytes kind found e counted =
     let here : offset + (length bytes - length bytes) ≡ offset = omega arith in
     output_is cut p offset bytes
     ∙ ap (output_by cut p offset (length bytes)) (stream_none bytes kind e)
-    ∙ ap (λ (place : ℕ). stream_ending cut p place (counted_fault cut bytes)) here
-    ∙ ap (stream_ending cut p offset) counted
+    ∙ ap (λ (place : ℕ). stream_ending (closing cut (closing_lines p)) place (counted_fault cut bytes)) here
+    ∙ ap (stream_ending (closing cut (closing_lines p)) offset) counted
 
 part_none : (p : Peer) (bytes : List ℕ) (kind : FrameKind) → frame_at bytes ≡ Err kind → counted_fault true bytes ≡ None → part_from p bytes ≡ Some []
 part_none p bytes kind e counted = part_is p bytes ∙ ap (part_by p) (stream_none bytes kind e) ∙ ap (λ (o : Option FrameKind). when (is_none o) (let none : List ℕ = [] in none)) counted
 
-fed_none : (p : Peer) (bytes : List ℕ) (kind : FrameKind) → frame_at bytes ≡ Err kind → peer_fed p bytes ≡ p
+pub fed_none : (p : Peer) (bytes : List ℕ) (kind : FrameKind) → frame_at bytes ≡ Err kind → peer_fed p bytes ≡ p
 fed_none p bytes kind e = fed_is p bytes ∙ ap (λ (s : Stream). (frames_turn p s.frames).peer) (stream_none bytes kind e)
 
 -- ---- a fault
@@ -111,7 +111,7 @@ counts_by : (cut short : Bool) (kind : FrameKind) → short ≡ false → when (
 counts_by true short kind h = ap (λ (b : Bool). when (not b) kind) h
 counts_by false short kind h = refl
 
-fault_counts : (cut : Bool) (bytes : List ℕ) (kind : FrameKind) → frame_at bytes ≡ Err kind → is_truncated kind ≡ false → counted_fault cut bytes ≡ Some kind
+pub fault_counts : (cut : Bool) (bytes : List ℕ) (kind : FrameKind) → frame_at bytes ≡ Err kind → is_truncated kind ≡ false → counted_fault cut bytes ≡ Some kind
 fault_counts cut bytes kind e h =
     ap (λ (o : Option FrameKind). option_and_then (λ k. when (not (cut && is_truncated k)) k) o) (rest_fault_by bytes kind e h)
     ∙ counts_by cut (is_truncated kind) kind h
@@ -128,12 +128,12 @@ fed_bad p rest more kind e h = fed_none p (rest ++ more) kind (stays rest more k
 -- ---- a rest that is empty or cut
 
 -- where the stream goes on it is no fault
-cut_counts : (bytes : List ℕ) → frame_at bytes ≡ Err Truncated → counted_fault true bytes ≡ None
+pub cut_counts : (bytes : List ℕ) → frame_at bytes ≡ Err Truncated → counted_fault true bytes ≡ None
 cut_counts [] e = refl
 cut_counts (b ∷ bytes) e = ap (λ r. option_and_then (λ k. when (not (true && is_truncated k)) k) (elim r as (λ _. Option FrameKind) [ Ok f ↦ None | Err fault ↦ Some fault ])) e
 
 -- where the stream ends it is one
-end_counts : (bytes : List ℕ) → frame_at bytes ≡ Err Truncated → 0 < length bytes → counted_fault false bytes ≡ Some Truncated
+pub end_counts : (bytes : List ℕ) → frame_at bytes ≡ Err Truncated → 0 < length bytes → counted_fault false bytes ≡ Some Truncated
 end_counts [] e lt = absurd (omega (arith, lt))
 end_counts (b ∷ bytes) e lt = ap (λ r. option_and_then (λ k. when (not (false && is_truncated k)) k) (elim r as (λ _. Option FrameKind) [ Ok f ↦ None | Err fault ↦ Some fault ])) e
 

@@ -21,20 +21,20 @@ abbrev pub bad_frame : ℕ → FrameKind → Output
 bad_frame offset kind = record { written = frame_fault_line (record { offset = offset; kind = kind }); status = BadInput }
 
 -- what is written at the end, of the input or of the part of it that counts, where the rest of it has no fault
-abbrev pub closing : Bool → Peer → Output
-closing cut p = if cut then too_long else record { written = closing_lines p; status = Done }
+abbrev pub closing : Bool → List ℕ → Output
+closing cut lines = if cut then too_long else record { written = lines; status = Done }
 
 -- what is written at the rest, which begins at this place of the stream and has this fault or none
-abbrev pub stream_ending : Bool → Peer → ℕ → Option FrameKind → Output
-stream_ending cut p offset (Some kind) = bad_frame offset kind
-stream_ending cut p offset None = closing cut p
+abbrev pub stream_ending : Output → ℕ → Option FrameKind → Output
+stream_ending end offset (Some kind) = bad_frame offset kind
+stream_ending end offset None = end
 
 -- what is written of a stream's bytes from this place on: of its frames, and then at its rest
 unfoldable pub output_from : Bool → Peer → ℕ → List ℕ → Output
 output_from cut p offset bytes =
     let s = stream bytes in
     let turn = frames_turn p s.frames in
-    after_bytes turn.reply (stream_ending cut turn.peer (offset + (length bytes - length s.rest)) (counted_fault cut s.rest))
+    after_bytes turn.reply (stream_ending (closing cut (closing_lines turn.peer)) (offset + (length bytes - length s.rest)) (counted_fault cut s.rest))
 
 -- what is written of bytes after which reading fails: of their frames; none where their rest has a fault, other than that it is cut
 unfoldable pub part_from : Peer → List ℕ → Option (List ℕ)
