@@ -2,47 +2,18 @@
 ghost use Rattle.std.specs.Prelude.{◌≡◌, ◌++◌, OnOk, IfOk, flat_map};
 ghost use Rattle.step_spelling.specs.Values.{behind_spaces};
 ghost use Rattle.line_engine.specs.Output.{bad_line_text};
-ghost use Rattle.report_text.specs.Frame.{request_fault_text, frame_kind_words};
 ghost use Rattle.link_report.specs.Lines.{session_fault_words, link_line, fault_line, session_status, fault_status, wants_memory, first_status, faults_status};
 ghost use Rattle.std.specs.List.{list_any};
 
 use crate::faults::Fault;
-use coop_request::RequestFault;
-use edit_frame::FrameKind;
 use element_name::NoMemory;
 use line_engine::Status;
+use report_text::put_frame_kind;
 use session_core::SessionFault;
 use std::alloc::Global;
 use step_write::{put, put_number_word};
 
 // ---- lines
-
-fn put_request_fault(line: &mut Vec<u8>, fault: RequestFault) -> Result<(), NoMemory>
-    ensures { OnOk result (line.new.items ≡ line.old.items ++ request_fault_text fault) }
-{
-    match fault {
-        RequestFault::BadVersion => put(line, b"1"),
-        RequestFault::StartTarget => put(line, b"2"),
-        RequestFault::StampOrder => put(line, b"3"),
-    }
-}
-
-// Appends the numbers of a frame's fault, each behind a space.
-fn put_frame_kind(line: &mut Vec<u8>, kind: FrameKind) -> Result<(), NoMemory>
-    ensures { OnOk result (line.new.items ≡ line.old.items ++ behind_spaces (frame_kind_words kind)) }
-{
-    match kind {
-        FrameKind::BadLength => put(line, b" 1"),
-        FrameKind::BadKind => put(line, b" 2"),
-        FrameKind::BadField => put(line, b" 3"),
-        FrameKind::LeftOver => put(line, b" 4"),
-        FrameKind::Truncated => put(line, b" 5"),
-        FrameKind::BadRequest(fault) => {
-            put(line, b" 6 ")?;
-            put_request_fault(line, fault)
-        }
-    }
-}
 
 // Appends how a session was cut, each word behind a space.
 fn put_session_fault(line: &mut Vec<u8>, fault: SessionFault) -> Result<(), NoMemory>

@@ -19,8 +19,8 @@ fn put_request_fault(line: &mut Vec<u8>, fault: RequestFault) -> Result<(), NoMe
     }
 }
 
-// Appends the numbers of a frame's fault, each behind a space.
-fn put_frame_kind(line: &mut Vec<u8>, kind: FrameKind) -> Result<(), NoMemory>
+/// Appends the numbers of a frame's fault, each behind a space. After a failure the line may have a part of them.
+pub fn put_frame_kind(line: &mut Vec<u8>, kind: FrameKind) -> Result<(), NoMemory>
     ensures { OnOk result (line.new.items ≡ line.old.items ++ behind_spaces (frame_kind_words kind)) }
 {
     match kind {
