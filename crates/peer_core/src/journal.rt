@@ -2,6 +2,9 @@
 ghost use Rattle.std.specs.Prelude.{◌≡◌, ◌<◌, ◌≤◌, [], ◌∷◌, ◌++◌, length, slice_get, option_map, IfOk, OnOk, OnErr};
 ghost use Rattle.std.specs.Option.{option_copied};
 ghost use Rattle.element_name.specs.declared.limits.TheConstants.{MAX_STAMP, MAX_VERSION};
+ghost use Rattle.element_name.specs.Cases.{when};
+ghost use Rattle.element_name.specs.Name.{has_name};
+ghost use Rattle.element_name.specs.Places.{place_in};
 ghost use Rattle.coop_request.specs.declared.request.TheConstants.{MAX_REQUESTS};
 ghost use Rattle.coop_request.specs.History.{elements_of, request_of, text_order, FollowsHistory};
 ghost use Rattle.edit_message.specs.declared.message.Message.TheVariants.{Coop, Admin};
@@ -185,6 +188,14 @@ impl Journal {
         ensures { result ≡ slice_get (shown_in (requests_of self.now) (entries_of self.now)) i }
     {
         self.seq.shown_at(i as usize)
+    }
+
+    /// The place of an element in text order.
+    #[tactic(auto, using(crate::proofs::KeptLemmas::Reads::read_names))]
+    pub(crate) fn place_of(&self, element: Name) -> Option<usize>
+        ensures { result ≡ when (has_name (text_order (requests_of self.now)) element) (place_in (text_order (requests_of self.now)) element) }
+    {
+        self.seq.place_of(element)
     }
 
     /// The least name of a request that awaits its validation.

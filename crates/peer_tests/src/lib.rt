@@ -12,6 +12,8 @@ mod of_packed_message;
 #[cfg(test)]
 mod of_packed_request;
 #[cfg(test)]
+mod of_peer_core;
+#[cfg(test)]
 mod of_peer_step;
 #[cfg(test)]
 mod of_request_state;

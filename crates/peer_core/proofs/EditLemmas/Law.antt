@@ -131,17 +131,17 @@ edit_text R L known edit id version place follows counts newer = by edit place f
 -- ---- the law
 
 -- what an edit has that is made
-record IsMade (p : Peer) (edit : LocalEdit) (q : Request) : Type 0 where
-  place : fits_text (length (shown_elements p)) edit ≡ true
-  room : length (history p) < MAX_REQUESTS
-  granted : own_verdict p (new_request p edit) ≡ Granted
-  is : new_request p edit ≡ q
+pub record IsMade (p : Peer) (edit : LocalEdit) (q : Request) : Type 0 where
+  pub place : fits_text (length (shown_elements p)) edit ≡ true
+  pub room : length (history p) < MAX_REQUESTS
+  pub granted : own_verdict p (new_request p edit) ≡ Granted
+  pub is : new_request p edit ≡ q
 
 by_done : (nq q : Request) (v : Verdict) → answer_by_verdict nq v ≡ Done q → (v ≡ Granted) × (nq ≡ q)
 by_done nq q Granted h = (refl, cc)
 by_done nq q (Denied by) h = absurd (cc)
 
-made_of : (p : Peer) (edit : LocalEdit) (q : Request) → answer_edit p edit ≡ Done q → IsMade p edit q
+pub made_of : (p : Peer) (edit : LocalEdit) (q : Request) → answer_edit p edit ≡ Done q → IsMade p edit q
 made_of p edit q done = by (first_of (rows_of_edit p edit)) refl done
   where
     by : (o : Option Answer) → first_of (rows_of_edit p edit) ≡ o → unwrap_or o (answer_by_verdict (new_request p edit) (own_verdict p (new_request p edit))) ≡ Done q → IsMade p edit q
