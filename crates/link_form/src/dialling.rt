@@ -17,10 +17,11 @@ use link_run::{LinkRun, dial, run_alone};
 use peer_step::Step;
 use std::alloc::Global;
 use std::sync::Wait;
+use std::thread::Threads;
 use step_input::{InputEnd, StepInput, read_steps};
 
 // Makes the steps of an input, and then dials, if the input has no fault.
-fn dial_behind<R: Wait, D: Door>(
+fn dial_behind<R: Threads + Wait + Sync, D: Door>(
     rt: &R,
     alloc: Global,
     site: u16,
@@ -57,7 +58,7 @@ fn dial_behind<R: Wait, D: Door>(
 ///
 /// It waits for the other side. It takes the time of the steps twice, in the run and in the report, and the memory of
 /// the steps, of the run and of the peer.
-pub fn dial_form<R: Wait, S: Source, K: Sink, D: Door>(
+pub fn dial_form<R: Threads + Wait + Sync, S: Source, K: Sink, D: Door>(
     rt: &R,
     alloc: Global,
     site: u16,

@@ -19,6 +19,7 @@ use serve_core::{OwnEnd, make_own};
 use session_core::{SessionFault, dial_link};
 use std::alloc::Global;
 use std::sync::Wait;
+use std::thread::Threads;
 
 // Closes a shared peer whose own steps ended so.
 fn close_alone(
@@ -44,7 +45,7 @@ fn close_alone(
 }
 
 // Has a session on a link that the door gave, and gives it back.
-fn dial_over<D: Door, R: Wait>(
+fn dial_over<D: Door, R: Threads + Wait + Sync>(
     rt: &R,
     alloc: Global,
     site: u16,
@@ -80,7 +81,7 @@ fn dial_over<D: Door, R: Wait>(
 ///
 /// It takes the time of the steps, and the memory of the peer and of the run. Fails where there was no memory to begin
 /// with; where memory was wanting later, the run tells so.
-pub fn run_alone<R: Wait>(
+pub fn run_alone<R: Threads + Wait + Sync>(
     rt: &R,
     alloc: Global,
     site: u16,
@@ -90,7 +91,7 @@ pub fn run_alone<R: Wait>(
     ensures ends { IfOk result (λ r. AloneEnds steps.now r.own r.door_failed r.links.items r.history) }
 {
     let (shared, pass) = deal_one(alloc, site)?;
-    let (pass, own) = make_own(rt, &shared, pass, steps);
+    let (pass, own) = make_own(rt, alloc, &shared, pass, steps);
     Ok(close_alone(shared, pass, own, false, Vec::new(alloc)))
 }
 
@@ -100,7 +101,7 @@ pub fn run_alone<R: Wait>(
 /// Where the own steps are cut, by a full run or for want of memory, it doesn't connect. It waits for the other side.
 /// Fails where there was no memory to begin with, and has not asked the door then; where memory was wanting later, the
 /// run tells so.
-pub fn dial<D: Door, R: Wait>(
+pub fn dial<D: Door, R: Threads + Wait + Sync>(
     rt: &R,
     alloc: Global,
     site: u16,
@@ -124,7 +125,7 @@ pub fn dial<D: Door, R: Wait>(
 {
     let (shared, pass) = deal_one(alloc, site)?;
     let outcomes = Vec::with_capacity(alloc, 1)?;
-    let (pass, own) = make_own(rt, &shared, pass, steps);
+    let (pass, own) = make_own(rt, alloc, &shared, pass, steps);
     match own {
         OwnEnd::Done => match door.connect(port) {
             Ok(link) => Ok(dial_over(rt, alloc, site, rounds, shared, pass, link, door, outcomes)),

@@ -14,9 +14,9 @@ use std::thread::Threads;
 const INSERT: &[u8] =
     b"\x00\x00\x00\x18\x01\x01\x00\x00\x00\x00\x00\x01\x00\x01\x00\x00\x00\x00\x00\x00\x00\x00\x00\x00\x00\x00\x00\x78";
 
-const TURN: &[u8] = b"\x00\x00\x00\x02\x01\x05";
+pub(crate) const TURN: &[u8] = b"\x00\x00\x00\x02\x01\x05";
 
-const END: &[u8] = b"\x00\x00\x00\x02\x01\x06";
+pub(crate) const END: &[u8] = b"\x00\x00\x00\x02\x01\x06";
 
 /// A run with one link: the step lines, the messages that come over the link, which call of it fails and which of the
 /// door (none where it is 0), what is written and with which status, and how many messages were sent.
@@ -81,7 +81,7 @@ fn serve_one<R: Threads + Wait + Sync>(
 }
 
 // Dials for one round at user 1's site.
-fn dial_one<R: Wait>(
+fn dial_one<R: Threads + Wait + Sync>(
     rt: &R,
     alloc: Global,
     row: &Row,

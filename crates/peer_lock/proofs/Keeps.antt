@@ -210,7 +210,7 @@ counts origin slots id v h e has grown by begun calm room s k wide at small =
       moved origin s k id v w k.gate next (set s.words 1 ((found + 1) % 2 ^ 64)) s.homes at refl refl
           (ap (λ (ws : List ℕ). set ws 1 ((found + 1) % 2 ^ 64)) k.words ∙ ap (λ (n : ℕ). k.gate ∷ n ∷ []) up) (omega arith) k.bit refl (λ z. absurd (omega arith)) k.out others (inr (fits, fit.1))
           (λ x high. steps-append x k.run (e ∷ []) ∙ ap (λ (l : List Step). l ++ steps_by x (e ∷ [])) (k.callers x high) ∙ steps_other x e (λ same. absurd (omega arith))),
-      refl,
+      (found-is ∙ ap (λ (r : List Call). length r) same, refl),
     )
   where
     based : (run : List Call) (v : View) → length v.seen ≤ length v.base → IsLonger run v.base v.seen → run ≡ v.base

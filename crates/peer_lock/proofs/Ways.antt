@@ -1,5 +1,5 @@
 -- From the single moves to a whole call.
-use Rattle.std.proofs.Common.{◌≡◌, ℕ, ◌<◌, ◌≤◌, false, Result, Ok, Err, List, [], ◌∷◌, ◌++◌, length, get_or, sym, refl, ap, ◌∙◌, subst, inr, arith, length-append, append-nil}
+use Rattle.std.proofs.Common.{◌≡◌, ℕ, ◌+◌, ◌<◌, ◌≤◌, false, Result, Ok, Err, List, [], ◌∷◌, ◌++◌, length, get_or, sym, refl, ap, ◌∙◌, subst, inr, arith, length-append, append-nil}
 use mathlib.Core.Option.{some, some-injective}
 use lib.ListN.{get_elem?}
 use Rattle.atomic_table.specs.Table.{Final, Seen}
@@ -13,6 +13,7 @@ use Rattle.peer_step.specs.declared.step.Step.{Step}
 use Rattle.peer_step.specs.declared.answer.Answer.{Answer}
 use Rattle.peer_lock.specs.declared.limits.TheConstants.{MAX_RUN}
 use Rattle.peer_lock.specs.declared.call.Call.{Call}
+use Rattle.peer_lock.specs.declared.call.CountedStep.{CountedStep}
 use Rattle.peer_lock.specs.declared.view.View.{View}
 use Rattle.peer_lock.specs.declared.fail.TryFail.{TryFail}
 use Rattle.peer_lock.specs.declared.fail.TryFail.TheVariants.{Busy, RunFull, NoMemory}
@@ -98,10 +99,19 @@ stepped v run s a w f few answer seen floor =
       others = λ n has apart. ap (steps_by n) seen ∙ steps-append n run (e ∷ []) ∙ (λ i. quiet n has i ++ steps_other n e (λ same. apart (sym same)) i) ∙ append-nil (steps_by n v.seen);
     }
 
+-- the run that is counted has one step more than the one that was found
+pub counted_length : (m : Seated) → CanCount m → length (run_of m.1) ≡ length m.0.base + 1
+counted_length m can = ap (λ (c : List (ℕ × Recorded)). length (run_of c)) can.slot ∙ ap (λ (r : List Call). length r) can.grown ∙ length-append m.0.base (can.e ∷ [])
+
+-- what the caller is told of a try
+abbrev pub told : Result CountedStep TryFail → Result Answer TryFail
+told (Ok c) = Ok c.answer
+told (Err e) = Err e
+
 -- of a whole try
-pub tries : (m n : Seated) (caller : ℕ) (s : Step) (r : Result Answer TryFail) → caller ≡ m.0.number → Went m caller s r n → AnswersTry m.0 s r n.0
-tries m n caller s (Ok a) by w = (
-  stepped m.0 w.0 s a n.0 w.1 w.2 w.3 (ap (λ (x : Seated). x.0.seen) w.4 ∙ ap (λ (k : ℕ). w.0 ++ call k s ∷ []) by) (ap (λ (x : Seated). x.0.floor) w.4 ∙ ap (λ (k : ℕ). length (w.0 ++ call k s ∷ [])) by),
+pub tries : (m n : Seated) (caller : ℕ) (s : Step) (r : Result CountedStep TryFail) → caller ≡ m.0.number → Went m caller s r n → AnswersTry m.0 s (told r) n.0
+tries m n caller s (Ok c) by w = (
+  stepped m.0 w.0 s c.answer n.0 w.1 w.2 w.3 (ap (λ (x : Seated). x.0.seen) w.4 ∙ ap (λ (k : ℕ). w.0 ++ call k s ∷ []) by) (ap (λ (x : Seated). x.0.floor) w.4 ∙ ap (λ (k : ℕ). length (w.0 ++ call k s ∷ [])) by),
   ap (λ (x : Seated). x.0.refused) w.4,
 )
 tries m n caller s (Err (Busy back)) by w = (w.0, ap (λ (x : Seated). x.0.refused) w.1, ap (λ (x : Seated). x.0.seen) w.1, ap (λ (x : Seated). x.0.floor) w.1)

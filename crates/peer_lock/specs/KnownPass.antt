@@ -15,7 +15,7 @@ abbrev pub known_pass : TableId → ℕ → View → KnownPass
 known_pass table id view = record { table = table; id = id; view = view }
 
 -- a seat between two calls: it has no slot, and not the gate
-pub record IsIdle (m : Seated) (number weight : ℕ) : Type 0 where
+pub record IsIdle (m : Seated) (number weight known : ℕ) : Type 0 where
   pub bare : m.1 ≡ []
   pub hand : m.0.hand ≡ false
   pub base : m.0.base ≡ []
@@ -24,3 +24,4 @@ pub record IsIdle (m : Seated) (number weight : ℕ) : Type 0 where
   pub weight_is : length m.0.numbers ≡ weight
   pub some : 0 < weight
   pub few : weight ≤ MAX_PASSES
+  pub known_is : length m.0.seen ≡ known

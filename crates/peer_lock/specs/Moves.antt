@@ -6,6 +6,7 @@ use Rattle.peer_core.specs.Peer.{fresh_peer}
 use Rattle.peer_core.specs.Answers.{answer_of}
 use Rattle.peer_lock.specs.declared.limits.TheConstants.{MAX_RUN, MAX_PASSES}
 use Rattle.peer_lock.specs.declared.call.Call.{Call}
+use Rattle.peer_lock.specs.declared.call.CountedStep.{CountedStep}
 use Rattle.peer_lock.specs.declared.view.View.{View}
 use Rattle.peer_lock.specs.declared.fail.TryFail.{TryFail}
 use Rattle.peer_lock.specs.declared.fail.TryFail.TheVariants.{Busy, RunFull, NoMemory}
@@ -53,8 +54,8 @@ abbrev pub Looked : Seated → ℕ → Seated → Type 0
 Looked m r n = (run : List Call) × Fits run m.0 × (length m.0.numbers ≤ MAX_PASSES) × (length run ≤ MAX_RUN) × (r ≡ length run) × (n ≡ (looking m.0 r, m.1))
 
 -- a whole try: grab, step, count and free
-abbrev pub Went : Seated → ℕ → Step → Result Answer TryFail → Seated → Type 0
-Went m caller s (Ok a) n = (run : List Call) × Fits run m.0 × (length run < MAX_RUN) × (a ≡ answer_of (peer_after_run (fresh_peer m.0.origin) run) s) × (n ≡ (freeing (counting (taking m.0 run) (run ++ call caller s ∷ [])), []))
+abbrev pub Went : Seated → ℕ → Step → Result CountedStep TryFail → Seated → Type 0
+Went m caller s (Ok c) n = (run : List Call) × Fits run m.0 × (length run < MAX_RUN) × (c.answer ≡ answer_of (peer_after_run (fresh_peer m.0.origin) run) s) × (n ≡ (freeing (counting (taking m.0 run) (run ++ call caller s ∷ [])), [])) × (c.count ≡ length n.0.seen)
 Went m caller s (Err (Busy back)) n = (back ≡ s) × (n ≡ (turned_away m.0, []))
 Went m caller s (Err RunFull) n = (run : List Call) × Fits run m.0 × (length run ≡ MAX_RUN) × (n ≡ (freeing (looking (taking m.0 run) (length run)), []))
 Went m caller s (Err NoMemory) n = (run : List Call) × Fits run m.0 × (length run < MAX_RUN) × (n ≡ (freeing (looking (taking m.0 run) (length run)), []))

@@ -156,9 +156,9 @@ grabbed st m r n =
 abbrev pub looked : Step Recorded → Seated → ℕ → Seated → Type 0
 looked st m r n = (run : List Call) × Fits run m.0 × (length m.0.numbers ≤ MAX_PASSES) × (length run ≤ MAX_RUN) × (r ≡ length run) × (n ≡ (looking m.0 r, m.1))
 
--- one more on the count word
+-- one more on the count word, which had counted the run that was found at the grab
 abbrev pub counted : Step Recorded → Seated → ℕ → Seated → Type 0
-counted st m r n = n ≡ (counting m.0 (run_of m.1), m.1)
+counted st m r n = (r ≡ length m.0.base) × (n ≡ (counting m.0 (run_of m.1), m.1))
 
 -- the slot goes home, and the gate is free
 abbrev pub freed : Step Recorded → Seated → ℕ → Seated → Type 0

@@ -46,6 +46,7 @@ fn others(
             seat: part,
             number,
             weight: 1,
+            known: 0,
         }) else {
             return Err(NoMemory);
         };
@@ -75,6 +76,7 @@ pub(crate) fn deal(
         seat,
         number: 0,
         weight: 1,
+        known: 0,
     }) else {
         return Err(NoMemory);
     };

@@ -3,6 +3,7 @@ ghost use Rattle.std.specs.Prelude.{◌≡◌, ◌<◌, [], ◌∷◌, length, f
 ghost use Rattle.peer_lock.specs.Rule.{turned_away, counting, freeing, run_of};
 ghost use Rattle.peer_lock.specs.Moves.{Took, HasSlot, Entered, CanCount, CanFree, Looked, Went};
 
+use crate::call::CountedStep;
 use crate::fail::{StepFail, TryFail};
 use crate::limits::MAX_RUN;
 use crate::recorder::Recorder;
@@ -60,13 +61,15 @@ impl LockTable {
         }
     }
 
-    fn count(&self, seat: &mut Seat<Recorder, View>)
+    // How many steps the run has with the one that is counted here.
+    fn count(&self, seat: &mut Seat<Recorder, View>) -> u64
         requires own { seat.old.table_id ≡ self.now.table.shared.table_id }
         requires can { CanCount seat.old.me }
         ensures own { (seat.new.table_id ≡ seat.old.table_id) × (seat.new.id ≡ seat.old.id) }
         ensures moves { seat.new.me ≡ (counting seat.old.me.0 (run_of seat.old.me.1), seat.old.me.1) }
+        ensures all { result ≡ length seat.new.me.0.seen }
     {
-        self.table.shared.fetch_add::<Count>(seat, COUNT, 1);
+        self.table.shared.fetch_add::<Count>(seat, COUNT, 1) + 1
     }
 
     fn free(&self, seat: &mut Seat<Recorder, View>)
@@ -96,7 +99,7 @@ impl LockTable {
         caller: u32,
         step: Step,
         sweep: &W,
-    ) -> Result<Answer, TryFail>
+    ) -> Result<CountedStep, TryFail>
         requires own { seat.old.table_id ≡ self.now.table.shared.table_id }
         requires idle { (seat.old.me.1 ≡ []) × (0 < length seat.old.me.0.numbers) × (seat.old.me.0.hand ≡ false) × (seat.old.me.0.olds ≡ []) × (seat.old.me.0.number ≡ caller) }
         ensures own { (seat.new.table_id ≡ seat.old.table_id) × (seat.new.id ≡ seat.old.id) }
@@ -107,9 +110,9 @@ impl LockTable {
         }
         match self.enter(seat, caller, step, sweep) {
             Ok(answer) => {
-                self.count(seat);
+                let count = self.count(seat);
                 self.free(seat);
-                Ok(answer)
+                Ok(CountedStep { answer, count })
             }
             Err(StepFail::RunFull) => {
                 self.look(seat);

@@ -15,6 +15,7 @@ pub struct Pass {
     pub(crate) seat: Seat<Recorder, View>,
     pub(crate) number: u32,
     pub(crate) weight: u32,
+    pub(crate) known: u64,
 }
 
 impl Model for Pass {
@@ -24,7 +25,7 @@ impl Model for Pass {
 
     ghost view = { λ p. known_pass p.seat.table_id p.seat.id p.seat.me.0 };
 
-    ghost invariant = { λ p. IsIdle p.seat.me p.number p.weight };
+    ghost invariant = { λ p. IsIdle p.seat.me p.number p.weight p.known };
 }
 
 impl Pass {
@@ -40,6 +41,14 @@ impl Pass {
         ensures { result ≡ length self.now.view.numbers }
     {
         self.weight
+    }
+
+    /// How long the beginning of the run is that it has seen: after a step of its own, how many steps the run had with it.
+    /// Asks nothing of the shared peer, and so says nothing of what others did since.
+    pub fn known(&self) -> u64
+        ensures { result ≡ length self.now.view.seen }
+    {
+        self.known
     }
 
     // Between two calls a pass has not the gate.

@@ -17,6 +17,8 @@ use std::alloc::Global;
 use std::marker::Model;
 use std::sync::Wait;
 use std::thread;
+use std::thread::Threads;
+use wide_step::ManyThreads;
 
 /// One peer that threads share. Each steps it by a pass of its own, one step at a time: what a step is answered is the
 /// answer at its place in one run of all steps.
@@ -78,19 +80,29 @@ impl SharedPeer {
         ensures tries { AnswersTry pass.old.view step result pass.new.view }
     {
         let caller = pass.number;
-        self.lock.go(&mut pass.seat, caller, step, sweep)
+        let counted = self.lock.go(&mut pass.seat, caller, step, sweep)?;
+        pass.known = counted.count;
+        Ok(counted.answer)
     }
 
     /// Tries until the gate is free, and lets other threads run between two tries. It waits for as long as others hold
     /// the gate: one that makes a long step, such as an entry that undoes much, makes all others wait for the whole of
     /// it. No order of turns is promised.
-    pub fn step<R: Wait>(&self, rt: &R, pass: &mut Pass, step: Step) -> Result<Answer, StepFail>
+    ///
+    /// Where it undoes requests, it takes their verdicts on as many threads as there are processors, and joins them.
+    pub fn step<R: Threads + Wait + Sync>(
+        &self,
+        rt: &R,
+        alloc: Global,
+        pass: &mut Pass,
+        step: Step,
+    ) -> Result<Answer, StepFail>
         requires { pass.old.table ≡ self.now }
         ensures same { IsSame pass.old pass.new }
         ensures gate { WithoutGate pass.old.view pass.new.view }
         ensures steps { AnswersStep pass.old.view step result pass.new.view }
     {
-        self.step_by(rt, pass, step, &OneThread)
+        self.step_by(rt, pass, step, &ManyThreads::new(rt, alloc))
     }
 
     /// Makes a step as `step` does, with a sweep of the caller's: for one that judges on several threads.
@@ -143,14 +155,17 @@ impl SharedPeer {
             seat,
             number: _,
             weight,
+            known,
         } = other;
         let most = pass.weight + weight;
+        let known = pass.known.max(known);
         self.lock
             .table
             .shared
             .join_seat::<Unite>(&mut pass.seat, seat);
         self.lock.look(&mut pass.seat);
         pass.weight = most;
+        pass.known = known;
     }
 
     /// The peer, and the history that leads to it. The pass stands for all: the others were joined into it.
@@ -166,6 +181,7 @@ impl SharedPeer {
             seat,
             number: _,
             weight: _,
+            known: _,
         } = pass;
         let mut closed = table.close_with(seat);
         let recorder = closed.take(0);

@@ -52,6 +52,45 @@ fn reports(rt: HostRuntime) -> Result<(), Fail> {
     Ok(())
 }
 
+// The entries by which user 1 may insert, so many inserts of theirs at the start, and one entry more.
+fn inserts_and(alloc: Global, count: u32, last: &str) -> Result<String, AllocError> {
+    let mut lines = String::new(alloc);
+    lines.push_str("message entry 1 adduser 1\nmessage entry 2 addauth 0 + 1 i 0\n")?;
+    for stamp in 1..=count {
+        lines.push_str(&format!(in alloc; "message request {stamp}.1 2 insert 0.0 x\n")?)?;
+    }
+    lines.push_str("message entry 3 ")?;
+    lines.push_str(last)?;
+    Ok(lines)
+}
+
+// The end of a report: the answer to the last entry, and so many letters that show.
+fn end_of(alloc: Global, last: &str, undone: u32, shown: usize) -> Result<String, AllocError> {
+    let mut end = format!(in alloc;
+        "\n1 message entry 3 {last} => version 3 undone {undone}\nshow"
+    )?;
+    if shown > 0 {
+        end.push_str(" ")?;
+        end.push_str(&"x".repeat(alloc, shown)?)?;
+    }
+    end.push_str("\nheld 0\n")?;
+    Ok(end)
+}
+
+// At a site of its own, so many inserts that nobody has validated yet are undone at once, or none of them.
+#[test]
+fn undoes_many(rt: HostRuntime) -> Result<(), Fail> {
+    let alloc = rt.alloc();
+    for (last, undone, shown) in [("deluser 1", 5_000, 0), ("adduser 2", 0, 5_000)] {
+        let input = inserts_and(alloc, 5_000, last)?;
+        let (status, written) = run(&rt, alloc, 2, input.as_bytes(), &FreeGate)?;
+        assert_eq!(rt; status, Status::Done);
+        assert!(rt; written.starts_with(b"run 5003\n"));
+        assert!(rt; written.ends_with(end_of(alloc, last, undone, shown)?.as_bytes()));
+    }
+    Ok(())
+}
+
 // How often a worker that is held asks whether it may go on.
 const MAX_TURNS: u32 = 100_000_000;
 

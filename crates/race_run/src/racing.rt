@@ -40,6 +40,7 @@ fn start(alloc: Global, site: u16) -> Result<(SharedPeer, Pass, Pass, Pass), NoM
 // Two workers, each on a thread of its own.
 fn work_beside<R: Threads + Wait + Sync, G: Gate + Sync>(
     rt: &R,
+    alloc: Global,
     shared: &SharedPeer,
     one: Pass,
     two: Pass,
@@ -57,13 +58,13 @@ fn work_beside<R: Threads + Wait + Sync, G: Gate + Sync>(
     join(
         rt,
         || -> (Pass, Ended)
-            requires { (one.table ≡ shared.now) × (length arrivals.now ≤ MAX_RUN) }
+            requires { IsSync R.row × (one.table ≡ shared.now) × (length arrivals.now ≤ MAX_RUN) }
             ensures { IsSameWorker one result.0 × Works one.view result.0.view arrivals.entry.now result.1 }
-        { work(rt, shared, one, arrivals, gate) },
+        { work(rt, alloc, shared, one, arrivals, gate) },
         || -> (Pass, Ended)
-            requires { (two.table ≡ shared.now) × (length operations.now ≤ MAX_RUN) }
+            requires { IsSync R.row × (two.table ≡ shared.now) × (length operations.now ≤ MAX_RUN) }
             ensures { IsSameWorker two result.0 × Works two.view result.0.view operations.entry.now result.1 }
-        { work(rt, shared, two, operations, gate) },
+        { work(rt, alloc, shared, two, operations, gate) },
     )
 }
 
@@ -85,14 +86,14 @@ fn race_lists<R: Threads + Wait + Sync, G: Gate + Sync>(
     let (zero, others) = join(
         rt,
         || -> (Pass, Ended)
-            requires { (zero.table ≡ shared) × (length edits.now ≤ MAX_RUN) }
+            requires { IsSync R.row × (zero.table ≡ shared) × (length edits.now ≤ MAX_RUN) }
             ensures { IsSameWorker zero result.0 × Works zero.view result.0.view edits.entry.now result.1 }
-        { work(rt, &shared, zero, edits, gate) },
+        { work(rt, alloc, &shared, zero, edits, gate) },
         || -> ((Pass, Ended), (Pass, Ended))
             requires { IsSync R.row × IsSync G.row × (one.table ≡ shared) × (two.table ≡ shared) × (length arrivals.now ≤ MAX_RUN) × (length operations.now ≤ MAX_RUN) }
             ensures one { IsSameWorker one result.0.0 × Works one.view result.0.0.view arrivals.entry.now result.0.1 }
             ensures two { IsSameWorker two result.1.0 × Works two.view result.1.0.view operations.entry.now result.1.1 }
-        { work_beside(rt, &shared, one, two, arrivals, operations, gate) },
+        { work_beside(rt, alloc, &shared, one, two, arrivals, operations, gate) },
     );
     let (mut zero, zero_ended) = zero;
     let ((one, one_ended), (two, two_ended)) = others;

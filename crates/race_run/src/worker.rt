@@ -6,7 +6,9 @@ ghost use Rattle.race_run.specs.Work.{IsSameWorker, Works};
 use crate::gate::Gate;
 use packed_step::PackedStep;
 use peer_lock::{Pass, SharedPeer, StepFail};
+use std::alloc::Global;
 use std::sync::Wait;
+use std::thread::Threads;
 
 /// How a worker ended.
 #[derive(Clone, Copy, Drop)]
@@ -20,8 +22,9 @@ pub(crate) enum Ended {
 }
 
 /// Makes all steps of a list, in their order, and tells the gate of each.
-pub(crate) fn work<R: Wait, G: Gate>(
+pub(crate) fn work<R: Threads + Wait + Sync, G: Gate>(
     rt: &R,
+    alloc: Global,
     shared: &SharedPeer,
     mut pass: Pass,
     steps: &[PackedStep],
@@ -39,7 +42,7 @@ pub(crate) fn work<R: Wait, G: Gate>(
         let Ok(step) = step.copied() else {
             return (pass, Ended::Short);
         };
-        match shared.step(rt, &mut pass, step) {
+        match shared.step(rt, alloc, &mut pass, step) {
             Ok(_) => {}
             Err(StepFail::RunFull) => return (pass, Ended::Full),
             Err(StepFail::NoMemory) => return (pass, Ended::Short),

@@ -5,7 +5,9 @@ ghost use Rattle.serve_core.specs.Worked.{MakesOwn};
 
 use peer_lock::{Pass, SharedPeer, StepFail};
 use peer_step::{Answer, Step};
+use std::alloc::Global;
 use std::sync::Wait;
+use std::thread::Threads;
 
 /// How the steps of the caller ended.
 #[derive(Clone, Copy, Debug, PartialEq, Eq)]
@@ -21,8 +23,9 @@ pub enum OwnEnd {
 /// Makes all steps of a list, in their order, until the run is full or memory is wanting.
 ///
 /// It waits for the gate of the shared peer, and takes the time of the steps.
-pub fn make_own<R: Wait>(
+pub fn make_own<R: Threads + Wait + Sync>(
     rt: &R,
+    alloc: Global,
     shared: &SharedPeer,
     mut pass: Pass,
     steps: &[Step],
@@ -35,7 +38,7 @@ pub fn make_own<R: Wait>(
         let Ok(copy) = step.copied() else {
             return (pass, OwnEnd::NoMemory);
         };
-        match shared.step(rt, &mut pass, copy) {
+        match shared.step(rt, alloc, &mut pass, copy) {
             Ok(answer) => forget(answer),
             Err(StepFail::RunFull) => return (pass, OwnEnd::RunFull),
             Err(StepFail::NoMemory) => return (pass, OwnEnd::NoMemory),

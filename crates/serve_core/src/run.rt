@@ -49,9 +49,9 @@ pub(crate) fn run_workers<L: Link + Send + Drop, R: Threads + Wait + Sync>(
     join(
         rt,
         || -> (Pass, OwnEnd)
-            requires { pass.table ≡ shared.now }
+            requires { IsSync R.row × (pass.table ≡ shared.now) }
             ensures { IsSame pass result.0 × MakesOwn pass.view result.0.view steps.entry.now result.1 }
-        { make_own(rt, shared, pass, steps) },
+        { make_own(rt, alloc, shared, pass, steps) },
         || -> Vec<Job<L>>
             requires { IsSync R.row × ((i : ℕ) (d : _) → i < vec_len jobs → (slice_index_or jobs.items i d).pass.table ≡ shared.now) }
             ensures many { vec_len result ≡ vec_len jobs }

@@ -1,5 +1,6 @@
 //! The workers of the links.
 ghost use Rattle.std.specs.Prelude.{◌≡◌, ◌<◌, ℕ, length, slice_index_or};
+ghost use Rattle.std.specs.Thread.{IsSync};
 ghost use Rattle.serve_core.specs.Worked.{Worked};
 
 use crate::job::Job;
@@ -12,7 +13,7 @@ use std::thread;
 use std::thread::Threads;
 
 // Serves the link of a job to its end.
-fn work_one<L: Link, R: Wait>(
+fn work_one<L: Link, R: Threads + Wait + Sync>(
     rt: &R,
     alloc: Global,
     shared: &SharedPeer,
@@ -47,6 +48,8 @@ pub(crate) fn work_all<L: Link + Send, R: Threads + Wait + Sync>(
         rt,
         jobs,
         threads,
-        &|_, job| { work_one(rt, alloc, shared, job, validates) },
+        &|_: usize, job: &mut Job<L>|
+            requires { IsSync R.row × (job.now.pass.table ≡ shared.now) }
+        { work_one(rt, alloc, shared, job, validates) },
     );
 }

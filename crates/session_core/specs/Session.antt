@@ -1,5 +1,5 @@
 -- What a pass and a link show of a session, and what a fault of it says.
-use Rattle.std.specs.Prelude.{◌≡◌, ℕ, ◌+◌, ◌++◌, List, Option, Result, Ok, Err, ⊤}
+use Rattle.std.specs.Prelude.{◌≡◌, ℕ, ◌++◌, List, Option, Result, Ok, Err, ⊤}
 use Rattle.edit_io.specs.Causes.{next_count}
 use Rattle.edit_io.specs.Link.{with_last}
 use Rattle.peer_step.specs.declared.step.Step.{Step}

@@ -12,12 +12,13 @@ use edit_io::Link;
 use peer_lock::{Pass, SharedPeer};
 use std::alloc::Global;
 use std::sync::Wait;
+use std::thread::Threads;
 
 /// Gives a turn and takes one, in so many rounds or until an end comes, and sends an end after the last round.
 ///
 /// Answers how many rounds were whole: fewer than asked exactly where an end came. Without rounds it sends an end at
 /// once. It waits and costs as [`crate::serve_link`] does.
-pub fn dial_link<L: Link, R: Wait>(
+pub fn dial_link<L: Link, R: Threads + Wait + Sync>(
     rt: &R,
     alloc: Global,
     shared: &SharedPeer,

@@ -10,13 +10,14 @@ use edit_io::Link;
 use peer_lock::{Pass, SharedPeer};
 use std::alloc::Global;
 use std::sync::Wait;
+use std::thread::Threads;
 
 /// Takes a turn and gives one, until an end comes. Answers how many turns came.
 ///
 /// It waits for the other side, and for the gate of the shared peer. `validates` says whether requests are validated
 /// after each turn that came, as the administrator's peer does. Each message that comes costs the steps of its item,
 /// each turn that goes a look for each item of the journal that this call hasn't sent yet.
-pub fn serve_link<L: Link, R: Wait>(
+pub fn serve_link<L: Link, R: Threads + Wait + Sync>(
     rt: &R,
     alloc: Global,
     shared: &SharedPeer,

@@ -11,11 +11,14 @@ use crate::fault::SessionFault;
 use edit_message::Message;
 use peer_lock::{Pass, SharedPeer, StepFail};
 use peer_step::{Answer, Step};
+use std::alloc::Global;
 use std::sync::Wait;
+use std::thread::Threads;
 
 // Makes a step.
-fn make<R: Wait>(
+fn make<R: Threads + Wait + Sync>(
     rt: &R,
+    alloc: Global,
     shared: &SharedPeer,
     pass: &mut Pass,
     step: Step,
@@ -27,7 +30,7 @@ fn make<R: Wait>(
     ensures kind { IfErr result IsStepFault }
     ensures makes { MakesStep pass.old pass.new step result }
 {
-    match shared.step(rt, pass, step) {
+    match shared.step(rt, alloc, pass, step) {
         Ok(answer) => Ok(answer),
         Err(StepFail::RunFull) => Err(SessionFault::RunFull),
         Err(StepFail::NoMemory) => Err(SessionFault::NoMemory),
@@ -51,8 +54,9 @@ fn item_of(answer: Answer) -> Option<Option<Message>>
 }
 
 /// Looks at the journal's item at the mark.
-pub(crate) fn look<R: Wait>(
+pub(crate) fn look<R: Threads + Wait + Sync>(
     rt: &R,
+    alloc: Global,
     shared: &SharedPeer,
     pass: &mut Pass,
     mark: u32,
@@ -64,7 +68,7 @@ pub(crate) fn look<R: Wait>(
     ensures kind { IfErr result IsStepFault }
     ensures looks { LooksAt pass.old pass.new mark result }
 {
-    match make(rt, shared, pass, Step::Look { from: mark }) {
+    match make(rt, alloc, shared, pass, Step::Look { from: mark }) {
         Ok(answer) => match item_of(answer) {
             Some(item) => Ok(item),
             None => unreachable!(),
@@ -74,7 +78,12 @@ pub(crate) fn look<R: Wait>(
 }
 
 // Makes one settle. True where nothing was due.
-fn settle_once<R: Wait>(rt: &R, shared: &SharedPeer, pass: &mut Pass) -> Result<bool, SessionFault>
+fn settle_once<R: Threads + Wait + Sync>(
+    rt: &R,
+    alloc: Global,
+    shared: &SharedPeer,
+    pass: &mut Pass,
+) -> Result<bool, SessionFault>
     requires { pass.old.table ≡ shared.now }
     ensures same { IsSame pass.old pass.new }
     ensures full { KnowsFull pass.new result }
@@ -83,14 +92,19 @@ fn settle_once<R: Wait>(rt: &R, shared: &SharedPeer, pass: &mut Pass) -> Result<
     ensures talk { (mode : Mode) (s : SessionState) (got sent : Option (List (List ℕ)))
         → SettledOnce mode s (side pass.old got sent) (side pass.new got sent) result }
 {
-    match make(rt, shared, pass, Step::Settle) {
+    match make(rt, alloc, shared, pass, Step::Settle) {
         Ok(answer) => Ok(answer.is_quiet()),
         Err(fault) => Err(fault),
     }
 }
 
 // Settles what is held until nothing is due.
-fn settle<R: Wait>(rt: &R, shared: &SharedPeer, pass: &mut Pass) -> Result<(), SessionFault>
+fn settle<R: Threads + Wait + Sync>(
+    rt: &R,
+    alloc: Global,
+    shared: &SharedPeer,
+    pass: &mut Pass,
+) -> Result<(), SessionFault>
     requires { pass.old.table ≡ shared.now }
     ensures same { IsSame pass.old pass.new }
     ensures full { KnowsFull pass.new result }
@@ -100,7 +114,7 @@ fn settle<R: Wait>(rt: &R, shared: &SharedPeer, pass: &mut Pass) -> Result<(), S
         → GetsTo mode (in_phase Settles s) (side pass.old got sent) (side pass.new got sent) result (in_phase Listens s) }
 {
     for _ in rt.forever() {
-        match settle_once(rt, shared, pass) {
+        match settle_once(rt, alloc, shared, pass) {
             Ok(true) => return Ok(()),
             Ok(false) => {}
             Err(fault) => return Err(fault),
@@ -113,8 +127,9 @@ fn settle<R: Wait>(rt: &R, shared: &SharedPeer, pass: &mut Pass) -> Result<(), S
 fn forget(_answer: Answer) {}
 
 // Receives an item that came.
-fn receive_once<R: Wait>(
+fn receive_once<R: Threads + Wait + Sync>(
     rt: &R,
+    alloc: Global,
     shared: &SharedPeer,
     pass: &mut Pass,
     message: Message,
@@ -127,7 +142,7 @@ fn receive_once<R: Wait>(
     ensures talk { (mode : Mode) (s : SessionState) (got sent : Option (List (List ℕ)))
         → GetsTo mode (in_phase (ReceivesItem message) s) (side pass.old got sent) (side pass.new got sent) result (in_phase Settles s) }
 {
-    match make(rt, shared, pass, Step::Receive(message)) {
+    match make(rt, alloc, shared, pass, Step::Receive(message)) {
         Ok(answer) => {
             forget(answer);
             Ok(())
@@ -137,8 +152,9 @@ fn receive_once<R: Wait>(
 }
 
 /// Receives an item that came, and settles what is due by then.
-pub(crate) fn take_item<R: Wait>(
+pub(crate) fn take_item<R: Threads + Wait + Sync>(
     rt: &R,
+    alloc: Global,
     shared: &SharedPeer,
     pass: &mut Pass,
     message: Message,
@@ -151,15 +167,16 @@ pub(crate) fn take_item<R: Wait>(
     ensures talk { (mode : Mode) (s : SessionState) (got sent : Option (List (List ℕ)))
         → GetsTo mode (in_phase (ReceivesItem message) s) (side pass.old got sent) (side pass.new got sent) result (in_phase Listens s) }
 {
-    if let Err(fault) = receive_once(rt, shared, pass, message) {
+    if let Err(fault) = receive_once(rt, alloc, shared, pass, message) {
         return Err(fault);
     }
-    settle(rt, shared, pass)
+    settle(rt, alloc, shared, pass)
 }
 
 // Makes one validation. True where an entry was issued.
-fn validate_once<R: Wait>(
+fn validate_once<R: Threads + Wait + Sync>(
     rt: &R,
+    alloc: Global,
     shared: &SharedPeer,
     pass: &mut Pass,
 ) -> Result<bool, SessionFault>
@@ -171,15 +188,16 @@ fn validate_once<R: Wait>(
     ensures talk { (mode : Mode) (s : SessionState) (got sent : Option (List (List ℕ)))
         → ValidatedOnce mode s (side pass.old got sent) (side pass.new got sent) result }
 {
-    match make(rt, shared, pass, Step::ValidateNext) {
+    match make(rt, alloc, shared, pass, Step::ValidateNext) {
         Ok(answer) => Ok(is_issued(&answer)),
         Err(fault) => Err(fault),
     }
 }
 
 /// Validates requests until none is left that waits for it.
-pub(crate) fn validate<R: Wait>(
+pub(crate) fn validate<R: Threads + Wait + Sync>(
     rt: &R,
+    alloc: Global,
     shared: &SharedPeer,
     pass: &mut Pass,
 ) -> Result<(), SessionFault>
@@ -192,7 +210,7 @@ pub(crate) fn validate<R: Wait>(
         → GetsTo mode (in_phase Validates s) (side pass.old got sent) (side pass.new got sent) result (turn_done mode s) }
 {
     for _ in rt.forever() {
-        match validate_once(rt, shared, pass) {
+        match validate_once(rt, alloc, shared, pass) {
             Ok(true) => {}
             Ok(false) => return Ok(()),
             Err(fault) => return Err(fault),

@@ -12,9 +12,10 @@ use edit_io::Link;
 use peer_lock::{Pass, SharedPeer};
 use std::alloc::Global;
 use std::sync::Wait;
+use std::thread::Threads;
 
 /// Sends what the journal has from the mark on, and then a turn. Answers the new mark.
-pub(crate) fn send_turn<L: Link, R: Wait>(
+pub(crate) fn send_turn<L: Link, R: Threads + Wait + Sync>(
     rt: &R,
     alloc: Global,
     shared: &SharedPeer,
@@ -33,7 +34,7 @@ pub(crate) fn send_turn<L: Link, R: Wait>(
 {
     let mut mark = mark;
     for _ in rt.forever() {
-        match look(rt, shared, pass, mark) {
+        match look(rt, alloc, shared, pass, mark) {
             Ok(Some(message)) => match send_item(alloc, link, message) {
                 Ok(()) => mark += 1,
                 Err(fault) => return Err(fault),
@@ -51,7 +52,7 @@ pub(crate) fn send_turn<L: Link, R: Wait>(
 }
 
 /// Takes what comes until the other side's turn, and does what a turn asks for. False where an end came.
-pub(crate) fn receive_turn<L: Link, R: Wait>(
+pub(crate) fn receive_turn<L: Link, R: Threads + Wait + Sync>(
     rt: &R,
     alloc: Global,
     shared: &SharedPeer,
@@ -69,13 +70,13 @@ pub(crate) fn receive_turn<L: Link, R: Wait>(
 {
     for _ in rt.forever() {
         match receive_frame(alloc, link) {
-            Ok(Frame::Item(message)) => match take_item(rt, shared, pass, message) {
+            Ok(Frame::Item(message)) => match take_item(rt, alloc, shared, pass, message) {
                 Ok(()) => {}
                 Err(fault) => return Err(fault),
             },
             Ok(Frame::Turn) => {
                 if validates {
-                    match validate(rt, shared, pass) {
+                    match validate(rt, alloc, shared, pass) {
                         Ok(()) => return Ok(true),
                         Err(fault) => return Err(fault),
                     }

@@ -8,6 +8,7 @@ use session_core::{SessionFault, dial_link, serve_link};
 use std::alloc::{AllocError, Global};
 use std::sync::Wait;
 use std::test::Fail;
+use std::thread::Threads;
 
 // The insert `x` of user 1 at the start, a turn, and an end.
 const INSERT: &[u8] =
@@ -42,7 +43,7 @@ fn one_pass(alloc: Global, site: u16) -> Result<(SharedPeer, Pass), NoMemory>
 }
 
 // Serves one link over a fresh peer of site 0.
-fn serve_one<R: Wait>(
+fn serve_one<R: Threads + Wait + Sync>(
     rt: &R,
     alloc: Global,
     link: &mut MemLink,

@@ -1,4 +1,5 @@
 use denote.Param.Send.{sendable}
+use Rattle.std.proofs.Crossing.{sync}
 use Rattle.std.proofs.Common.{inl, inr}
 use Rattle.peer_lock.proofs.Crossing.{of_shared_peers}
 use Rattle.race_run.proofs.Crossing.{PackedStep-sync}
@@ -30,7 +31,7 @@ unreachable-requires-in-Full-two_ended g c =
     c.join.ensures.joins c.join-2.ensures.joins c.close-peer.ensures.closes _ _ _ _ _ _ zero.1 others.0.1 others.1.1 c.requires (inr (inr c.in-Full-two_ended.is))
 
 pub join-zero-requires-send-F : goal.join-zero-requires-send-F
-join-zero-requires-send-F g c κs within = search (sendable, PackedStep-sync, of_shared_peers) depth 20
+join-zero-requires-send-F g c κs within = search (sendable, sync, PackedStep-sync, of_shared_peers) depth 20
 
 pub join-zero-requires-send-A : goal.join-zero-requires-send-A
 join-zero-requires-send-A g c κs within = search (sendable, PackedStep-sync, of_shared_peers) depth 20
