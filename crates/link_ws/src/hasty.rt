@@ -1,15 +1,15 @@
 //! A stream that gives up.
 
-use std::io::{self, Read, Write};
+use std::io::{self, ErrorKind, Read, Write};
 use std::net::TcpStream;
 use std::time::{Clock, Duration, Instant};
 
-/// A stream that is read until a moment, and fails from then on, however its bytes come.
+/// A stream that is read until a moment, if it has one, and fails from then on, however its bytes come.
 #[derive(Drop)]
-pub(crate) struct HastyStream<R> {
+pub struct HastyStream<R> {
     clock: R,
     stream: TcpStream,
-    until: Instant,
+    until: Option<Instant>,
 }
 
 impl<R: Clock + Drop> HastyStream<R> {
@@ -17,31 +17,34 @@ impl<R: Clock + Drop> HastyStream<R> {
     pub(crate) fn new(clock: R, stream: TcpStream, patience: Duration) -> io::Result<Self> {
         let now = Instant::now(&clock)?;
         Ok(HastyStream {
-            until: now.checked_add(patience).unwrap_or(now),
+            until: Some(now.checked_add(patience).unwrap_or(now)),
             clock,
             stream,
         })
     }
 
-    /// The stream, to be read without an end.
-    pub(crate) fn into_patient(self) -> io::Result<TcpStream> {
-        let HastyStream {
-            clock: _,
-            stream,
-            until: _,
-        } = self;
-        stream.set_read_timeout(None)?;
-        Ok(stream)
+    /// From now on it is read without an end.
+    pub(crate) fn take_time(&mut self) -> io::Result<()> {
+        self.stream.set_read_timeout(None)?;
+        self.until = None;
+        Ok(())
     }
 }
 
 impl<R: Clock + Drop> Read for HastyStream<R> {
+    // A read that has a limit of time is interrupted where the process was stopped and goes on. It is made again.
     fn read(&mut self, buf: &mut [u8]) -> io::Result<usize> {
-        let left = self
-            .until
-            .saturating_duration_since(Instant::now(&self.clock)?);
-        self.stream.set_read_timeout(Some(left))?;
-        self.stream.read(buf)
+        for _ in 0..u64::MAX {
+            if let Some(until) = self.until {
+                let left = until.saturating_duration_since(Instant::now(&self.clock)?);
+                self.stream.set_read_timeout(Some(left))?;
+            }
+            match self.stream.read(buf) {
+                Err(error) if error.kind() == ErrorKind::Interrupted => {}
+                other => return other,
+            }
+        }
+        Err(io::Error::from(ErrorKind::Interrupted))
     }
 }
 

@@ -5,8 +5,10 @@
 #![tactic(auto)]
 
 mod hasty;
+mod origin;
 mod tcp_door;
 mod ws_link;
 
+pub use hasty::HastyStream;
 pub use tcp_door::{TcpDoor, TcpLink};
 pub use ws_link::{MAX_MESSAGE, WsLink};

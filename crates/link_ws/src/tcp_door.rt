@@ -3,6 +3,7 @@ ghost use Rattle.std.specs.Prelude.{◌≡◌, None, IfOk};
 ghost use Rattle.link_ws.specs.Counts.{new_link, new_door};
 
 use crate::hasty::HastyStream;
+use crate::origin::LocalPages;
 use crate::ws_link::{WsLink, limits};
 use edit_io::{Door, Failed};
 use std::alloc::Global;
@@ -11,7 +12,7 @@ use std::net::{Ipv4Addr, Net, SocketAddrV4, TcpListener, TcpStream};
 use std::random::RandomSource;
 use std::time::{Clock, Duration};
 use tungstenite::handshake::{client, server};
-use tungstenite::{Error, NoCallback, RandomKeys, Role, WebSocket};
+use tungstenite::{Error, RandomKeys, Role, WebSocket};
 
 /// A door to the programs of this machine: a WebSocket over TCP, on 127.0.0.1 alone.
 ///
@@ -39,12 +40,12 @@ impl<R> Model for TcpDoor<R> {
 }
 
 /// A link that a [`TcpDoor`] gives.
-pub type TcpLink<R> = WsLink<TcpStream, RandomKeys<R>>;
+pub type TcpLink<R> = WsLink<HastyStream<R>, RandomKeys<R>>;
 
 // How many programs in a row may connect and ask for no link before that counts as a failure.
 const MAX_STRAYS: u32 = 64;
 
-// How many seconds a program that connected has to ask for a link.
+// How many seconds a program that connected has to ask for a link, and one that was connected to has to answer.
 const PATIENCE: u64 = 10;
 
 // The link of a program that connected, if it asks for one in time.
@@ -58,10 +59,11 @@ fn greeted<R: RandomSource + Clock + Drop + Copy>(
     let _ = stream.set_nodelay(true);
     let hasty = HastyStream::new(rt, stream, Duration::from_secs(PATIENCE))?;
     let config = limits();
-    match server::start(alloc, hasty, NoCallback, Some(config)).handshake() {
+    match server::start(alloc, hasty, LocalPages { alloc }, Some(config)).handshake() {
         Ok(socket) => {
             // Only a client masks what it sends, so one type serves both ends.
-            let stream = socket.into_inner().into_patient()?;
+            let mut stream = socket.into_inner();
+            stream.take_time()?;
             let socket = WebSocket::from_raw_socket(
                 alloc,
                 stream,
@@ -94,8 +96,8 @@ fn accepted<R: RandomSource + Clock + Drop + Copy>(
     Err(Failed)
 }
 
-// The link of a program that this one connected to.
-fn connected<R: RandomSource + Drop>(
+// The link of a program that this one connected to, if it answers in time.
+fn connected<R: RandomSource + Clock + Drop + Copy>(
     rt: R,
     alloc: Global,
     stream: TcpStream,
@@ -103,13 +105,17 @@ fn connected<R: RandomSource + Drop>(
     ensures { IfOk result (λ link. link ≡ new_link) }
 {
     let _ = stream.set_nodelay(true);
+    let hasty = HastyStream::new(rt, stream, Duration::from_secs(PATIENCE))?;
     let request = client::request_of(alloc, "ws://127.0.0.1/")?;
     let mut nonce = [0; 16];
     rt.fill_bytes(&mut nonce)?;
     let keys = RandomKeys::new(rt);
-    let handshake = client::start(alloc, nonce, keys, request, stream, Some(limits()))?;
+    let handshake = client::start(alloc, nonce, keys, request, hasty, Some(limits()))?;
     match handshake.handshake() {
-        Ok((socket, _)) => Ok(WsLink::new(alloc, socket)),
+        Ok((mut socket, _)) => {
+            socket.get_mut().take_time()?;
+            Ok(WsLink::new(alloc, socket))
+        }
         Err(_) => Err(Error::HandshakeIncomplete),
     }
 }
@@ -190,8 +196,9 @@ impl<R: Net<Listener = TcpListener, Stream = TcpStream> + RandomSource + Clock +
 
     /// Gives a link to the next program that connects and asks for one.
     ///
-    /// A program that connects and doesn't ask for a link within 10 seconds is let go, and the next one is awaited.
-    /// The 64th such program in a row is a failure, as it is not to listen.
+    /// A program that connects and doesn't ask for a link within 10 seconds is let go, and so is a page of another
+    /// machine, whose request has an `Origin` elsewhere; the next one is awaited. The 64th in a row that is let go is
+    /// a failure, as it is not to listen.
     fn accept(&mut self) -> Result<TcpLink<R>, Failed> {
         match self.next_link() {
             Ok(link) => {
@@ -205,7 +212,8 @@ impl<R: Net<Listener = TcpListener, Stream = TcpStream> + RandomSource + Clock +
         }
     }
 
-    /// Gives a link to the program that listens on this port of 127.0.0.1. It waits for that program's answer.
+    /// Gives a link to the program that listens on this port of 127.0.0.1. One that doesn't answer within 10 seconds
+    /// is a failure.
     fn connect(&mut self, port: u16) -> Result<TcpLink<R>, Failed> {
         match self.link_to(port) {
             Ok(link) => {

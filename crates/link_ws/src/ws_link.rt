@@ -20,7 +20,7 @@ const BUFFER: usize = 4_096;
 ///
 /// Contracts see its counts. It answers pings while a call of `recv` waits, and at no other time. A text message,
 /// a message above [`MAX_MESSAGE`], a stream that ends without a close, and whatever else the socket refuses
-/// are failures.
+/// are failures. When `recv` fails the other end is told at once, by a close of the code 1002.
 #[derive(Drop)]
 pub struct WsLink<S, K> {
     socket: WebSocket<S, K>,
@@ -95,6 +95,16 @@ fn send_binary<S: Read + Write + Drop, K: MaskKeys + Drop>(
     }
 }
 
+// Tells the other end that nothing more comes, if that can be told. A close is the one thing that may still be sent over
+// a socket that failed.
+fn send_close<S: Read + Write + Drop, K: MaskKeys + Drop>(
+    socket: &mut WebSocket<S, K>,
+    code: CloseCode,
+) {
+    let reason = Utf8Bytes::new();
+    let _ = socket.close(Some(CloseFrame { code, reason }));
+}
+
 impl<S: Read + Write + Drop, K: MaskKeys + Drop> WsLink<S, K> {
     /// A link over a socket. It takes no memory.
     pub fn new(alloc: Global, socket: WebSocket<S, K>) -> Self
@@ -124,7 +134,7 @@ impl<S: Read + Write + Drop, K: MaskKeys + Drop> WsLink<S, K> {
 
     /// Tells the other end that nothing more comes, if that can be told, and lets the socket go.
     ///
-    /// The close has the code 1000, and after a failure 1002.
+    /// The close has the code 1000. After a failure it has 1002, and left already if it could.
     pub fn hang_up(self) {
         let WsLink {
             mut socket,
@@ -137,9 +147,7 @@ impl<S: Read + Write + Drop, K: MaskKeys + Drop> WsLink<S, K> {
         } else {
             CloseCode::Protocol
         };
-        let reason = Utf8Bytes::new();
-        // A close is the one thing that may still be sent over a socket that failed.
-        let _ = socket.close(Some(CloseFrame { code, reason }));
+        send_close(&mut socket, code);
     }
 }
 
@@ -164,6 +172,7 @@ impl<S: Read + Write + Drop, K: MaskKeys + Drop> Link for WsLink<S, K> {
             Err(OutFail::NoMemory) => Err(OutFail::NoMemory),
             _ => {
                 self.faults = self.faults.saturating_add(1);
+                send_close(&mut self.socket, CloseCode::Protocol);
                 Err(OutFail::Failed)
             }
         }
