@@ -5,3 +5,5 @@
 
 #[cfg(test)]
 mod of_link_form;
+#[cfg(test)]
+mod of_two_links;
