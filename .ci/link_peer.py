@@ -57,12 +57,13 @@ def sign(key):
     return base64.b64encode(hashlib.sha1(key + GUID).digest())
 
 
-def dial(port):
-    """A link to the program that serves this port."""
+def dial(port, *origins):
+    """A link to the program that serves this port. It may be asked for by a page of these origins."""
     link = Link(reach(port), True)
     key = base64.b64encode(os.urandom(16))
     link.put(
         b"GET / HTTP/1.1\r\nHost: 127.0.0.1:%d\r\nUpgrade: websocket\r\nConnection: Upgrade\r\n" % port
+        + b"".join(b"Origin: %s\r\n" % origin.encode() for origin in origins)
         + b"Sec-WebSocket-Key: %s\r\nSec-WebSocket-Version: 13\r\n\r\n" % key
     )
     first, fields = link.head()

@@ -1,15 +1,17 @@
-/* Stands before the C library's read of standard input and write of standard output. Where MOST is set a call moves at most so
-   many bytes. The call of the number in FAIL_READ or FAIL_WRITE, counted from 1, fails with the error whose number is in
-   FAIL_WITH. At the end the numbers of calls, of reads and of writes, are written into the file that COUNT_IN names. */
+/* Stands before the C library's read of standard input and write of standard output, and before its recv and send of sockets.
+   Where MOST is set a call moves at most so many bytes. The call of the number in FAIL_READ, FAIL_WRITE, FAIL_RECV or FAIL_SEND,
+   counted from 1, fails with the error whose number is in FAIL_WITH. At the end the numbers of calls, of reads, writes, recvs and
+   sends, are written into the file that COUNT_IN names. */
 #include <errno.h>
 #include <fcntl.h>
 #include <stdio.h>
 #include <stdlib.h>
+#include <sys/socket.h>
 #include <sys/syscall.h>
 #include <unistd.h>
 
-static unsigned long reads, writes;
-static unsigned long fail_read, fail_write, fail_with, most;
+static unsigned long reads, writes, recvs, sends;
+static unsigned long fail_read, fail_write, fail_recv, fail_send, fail_with, most;
 
 static size_t cut(size_t size) {
     return most != 0 && size > most ? most : size;
@@ -37,6 +39,23 @@ ssize_t write(int file, const void *from, size_t size) {
     return syscall(SYS_write, file, from, cut(size));
 }
 
+/* Several threads have sockets. */
+static int is_next(unsigned long *calls, unsigned long number) {
+    if (__atomic_add_fetch(calls, 1, __ATOMIC_SEQ_CST) != number) {
+        return 0;
+    }
+    errno = fail_with;
+    return 1;
+}
+
+ssize_t recv(int socket, void *to, size_t size, int flags) {
+    return is_next(&recvs, fail_recv) ? -1 : syscall(SYS_recvfrom, socket, to, cut(size), flags, NULL, NULL);
+}
+
+ssize_t send(int socket, const void *from, size_t size, int flags) {
+    return is_next(&sends, fail_send) ? -1 : syscall(SYS_sendto, socket, from, cut(size), flags, NULL, 0);
+}
+
 ssize_t __read(int file, void *to, size_t size) {
     return read(file, to, size);
 }
@@ -53,14 +72,16 @@ static unsigned long number(const char *name) {
 __attribute__((constructor)) static void begin(void) {
     fail_read = number("FAIL_READ");
     fail_write = number("FAIL_WRITE");
+    fail_recv = number("FAIL_RECV");
+    fail_send = number("FAIL_SEND");
     fail_with = number("FAIL_WITH");
     most = number("MOST");
 }
 
 __attribute__((destructor)) static void end(void) {
     const char *path = getenv("COUNT_IN");
-    char text[48];
-    int length = snprintf(text, sizeof text, "%lu %lu\n", reads, writes);
+    char text[96];
+    int length = snprintf(text, sizeof text, "%lu %lu %lu %lu\n", reads, writes, recvs, sends);
     int file = path ? open(path, O_WRONLY | O_CREAT | O_TRUNC, 0666) : -1;
     if (file >= 0) {
         if (write(file, text, length) != length) {
