@@ -1,5 +1,5 @@
 -- What is certified has no fault, and what is found of frames is what is said of bytes.
-use Rattle.std.proofs.Common.{◌≡◌, ◌≢◌, ℕ, ◌+◌, ◌<◌, ◌≤◌, Bool, true, false, List, [], ◌∷◌, ◌++◌, length, take, drop, get_or, refl, sym, ap, subst, ◌∙◌, append_assoc, arith, length-append, Result, Ok, Err}
+use Rattle.std.proofs.Common.{◌≡◌, ◌≢◌, ℕ, ◌+◌, ◌<◌, true, false, List, [], ◌∷◌, ◌++◌, length, take, drop, get_or, refl, sym, ap, subst, ◌∙◌, append_assoc, arith, length-append, Result, Ok, Err}
 use Rattle.std.proofs.lemmas.List.{length-map, length-take-le}
 use Rattle.std.proofs.Math.ListN.{take-append-drop}
 use Rattle.std.specs.Prelude.{map, IfErr}
@@ -14,8 +14,6 @@ use Rattle.coop_request.proofs.Histories.{IsTree-placed_of}
 use Rattle.tomb_seq.proofs.Theorems.{once_law}
 use Rattle.audit_cert.specs.Basis.{IsBasisOf}
 use Rattle.coop_request.specs.Request.{Request}
-use Rattle.coop_request.specs.declared.request.TheConstants.{MAX_REQUESTS}
-use Rattle.element_name.specs.declared.limits.TheConstants.{MAX_VERSION}
 use Rattle.policy_book.specs.Entry.{Entry}
 use Rattle.edit_message.specs.declared.message.Message.{Message}
 use Rattle.edit_message.specs.Formed.{is_message}
@@ -29,7 +27,7 @@ use Rattle.peer_core.proofs.JournalLemmas.{requests_append, entries_append}
 use Rattle.audit_cert.specs.declared.fault.AuditFault.{AuditFault}
 use Rattle.audit_cert.specs.declared.fault.AuditFault.TheVariants.{BadFrame, NotJournal, Differs, NoMemory}
 use Rattle.audit_cert.specs.Certificate.{certificate_bytes}
-use Rattle.audit_cert.specs.Audit.{IsCertified, is_end_frame, messages_of_frames, IsClosed, BreaksIn, differing_line, IsAuditFault, IsFaultIn, IsFaultOf, AreItems, IsTold}
+use Rattle.audit_cert.specs.Audit.{IsCertified, is_end_frame, messages_of_frames, IsClosed, BreaksIn, IsAuditFault, IsFaultIn, IsFaultOf, AreItems, IsTold}
 use Rattle.audit_cert.proofs.Fronts.{one_further}
 use Rattle.audit_cert.proofs.Closings.{one_closing, not_broken}
 

@@ -1,5 +1,5 @@
 -- Bytes are frames, the first End, and what is told in one way alone.
-use Rattle.std.proofs.Common.{◌≡◌, ℕ, ◌+◌, ◌-◌, Bool, true, false, ◌||◌, List, [], ◌∷◌, ◌++◌, length, Err, refl, sym, ap, subst, ◌∙◌, append_assoc, arith}
+use Rattle.std.proofs.Common.{◌≡◌, ℕ, ◌-◌, true, false, ◌||◌, List, [], ◌∷◌, ◌++◌, length, Err, refl, sym, ap, subst, ◌∙◌, append_assoc, arith}
 use Rattle.std.specs.Prelude.{◌&&◌}
 use Rattle.std.specs.List.{flat_map, list_all, list_any}
 use Rattle.std.proofs.lemmas.Bool.{and_parts, and_from, or_parts}
@@ -13,7 +13,7 @@ use Rattle.edit_frame.specs.declared.frame.FrameKind.{FrameKind}
 use Rattle.edit_frame.specs.Spelling.{spelling}
 use Rattle.edit_frame.specs.Spells.{is_frame}
 use Rattle.edit_frame.specs.Reading.{frame_at}
-use Rattle.edit_frame.proofs.Outcomes.{bad, no_frame}
+use Rattle.edit_frame.proofs.Outcomes.{no_frame}
 use Rattle.edit_frame.proofs.Frames.{frame_at_again, no_prefix}
 use Rattle.audit_cert.specs.declared.fault.AuditFault.{AuditFault}
 use Rattle.audit_cert.specs.declared.fault.AuditFault.TheVariants.{BadFrame, NotJournal, Differs, NoMemory}

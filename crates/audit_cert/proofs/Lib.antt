@@ -1,5 +1,9 @@
 pub mod GrantRuns
+pub mod Rematches
 pub mod NextMessages
+pub mod AnchoredTrees
+pub mod Followings
+pub mod Rankings
 pub mod LineLists
 pub mod GrantingAuths
 pub mod Fronts

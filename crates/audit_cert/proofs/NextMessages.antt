@@ -40,7 +40,7 @@ use Rattle.peer_core.proofs.KeptLemmas.Reads.{entries_within}
 use Rattle.peer_core.proofs.StableLemmas.{known_law}
 use Rattle.audit_cert.specs.Basis.{IsBasisOf, is_known, is_placeable, may_join, may_extend}
 
-none_is : {A : Type 0} (x : Option A) → is_none x ≡ true → x ≡ None
+pub none_is : {A : Type 0} (x : Option A) → is_none x ≡ true → x ≡ None
 none_is None h = refl
 none_is (Some x) h = absurd cc
 

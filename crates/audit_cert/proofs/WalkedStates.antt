@@ -1,5 +1,5 @@
 -- The state of a request by a walk through the versions at which it is judged.
-use Rattle.std.proofs.Common.{◌≡◌, ℕ, ◌+◌, ◌-◌, ◌≤◌, List, None, Some, sym, ap, ◌∙◌}
+use Rattle.std.proofs.Common.{◌≡◌, ℕ, ◌+◌, ◌-◌, ◌≤◌, List, None, Some, refl, sym, ap, ◌∙◌}
 use Rattle.std.specs.Prelude.{map}
 use Rattle.std.specs.List.{range_with_len}
 use Rattle.std.specs.declared.option.Option.{Option}
@@ -8,12 +8,17 @@ use Rattle.element_name.specs.Name.{Name}
 use Rattle.coop_request.specs.Request.{Request}
 use Rattle.policy_book.specs.Entry.{Entry}
 use Rattle.auth_match.specs.declared.verdict.Verdict.{Verdict}
-use Rattle.auth_match.specs.declared.verdict.Verdict.TheVariants.{Denied}
+use Rattle.auth_match.specs.declared.verdict.Verdict.TheVariants.{Granted, Denied}
 use Rattle.admin_log.specs.Log.{validated_at}
 use Rattle.request_state.specs.declared.state.State.TheVariants.{Invalid}
 use Rattle.check_remote.specs.declared.denial.Denial.{Denial}
 use Rattle.check_remote.specs.State.{until, verdict_at, denial_by, denial_at, first_denial, state_by, state_of}
 use Rattle.check_remote.proofs.Walks.{first_here, first_alone}
+
+-- a verdict that denies nothing is none
+pub no_denial : (v : ℕ) (w : Verdict) → ((by : Option ℕ) → w ≡ Denied by → ⊥) → denial_by v w ≡ None
+no_denial v Granted other = refl
+no_denial v (Denied by) other = absurd (other by refl)
 
 module _ (names : List Name) (log : List Entry) (q : Request) where
   -- a version that denies, behind those that grant, decides

@@ -1,7 +1,9 @@
 pub mod Grants
+pub mod Rematches
 pub mod Certificate
 pub mod Journals
 pub mod Basis
+pub mod Anchors
 pub mod Samples
 pub mod Audit
 pub mod Laws

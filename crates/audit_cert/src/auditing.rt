@@ -5,12 +5,12 @@ ghost use Rattle.audit_cert.specs.Basis.{IsBasisOf};
 ghost use Rattle.audit_cert.specs.Certificate.{certificate_bytes};
 ghost use Rattle.audit_cert.specs.Audit.{IsCertified, IsAuditFault, AreItems, IsTold, IsFaultOf, differing_line, messages_of_frames};
 
+use crate::anchors::Anchors;
 use crate::basis::Basis;
 use crate::fault::AuditFault;
 use crate::lines::{put_counts, put_elements, put_frames};
 use crate::opening::open;
 use crate::ranks::Ranks;
-use crate::text::Text;
 use edit_frame::Frame;
 use element_name::NoMemory;
 use std::alloc::Global;
@@ -37,18 +37,22 @@ fn differing_line(due: &[u8], told: &[u8]) -> usize
 }
 
 // The certificate that is due to the journal of these frames.
-fn due_certificate(alloc: Global, basis: Basis<Text>, frames: &[Frame]) -> Result<Vec<u8>, NoMemory>
+fn due_certificate(
+    alloc: Global,
+    basis: &Basis<Anchors>,
+    frames: &[Frame],
+) -> Result<Vec<u8>, NoMemory>
     requires journal { AreItems frames.now }
-    requires basis { IsBasisOf (messages_of_frames frames.now) basis.log basis.elements.names.items basis.ids }
+    requires basis { IsBasisOf (messages_of_frames frames.now) basis.now.log basis.now.elements basis.now.ids }
     ensures { IfOk result (λ due. due.items ≡ certificate_bytes (messages_of_frames frames.now)) }
 {
     let Basis { log, elements, ids } = basis;
-    let Text { names } = elements;
-    let places = Ranks::of(names);
+    let names = elements.names(alloc)?;
+    let places = Ranks::of(alloc, names)?;
     let mut due = Vec::new(alloc);
     put_counts(&mut due, ids.len() as u64, u64::from(log.len()))?;
-    put_elements(&mut due, &places.names)?;
-    put_frames(alloc, &mut due, &log, &places, frames)?;
+    put_elements(&mut due, places.names())?;
+    put_frames(alloc, &mut due, log, &places, frames)?;
     Ok(due)
 }
 
@@ -57,9 +61,9 @@ fn check(alloc: Global, frames: &[Frame], told: &[u8]) -> Result<(u32, u32), Aud
     ensures told { IfOk result (IsTold frames.now told.now) }
     ensures fault { IfErr result (IsFaultOf frames.now told.now) }
 {
-    let basis = Basis::of_frames(alloc, Text::new(alloc), frames)?;
+    let basis = Basis::of_frames(alloc, Anchors::new(alloc), frames)?;
     let counts = (basis.ids.len() as u32, basis.log.len());
-    let due = due_certificate(alloc, basis, frames)?;
+    let due = due_certificate(alloc, &basis, frames)?;
     if due.as_slice() == told {
         return Ok(counts);
     }
@@ -70,10 +74,10 @@ fn check(alloc: Global, frames: &[Frame], told: &[u8]) -> Result<(u32, u32), Aud
 /// and entries it has.
 ///
 /// Nothing that is told is taken on trust: the journal is read, the text order and each state are found anew, and what is
-/// told is compared with what is due. Takes time in the number of messages, for each request also in the number of
-/// versions at which it is judged, each of which is looked at twice, and in the elements that are passed on the way to
-/// a place in the text, for each one that comes in or is asked for; and memory for the frames, the names of the requests,
-/// the elements, the log, a policy, and the certificate.
+/// told is compared with what is due. Takes time n log n in the number of messages, and for each request in the number of
+/// versions at which it is judged, at those whose entry isn't on other users alone also in their policy's authorizations,
+/// both of them twice; and memory for the frames, the names of the requests, the elements, the log, a policy, and the
+/// certificate.
 ///
 /// Of other bytes the first fault is told: a frame that is none, then frames that are no journal, and then a line that
 /// isn't that of the certificate. Fails also where memory is wanting.

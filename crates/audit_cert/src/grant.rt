@@ -9,6 +9,7 @@ ghost use Rattle.audit_cert.specs.declared.grant.Grant.{Grant};
 ghost use Rattle.audit_cert.specs.Grants.{granting_at, one_version, put_in_front, grants_over, grants_of};
 
 use crate::granting::granting_auth;
+use crate::rematch::may_rematch_at;
 use admin_log::AdminLog;
 use coop_request::Request;
 use element_name::{NoMemory, Places};
@@ -30,8 +31,9 @@ fn go_on(
     version: u32,
     by: u32,
 ) -> Result<(), NoMemory>
-    ensures { OnOk result ((later : List Grant) → grants.new.items ++ put_in_front current.new later
+    ensures grants { OnOk result ((later : List Grant) → grants.new.items ++ put_in_front current.new later
         ≡ grants.old.items ++ put_in_front current.old (put_in_front (one_version version by) later)) }
+    ensures by { OnOk result (current.new.by ≡ by) }
 {
     if by == current.by {
         current.to = version;
@@ -65,9 +67,16 @@ fn grants_from<P: Places>(
     ensures { IfOk result (λ grants. grants.items ≡ grants_over (granting_at (P.names places.now) log.now request) (range_with_len current.from (last + 1 - current.from))) }
 {
     let mut grants = Vec::new(alloc);
+    // The version of the policy.
+    let mut at = current.from;
     for version in current.from..last {
         let next = version + 1;
-        log.advance(&mut policy, version, next)?;
+        if !may_rematch_at(log, next, request.user()) {
+            current.to = next;
+            continue;
+        }
+        log.advance(&mut policy, at, next)?;
+        at = next;
         let Some(by) = granting_auth(places, &policy, request) else {
             grants.push(current)?;
             return Ok(grants);
@@ -94,8 +103,8 @@ pub(crate) fn until(log: &AdminLog, request: Request) -> u32
 
 /// The grants of a request, ascending.
 ///
-/// Takes a policy and 12 bytes a grant, and time in the versions at which the request is judged, for each that of its
-/// policy's authorizations. Fails where memory is wanting.
+/// Takes a policy and 12 bytes a grant, and time in the versions at which the request is judged, at those where another
+/// authorization may match first also that of their policy's authorizations. Fails where memory is wanting.
 pub(crate) fn grants_of<P: Places>(
     alloc: Global,
     log: &AdminLog,

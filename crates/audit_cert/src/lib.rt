@@ -3,6 +3,7 @@
 //! A certificate follows from the journal alone, so that who has both may check the one by the other.
 #![tactic(auto)]
 
+mod anchors;
 mod auditing;
 mod basis;
 mod elements;
@@ -14,8 +15,9 @@ pub mod laws;
 mod lines;
 mod making;
 mod opening;
+mod order;
 mod ranks;
-mod text;
+mod rematch;
 mod walk;
 
 pub use auditing::audit;

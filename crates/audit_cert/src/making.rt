@@ -37,9 +37,10 @@ fn certificate_of(
 
 /// Appends the certificate of a journal.
 ///
-/// The messages are those that a peer gives of its journal, whose entries are lent: one at a time is copied. Takes time in the number of messages, for each request also in the number of versions at which it is judged, each of which
-/// is looked at, and in the certificate's length; and memory for the names of the requests, the elements, the log, a
-/// policy, and twice the certificate.
+/// The messages are those that a peer gives of its journal, whose entries are lent: one at a time is copied. Takes time
+/// in the number of messages, for each request also in the number of versions at which it is judged, at those whose entry
+/// isn't on other users alone also in their policy's authorizations, and in the certificate's length; and memory for the
+/// names of the requests, the elements, the log, a policy, and twice the certificate.
 ///
 /// Fails with the number of the first message with which they are no journal, or one above its limits, and where memory
 /// is wanting.

@@ -6,6 +6,7 @@ ghost use Rattle.admin_log.specs.Log.{validated_at};
 ghost use Rattle.check_remote.specs.State.{denial_by, state_by, state_of};
 
 use crate::grant::until;
+use crate::rematch::may_rematch_at;
 use admin_log::AdminLog;
 use auth_match::{Verdict, request_verdict};
 use coop_request::Request;
@@ -26,8 +27,8 @@ fn state_by(log: &AdminLog, request: Request, version: u32, verdict: Verdict) ->
 
 /// The state of a request, by the verdict of each version at which it is judged, up to the first that denies.
 ///
-/// Takes a policy, and time in these versions, for each that of its policy's authorizations. Fails where memory is
-/// wanting.
+/// Takes a policy, and time in these versions, at those where another authorization may match first also that of their
+/// policy's authorizations. Fails where memory is wanting.
 pub(crate) fn state_of<P: Places>(
     log: &AdminLog,
     request: Request,
@@ -37,15 +38,21 @@ pub(crate) fn state_of<P: Places>(
     requires element { has_name (P.names places.now) (element_of request) ≡ true }
     ensures { IfOk result (λ state. state ≡ state_of (P.names places.now) log.now request) }
 {
-    let first = request.version();
     let last = until(log, request);
-    let mut policy = log.policy_at(first)?;
-    for version in first..last {
-        match request_verdict(&policy, request, places) {
-            Verdict::Denied { by } => return Ok(State::Invalid { at: version, by }),
-            Verdict::Granted => log.advance(&mut policy, version, version + 1)?,
+    // The version of the policy.
+    let mut at = request.version();
+    let mut policy = log.policy_at(at)?;
+    let mut verdict = request_verdict(&policy, request, places);
+    for version in request.version()..last {
+        if let Verdict::Denied { by } = verdict {
+            return Ok(State::Invalid { at: version, by });
+        }
+        let next = version + 1;
+        if may_rematch_at(log, next, request.user()) {
+            log.advance(&mut policy, at, next)?;
+            at = next;
+            verdict = request_verdict(&policy, request, places);
         }
     }
-    let verdict = request_verdict(&policy, request, places);
     Ok(state_by(log, request, last, verdict))
 }

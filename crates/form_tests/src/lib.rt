@@ -4,6 +4,8 @@
 #![tactic(auto)]
 
 #[cfg(test)]
+mod of_certificate_form;
+#[cfg(test)]
 mod of_edit_frame;
 #[cfg(test)]
 mod of_edit_io;

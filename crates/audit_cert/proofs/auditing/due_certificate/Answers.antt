@@ -1,4 +1,4 @@
-use Rattle.std.proofs.Common.{List, ◌++◌, length, ap, ◌∙◌}
+use Rattle.std.proofs.Common.{◌≡◌, List, ◌++◌, length, ap, ◌∙◌}
 use Rattle.std.specs.List.{flat_map, list_all}
 use Rattle.element_name.specs.Name.{Name, are_distinct}
 use Rattle.coop_request.specs.History.{text_order}
@@ -12,27 +12,28 @@ use Rattle.audit_cert.proofs.LineLists.{all_judgeable, written}
 use Rattle.audit_cert.proofs.Audits.{order_once}
 use Rattle.audit_cert.proofs.auditing.due_certificate.Goals as goal
 
-pub of-places-requires : goal.of-places-requires
-of-places-requires c =
+pub of-requires : goal.of-requires
+of-requires c =
     let J : List Message = messages_of_frames c.args.frames.now in
     let basis = c.requires.basis in
-    ap are_distinct basis.elements ∙ order_once (requests_of J) (history_law J basis.within.journal_is)
+    ap are_distinct (c.in_ok-names.ensures ∙ basis.elements) ∙ order_once (requests_of J) (history_law J basis.within.journal_is)
 
 pub put_frames-requires : goal.put_frames-requires
 put_frames-requires c =
     let J : List Message = messages_of_frames c.args.frames.now in
-    let log : List Entry = c.args.basis.log in
+    let log : List Entry = c.args.basis.now.log in
     let basis = c.requires.basis in
-    ap (λ (ns : List Name). list_all (may_be_judged ns (length log)) J) (c.of-places.ensures ∙ basis.elements)
+    ap (λ (ns : List Name). list_all (may_be_judged ns (length log)) J) (c.in_ok-places.ensures ∙ c.in_ok-names.ensures ∙ basis.elements)
     ∙ ap (λ (L : List Entry). list_all (may_be_judged (text_order (requests_of J)) (length L)) J) basis.entries
     ∙ all_judgeable J basis.within.journal_is
 
 pub returns : goal.returns
 returns c =
     let J : List Message = messages_of_frames c.args.frames.now in
-    let kept = c.args.basis in
-    written J kept.log kept.elements.names.items kept.ids c.requires.basis
-    c.len.result c.from.result c.deref.result.now c.new-due.result.items c.put_counts.new.out.items c.put_elements.new.out.items c.put_frames.new.out.items
-    c.new-due.ensures.items c.len.ensures.len (c.from.ensures ∙ c.len-2.ensures.count) (c.deref.ensures.value ∙ c.of-places.ensures)
+    let kept = c.args.basis.now in
+    let ranked : c.in_ok-places.places ≡ kept.elements = c.in_ok-places.ensures ∙ c.in_ok-names.ensures in
+    written J kept.log kept.elements kept.ids c.requires.basis
+    c.len.result c.from.result c.names-2.result.now c.new-due.result.items c.put_counts.new.out.items c.put_elements.new.out.items c.put_frames.new.out.items
+    c.new-due.ensures.items c.len.ensures.len (c.from.ensures ∙ c.len-2.ensures.count) (c.names-2.ensures ∙ ranked)
     c.in_ok-put_counts.ensures c.in_ok-put_elements.ensures
-    (c.in_ok-put_frames.ensures ∙ ap (λ (ns : List Name). c.put_elements.new.out.items ++ flat_map (message_bytes ns kept.log) J) c.of-places.ensures)
+    (c.in_ok-put_frames.ensures ∙ ap (λ (ns : List Name). c.put_elements.new.out.items ++ flat_map (message_bytes ns kept.log) J) ranked)

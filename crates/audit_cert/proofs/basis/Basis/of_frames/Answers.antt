@@ -1,4 +1,4 @@
-use Rattle.std.proofs.Common.{◌≡◌, ◌+◌, List, [], ◌∷◌, ◌++◌, length, take, map, refl, sym, ap, subst, ◌∙◌}
+use Rattle.std.proofs.Common.{◌≡◌, ◌+◌, List, [], ◌∷◌, ◌++◌, take, map, sym, ap, subst, ◌∙◌}
 use Rattle.edit_message.specs.declared.message.Message.{Message}
 use Rattle.edit_frame.specs.declared.frame.Frame.{Frame}
 use Rattle.edit_frame.specs.declared.frame.Frame.TheVariants.{Item}

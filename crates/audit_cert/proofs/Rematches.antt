@@ -1,0 +1,120 @@
+-- Where the same authorization stays the first that matches.
+use Rattle.std.proofs.Common.{◌≡◌, ℕ, ◌+◌, Bool, true, false, cond, List, [], ◌∷◌, take, drop, Some, None, refl, ap, ◌∙◌, ⊎_elim, arith, eqb}
+use Rattle.std.specs.Prelude.{◌&&◌, ◌||◌, nat_lt, find, option_and_then, if◌then◌else◌}
+use Rattle.std.specs.declared.option.Option.{Option}
+use Rattle.std.specs.Option.{option_map_or}
+use Rattle.std.specs.List.{list_any}
+use Rattle.std.proofs.Math.ListN.{take-append-drop}
+use Rattle.std.proofs.lemmas.Bool.{cases_Bool}
+use Rattle.std.proofs.lemmas.Bool.Decides.{nat_tests}
+use Rattle.element_name.specs.Cases.{when}
+use Rattle.element_name.specs.Name.{Name}
+use Rattle.element_name.specs.Numbered.{put_by, without}
+use Rattle.coop_request.specs.Edit.{right_of}
+use Rattle.coop_request.specs.Request.{Request, user_of, element_of}
+use Rattle.policy_book.specs.Lists.{has_number}
+use Rattle.policy_book.specs.declared.auth.Auth.{Auth}
+use Rattle.policy_book.specs.declared.auth.UserSet.{UserSet}
+use Rattle.policy_book.specs.declared.auth.UserSet.TheVariants.{All, Listed, Groups}
+use Rattle.policy_book.specs.declared.op.AdminOp.{AdminOp}
+use Rattle.policy_book.specs.declared.op.AdminOp.TheVariants.{AddUser, DelUser, AddObj, DelObj, AddGroup, DelGroup, AddMember, DelMember, AddAuth, DelAuth, Validate}
+use Rattle.policy_book.specs.declared.parts.NumberedAuth.{NumberedAuth}
+use Rattle.policy_book.specs.Entry.{Entry}
+use Rattle.policy_book.specs.Policy.{Policy, policy_after, is_user}
+use Rattle.policy_book.specs.Reach.{reach_of_users, is_reached}
+use Rattle.auth_match.specs.declared.verdict.Verdict.TheVariants.{Granted}
+use Rattle.auth_match.specs.Requests.{request_verdict}
+use Rattle.auth_match.specs.Verdict.{matches, has_user, has_right, object_covers}
+use Rattle.auth_match.proofs.FirstMatches.{find_same, outcome, more_off}
+use Rattle.admin_log.specs.Log.{policy_at, entry_at}
+use Rattle.check_remote.specs.State.{verdict_at}
+use Rattle.check_remote.proofs.Walks.{next_policy}
+use Rattle.audit_cert.specs.Grants.{granting_auth, granting_at}
+use Rattle.audit_cert.specs.Rematches.{may_rematch, may_rematch_at}
+
+-- ---- another number that comes or goes
+
+put_other : (v u : ℕ) (numbers : List ℕ) → eqb v u ≡ false → has_number (put_by (λ n. n) v numbers) u ≡ has_number numbers u
+put_other v u [] h = rw h refl
+put_other v u (m ∷ numbers) h = by (nat_lt v m) (put_other v u numbers h)
+  where
+    by : (b : Bool) → has_number (put_by (λ n. n) v numbers) u ≡ has_number numbers u
+        → has_number (if b then v ∷ m ∷ numbers else m ∷ put_by (λ n. n) v numbers) u ≡ has_number (m ∷ numbers) u
+    by true rest = rw h refl
+    by false rest = ap (λ b. eqb m u || b) rest
+
+without_other : (v u : ℕ) (numbers : List ℕ) → eqb v u ≡ false → has_number (without (λ n. n) v numbers) u ≡ has_number numbers u
+without_other v u [] h = refl
+without_other v u (m ∷ numbers) h =
+    ⊎_elim
+    (λ (t : eqb m v ≡ true). let other : eqb m u ≡ false = grind (arith, nat_tests, t, h) in rw (t, other) (without_other v u numbers h))
+    (λ (f : eqb m v ≡ false). rw f (ap (λ b. eqb m u || b) (without_other v u numbers h)))
+    (cases_Bool (eqb m v))
+
+-- ---- the first that matches
+
+module _ (names : List Name) (p : Policy) (version : ℕ) (q : Request) where
+  -- whether an authorization matches the access of the request, by a policy
+  abbrev matching : Policy → NumberedAuth → Bool
+  matching p a = matches names p (user_of q) (right_of q.edit) (element_of q) a.auth
+
+  -- a policy with other users matches alike, where the user is one of both or of none
+  same_users : (users : List ℕ) → has_number users (user_of q) ≡ is_user p (user_of q)
+      → find (matching (record p { users = users })) p.auths ≡ find (matching p) p.auths
+  same_users users same =
+      find_same (matching (record p { users = users })) (matching p)
+      (λ a. ap (λ b. (b && has_user p a.auth.users (user_of q)) && (has_right a.auth.rights (right_of q.edit) && list_any (object_covers names p (element_of q)) a.auth.objects)) same)
+      p.auths
+
+  -- one that is of others doesn't match
+  of_others : (auth : Auth) → is_reached (reach_of_users auth.users) (user_of q) ≡ false → matches names p (user_of q) (right_of q.edit) (element_of q) auth ≡ false
+  of_others auth out = rw (others auth.users out) (neither (is_user p (user_of q)) (has_right auth.rights (right_of q.edit) && list_any (object_covers names p (element_of q)) auth.objects))
+    where
+      others : (set : UserSet) → is_reached (reach_of_users set) (user_of q) ≡ false → has_user p set (user_of q) ≡ false
+      others All h = absurd (cc)
+      others (Listed users) h = h
+      others (Groups groups) h = absurd (cc)
+
+      neither : (b c : Bool) → ((b && false) && c) ≡ false
+      neither true c = refl
+      neither false c = refl
+
+  first_kept : (op : AdminOp) → may_rematch op (user_of q) ≡ false → find (matching (policy_after p version op)) (policy_after p version op).auths ≡ find (matching p) p.auths
+  first_kept (AddUser v) out = same_users (put_by (λ n. n) v p.users) (put_other v (user_of q) p.users out)
+  first_kept (DelUser v) out = same_users (without (λ n. n) v p.users) (without_other v (user_of q) p.users out)
+  first_kept (AddObj n extent) out = absurd (cc)
+  first_kept (DelObj n) out = absurd (cc)
+  first_kept (AddGroup g) out = absurd (cc)
+  first_kept (DelGroup g) out = absurd (cc)
+  first_kept (AddMember g v) out = absurd (cc)
+  first_kept (DelMember g v) out = absurd (cc)
+  first_kept (AddAuth place auth) out =
+      more_off (matching p) (take place p.auths) (record { number = version; auth = auth }) (drop place p.auths) (of_others auth out)
+      ∙ ap (find (matching p)) (take-append-drop place p.auths)
+  first_kept (DelAuth place) out = absurd (cc)
+  first_kept (Validate request) out = refl
+
+  granting_kept : (op : AdminOp) → may_rematch op (user_of q) ≡ false → granting_auth names (policy_after p version op) q ≡ granting_auth names p q
+  granting_kept op out = ap (option_and_then (λ (a : NumberedAuth). when a.auth.grant a.number)) (first_kept op out)
+
+  verdict_kept : (op : AdminOp) → may_rematch op (user_of q) ≡ false → request_verdict names (policy_after p version op) q ≡ request_verdict names p q
+  verdict_kept op out = ap (λ (o : Option NumberedAuth). cond (eqb (user_of q) 0) Granted (outcome o)) (first_kept op out)
+
+-- ---- from a version to the next
+
+module _ (names : List Name) (log : List Entry) (q : Request) (v : ℕ) (out : may_rematch_at log (v + 1) (user_of q) ≡ false) where
+  pub granting_next : granting_at names log q (v + 1) ≡ granting_at names log q v
+  granting_next = by (entry_at log (v + 1)) refl out
+    where
+      by : (e : Option Entry) → entry_at log (v + 1) ≡ e → option_map_or (λ d. may_rematch d.op (user_of q)) e true ≡ false
+          → granting_at names log q (v + 1) ≡ granting_at names log q v
+      by None is kept = absurd (cc)
+      by (Some e) is kept = ap (λ (p : Policy). granting_auth names p q) (next_policy log v e is) ∙ granting_kept names (policy_at log v) e.version q e.op kept
+
+  pub verdict_next : verdict_at names log q (v + 1) ≡ verdict_at names log q v
+  verdict_next = by (entry_at log (v + 1)) refl out
+    where
+      by : (e : Option Entry) → entry_at log (v + 1) ≡ e → option_map_or (λ d. may_rematch d.op (user_of q)) e true ≡ false
+          → verdict_at names log q (v + 1) ≡ verdict_at names log q v
+      by None is kept = absurd (cc)
+      by (Some e) is kept = ap (λ (p : Policy). request_verdict names p q) (next_policy log v e is) ∙ verdict_kept names (policy_at log v) e.version q e.op kept
