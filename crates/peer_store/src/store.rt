@@ -70,6 +70,7 @@ impl Store {
 
         // It gives up for want of memory, or where the disk failed.
         ensures failed { IfErr result (λ fault. MayFailMaking fault (D.faults disk.old) (D.faults disk.new)) }
+        ensures faults { D.faults disk.old ≤ D.faults disk.new }
     {
         let place = record_file::create(disk, site)?;
         let peer = Peer::new(alloc, site)?;
@@ -95,6 +96,7 @@ impl Store {
         ensures seen { D.seen disk.new ≡ D.seen disk.old }
         ensures any_moment { LeavesOnly D.moment D.left_since disk.old disk.new (D.may_leave disk.old) }
         ensures failed { IfErr result (λ fault. MayFailOpening fault site (D.seen disk.old) (D.faults disk.old) (D.faults disk.new)) }
+        ensures faults { D.faults disk.old ≤ D.faults disk.new }
     {
         let loaded = record_file::load(alloc, disk, site)?;
         let Replayed { peer, place } = replay_file(alloc, site, &loaded)?;
@@ -137,6 +139,7 @@ impl Store {
         ensures gate { HasGate self.new (D.seen disk.new) }
         ensures ok { OnOk result (self.new ≡ record self.old { place = self.new.place }) }
         ensures err { IfErr result (λ fault. (fault ≡ StoreFault.DiskFault) × (self.new ≡ record self.old { spent = true }) × Rose (D.faults disk.old) (D.faults disk.new)) }
+        ensures faults { D.faults disk.old ≤ D.faults disk.new }
     {
         match record_file::put(disk, self.place, body) {
             Ok(next) => {
@@ -176,6 +179,7 @@ impl Store {
         ensures refused { IfSome (refusal_of self.old step) (λ fault. result ≡ Err fault) }
         ensures left { IfErr result (λ fault. IsLeftBy fault step self.old self.new disk.old disk.new) }
         ensures failed { IsErrOf result StoreFault.DiskFault → Rose (D.faults disk.old) (D.faults disk.new) }
+        ensures faults { D.faults disk.old ≤ D.faults disk.new }
         ensures gate { HasGate self.new (D.seen disk.new) }
     {
         if let Some(fault) = self.refusal(&step) {

@@ -1,5 +1,5 @@
 //! One more record.
-ghost use Rattle.std.specs.Prelude.{◌≡◌, ◌+◌, ◌<◌, ◌^◌, ◌++◌, ◌∷◌, [], ℕ, List, IfSome, IfOk, OnErr, length};
+ghost use Rattle.std.specs.Prelude.{◌≡◌, ◌+◌, ◌<◌, ◌≤◌, ◌^◌, ◌++◌, ◌∷◌, [], ℕ, List, IfSome, IfOk, OnErr, length};
 ghost use Rattle.edit_io.specs.Causes.{Rose};
 ghost use Rattle.peer_disk.specs.Disk.{LeavesOnly};
 ghost use Rattle.record_file.specs.Records.{Keeps, IsBeforeOrAfter};
@@ -35,6 +35,7 @@ pub fn put<D: Disk>(disk: &mut D, place: u64, body: &Record) -> Result<u64, Fail
 
     // It gives up for a failure of the disk alone.
     ensures failed { OnErr result (Rose (D.faults disk.old) (D.faults disk.new)) }
+    ensures faults { D.faults disk.old ≤ D.faults disk.new }
 {
     write_synced(disk, place + 1, body.behind())?;
     write_synced(disk, place, &[OPEN])?;

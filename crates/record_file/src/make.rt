@@ -1,5 +1,5 @@
 //! A new file of records.
-ghost use Rattle.std.specs.Prelude.{◌≡◌, ◌<◌, length, ◌++◌, ◌∷◌, [], IfSome, IfOk, OnErr, OnOk, IsSome};
+ghost use Rattle.std.specs.Prelude.{◌≡◌, ◌<◌, ◌≤◌, length, ◌++◌, ◌∷◌, [], IfSome, IfOk, OnErr, OnOk, IsSome};
 ghost use Rattle.edit_io.specs.Causes.{Rose};
 ghost use Rattle.peer_disk.specs.Disk.{Only, LeavesOnly};
 ghost use Rattle.record_file.specs.Records.{file_head, Keeps, HasNoneIfAny};
@@ -33,6 +33,7 @@ pub fn create<D: Disk>(disk: &mut D, site: u16) -> Result<u64, Failed>
     // A crash at any moment leaves an empty disk, no file of this site, or the file with no bodies.
     ensures any_moment { Only [] (D.may_leave disk.old) → LeavesOnly D.moment D.left_since disk.old disk.new (HasNoneIfAny site) }
     ensures failed { OnErr result (Rose (D.faults disk.old) (D.faults disk.new)) }
+    ensures faults { D.faults disk.old ≤ D.faults disk.new }
 {
     write_synced(disk, 0, &new_file(site))?;
     Ok(FIRST_GATE)

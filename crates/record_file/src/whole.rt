@@ -1,5 +1,5 @@
 //! A file that a crash may have left.
-ghost use Rattle.std.specs.Prelude.{◌≡◌, ◌<◌, ◌^◌, ℕ, List, [], IfOk, IfSome, OnOk, IsErrOf, take, length};
+ghost use Rattle.std.specs.Prelude.{◌≡◌, ◌<◌, ◌≤◌, ◌^◌, ℕ, List, [], IfOk, IfSome, OnOk, IsErrOf, take, length};
 ghost use Rattle.edit_io.specs.Causes.{Rose};
 ghost use Rattle.peer_disk.specs.Disk.{Only, LeavesOnly};
 ghost use Rattle.record_file.specs.Records.{file_head, gate_place, bytes_of_each};
@@ -26,6 +26,7 @@ fn read_pieces<D: Disk>(
     ensures crash { (left : List ℕ) → D.may_leave disk.new left → D.may_leave disk.old left }
     ensures any_moment { LeavesOnly D.moment D.left_since disk.old disk.new (D.may_leave disk.old) }
     ensures failed { IsErrOf result LoadFault.DiskFault → Rose (D.faults disk.old) (D.faults disk.new) }
+    ensures faults { D.faults disk.old ≤ D.faults disk.new }
     ensures no_head { IsErrOf result LoadFault.NoHead → ⊥ }
 {
     'pieces: loop {
@@ -53,6 +54,7 @@ fn read_whole<D: Disk>(alloc: Global, disk: &mut D) -> Result<Vec<u8>, LoadFault
     ensures crash { (left : List ℕ) → D.may_leave disk.new left → D.may_leave disk.old left }
     ensures any_moment { LeavesOnly D.moment D.left_since disk.old disk.new (D.may_leave disk.old) }
     ensures failed { IsErrOf result LoadFault.DiskFault → Rose (D.faults disk.old) (D.faults disk.new) }
+    ensures faults { D.faults disk.old ≤ D.faults disk.new }
     ensures no_head { IsErrOf result LoadFault.NoHead → ⊥ }
 {
     let mut piece = buffer(alloc, PIECE)?;
@@ -87,6 +89,7 @@ pub fn load<D: Disk>(alloc: Global, disk: &mut D, site: u16) -> Result<Loaded, L
     // A crash at any moment of the call leaves what one before it might have left.
     ensures any_moment { LeavesOnly D.moment D.left_since disk.old disk.new (D.may_leave disk.old) }
     ensures failed { IsErrOf result LoadFault.DiskFault → Rose (D.faults disk.old) (D.faults disk.new) }
+    ensures faults { D.faults disk.old ≤ D.faults disk.new }
 {
     disk.sync()?;
     let bytes = read_whole(alloc, disk)?;
