@@ -1,0 +1,21 @@
+//! Published text: a screen publishes the text of a shared peer, and a reader on another thread reads it and never waits.
+#![tactic(auto)]
+
+mod board;
+mod fail;
+mod page;
+mod reader;
+mod rule;
+mod screen;
+mod told;
+mod view;
+mod writer;
+
+pub use fail::ScreenFail;
+pub use page::Page;
+pub use reader::ScreenReader;
+pub use screen::Screen;
+pub use told::Told;
+
+#[cfg(test)]
+mod tests;
