@@ -1,0 +1,63 @@
+/* One proved peer for a program in C: link libeditor_lib.a and the kit's c/liblibc_c.a.
+ *
+ * A slot is a pointer that the library keeps: begin it as `editor_slot s = {0};`, open a peer in it, and close it at the end.
+ * What stands below is what the contracts of crates/editor_lib/src/calls.rt say, if the caller keeps to this:
+ *
+ *  - editor_open is given an empty slot, and every other call one with an open peer. No call tests that.
+ *  - Nobody but these calls writes to a slot or to what it points to, and a slot is copied only to move it.
+ *  - A pointer with a length points to so many bytes, which no other thread writes meanwhile, and which aren't the
+ *    slot. It isn't null, also where the length is 0.
+ *  - A peer stays on the thread that opened it. No call is made from a signal handler.
+ *
+ * Every call returns. Lines, answers, names and frames are those of docs/FORMATS.md. */
+#ifndef EDITOR_H
+#define EDITOR_H
+
+#include <stddef.h>
+#include <stdint.h>
+
+typedef struct {
+    void *desk;
+} editor_slot;
+
+/* How a call ended. */
+enum {
+    EDITOR_DONE = 0,      /* what was asked for was done, and the answer is there */
+    EDITOR_BAD = 1,       /* the bytes aren't in the grammar; peer, answer and frame are as they were */
+    EDITOR_NO_MEMORY = 2, /* memory was wanting; peer, answer and frame are as they were */
+    EDITOR_UNTOLD = 3     /* the step was made, and memory was wanting to tell of it; answer and frame are empty */
+};
+
+/* Opens a fresh peer of a site, which is its user's number, in an empty slot. Answer and frame are empty.
+ * DONE, or NO_MEMORY and the slot is still empty. */
+uint32_t editor_open(editor_slot *slot, uint16_t site);
+
+/* Makes the step that a step line says, given without its line end. DONE: the peer is the one after the step, the answer is
+ * the step's line, and the frame is that of the message which the step issued, or of the journal's item that it found. BAD
+ * exactly where the bytes are no step line and memory isn't wanting. NO_MEMORY. UNTOLD: the peer is the one after the step;
+ * `look` at the journal's last item tells again what was issued. */
+uint32_t editor_step(editor_slot *slot, const uint8_t *line, size_t line_size);
+
+/* Receives the message whose frame is all of the bytes: as editor_step does where they are the frame of a message. Else BAD, of
+ * a turn and of an end too, or NO_MEMORY. A message of a liar is no bad one: it has its answer. Held messages that are due by
+ * now settle by steps `settle`, until one is answered `quiet`. */
+uint32_t editor_receive(editor_slot *slot, const uint8_t *frame, size_t frame_size);
+
+/* Puts the bytes of the text that the peer shows, UTF-8 as it is, in place of the answer. The peer and the frame stay.
+ * DONE or NO_MEMORY. */
+uint32_t editor_show(editor_slot *slot);
+
+/* Puts the line `state STATE` of the request of a name, as `3.1`, in place of the answer, and nothing where the peer has no such
+ * request. The peer and the frame stay. DONE, BAD exactly where the bytes spell no name, or NO_MEMORY. */
+uint32_t editor_state(editor_slot *slot, const uint8_t *name, size_t name_size);
+
+/* Copies the answer to the front of a buffer if it fits, else nothing. Gives its length in both cases. Changes nothing else. */
+size_t editor_answer(editor_slot *slot, uint8_t *buffer, size_t buffer_size);
+
+/* Does the same with the frame. Its length is 0 where the last answer gave no message, and at most 280. */
+size_t editor_frame(editor_slot *slot, uint8_t *buffer, size_t buffer_size);
+
+/* Closes the peer. The slot is empty, and the memory is given back. */
+void editor_close(editor_slot *slot);
+
+#endif

@@ -1,0 +1,62 @@
+-- A peer with what it told last, and what a call leaves of them by its code.
+use Rattle.std.specs.Prelude.{◌≡◌, ℕ, List, Option, Some, None, Result, Ok, Err, option_map}
+use Rattle.edit_message.specs.declared.message.Message.{Message}
+use Rattle.edit_frame.specs.declared.frame.Frame.{Frame}
+use Rattle.edit_frame.specs.declared.frame.Frame.TheVariants.{Item, Turn, End}
+use Rattle.edit_frame.specs.declared.frame.FrameKind.{FrameKind}
+use Rattle.edit_frame.specs.Reading.{decoded_frame}
+use Rattle.peer_step.specs.declared.step.Step.{Step}
+use Rattle.peer_step.specs.declared.step.Step.TheVariants.{Receive}
+use Rattle.peer_core.specs.Peer.{Peer, fresh_peer}
+use Rattle.peer_core.specs.Answers.{answer_of}
+use Rattle.peer_core.specs.After.{peer_after}
+use Rattle.editor_lib.specs.declared.code.Code.{Code}
+use Rattle.editor_lib.specs.declared.code.Code.TheVariants as ends
+use Rattle.editor_lib.specs.Told.{Told, nothing, told}
+
+-- a peer, and what was told last
+pub record Desk : Type 0 where
+  pub peer : Peer
+  pub told : Told
+
+-- the desk of a fresh peer
+abbrev pub fresh_desk : ℕ → Desk
+fresh_desk site = record { peer = fresh_peer site; told = nothing }
+
+-- ---- opening
+
+-- what opening leaves, by its code
+abbrev pub Opened : Code → ℕ → Option Desk → Type 0
+Opened ends.Done site after = after ≡ Some (fresh_desk site)
+Opened ends.NoMemory site after = after ≡ None
+Opened code site after = ⊥
+
+-- ---- steps
+
+-- a message that was read; none of a turn, of an end, and of a fault
+abbrev pub message_read : Result Frame FrameKind → Option Message
+message_read (Ok (Item message)) = Some message
+message_read (Ok Turn) = None
+message_read (Ok End) = None
+message_read (Err kind) = None
+
+-- to receive the message whose frame is all of the bytes
+abbrev pub step_received : List ℕ → Option Step
+step_received bytes = option_map Receive (message_read (decoded_frame bytes))
+
+-- what a call for the step that bytes say, or for none, leaves of a desk, by its code
+abbrev pub Made : Code → Option Step → Desk → Desk → Type 0
+Made ends.Done (Some step) before after = after ≡ record { peer = peer_after before.peer step; told = told (answer_of before.peer step) }
+Made ends.Untold (Some step) before after = after ≡ record { peer = peer_after before.peer step; told = nothing }
+Made ends.Bad None before after = after ≡ before
+Made ends.NoMemory said before after = after ≡ before
+Made code said before after = ⊥
+
+-- ---- questions
+
+-- what a question that is answered by these bytes, or is none, leaves of a desk, by its code: the frame and the peer stay
+abbrev pub Asked : Code → Option (List ℕ) → Desk → Desk → Type 0
+Asked ends.Done (Some answer) before after = after ≡ record before { told = record before.told { answer = answer } }
+Asked ends.Bad None before after = after ≡ before
+Asked ends.NoMemory answer before after = after ≡ before
+Asked code answer before after = ⊥

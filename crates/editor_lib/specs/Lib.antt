@@ -1,0 +1,6 @@
+pub mod Code
+pub mod Told
+pub mod Answers
+pub mod Desk
+pub mod Buffer
+pub mod Slot

@@ -1,0 +1,41 @@
+-- What is told of an answer: its line, and the frame of the message that it gives.
+use Rattle.std.specs.Prelude.{ℕ, List, [], ◌∷◌, Option, Some, None, codes}
+use Rattle.line_engine.specs.Output.{line_of}
+use Rattle.edit_message.specs.declared.message.Message.{Message}
+use Rattle.edit_message.specs.declared.message.Message.TheVariants.{Coop, Admin}
+use Rattle.edit_frame.specs.declared.frame.Frame.TheVariants as frames
+use Rattle.edit_frame.specs.Spelling.{spelling}
+use Rattle.request_state.specs.declared.state.State.{State}
+use Rattle.peer_step.specs.declared.answer.Answer.{Answer}
+use Rattle.peer_step.specs.declared.answer.Answer.TheVariants.{Done, Issued, Item}
+use Rattle.step_spelling.specs.Values.{spaced}
+use Rattle.step_spelling.specs.Answers.{state_words, answer_line}
+
+-- an answer as bytes, and the frame of a message, each empty where there is none
+pub record Told : Type 0 where
+  pub answer : List ℕ
+  pub frame : List ℕ
+
+abbrev pub nothing : Told
+nothing = record { answer = []; frame = [] }
+
+-- the message that an answer gives: the one that the step issued, or the journal's item that it found
+abbrev pub message_given : Answer → Option Message
+message_given (Done request) = Some (Coop request)
+message_given (Issued entry undone) = Some (Admin entry)
+message_given (Item item) = item
+message_given answer = None
+
+-- the bytes of a message's frame; none where there is no message
+abbrev pub frame_bytes : Option Message → List ℕ
+frame_bytes (Some message) = spelling (frames.Item message)
+frame_bytes None = []
+
+-- the line of an answer, without the number of a message, and the frame of what it gives
+abbrev pub told : Answer → Told
+told answer = record { answer = answer_line None answer; frame = frame_bytes (message_given answer) }
+
+-- the line of the state of a request; no bytes where there is no such request
+abbrev pub state_line : Option State → List ℕ
+state_line (Some state) = line_of (spaced (codes "state" ∷ state_words state))
+state_line None = []

@@ -1,0 +1,137 @@
+//! The calls. Each but `editor_open` wants a slot that has a desk: no call tests that.
+ghost use Rattle.std.specs.Prelude.{◌≡◌, Some, None, IsSomeAnd, length};
+ghost use Rattle.step_read.specs.Step.{step_line};
+ghost use Rattle.editor_lib.specs.Code.{GivesCode};
+ghost use Rattle.editor_lib.specs.Answers.{text_answer, state_answer};
+ghost use Rattle.editor_lib.specs.Desk.{Desk, step_received, Opened, Made, Asked};
+ghost use Rattle.editor_lib.specs.Buffer.{with_front};
+
+use crate::code::{Code, number};
+use crate::desk::Desk;
+use crate::slot::DeskSlot;
+use std::alloc::Global;
+
+/// Opens the desk of a fresh peer of a site in an empty slot. Gives the number of a code: 0, or 2 and the slot stays empty.
+#[unsafe(no_mangle)]
+pub extern "C" fn editor_open(alloc: Global, slot: &mut DeskSlot, site: u16) -> u32
+    requires { slot.old.value ≡ None }
+    ensures { GivesCode result (λ code. Opened code site slot.new.value) }
+{
+    let Ok(desk) = Desk::new(alloc, site) else {
+        return number(Code::NoMemory);
+    };
+    let Ok(boxed) = Box::new(alloc, desk) else {
+        return number(Code::NoMemory);
+    };
+    *slot = DeskSlot::of(boxed);
+    number(Code::Done)
+}
+
+/// Makes the step that a step line says, given without its line end. Gives the number of a code, 0 to 3. Time and memory
+/// are the peer's for the step, and the length of the answer.
+#[unsafe(no_mangle)]
+pub extern "C" fn editor_step(alloc: Global, slot: &mut DeskSlot, line: &[u8]) -> u32
+    ghost desk: { Desk }
+    requires { slot.old.value ≡ Some desk }
+    ensures { GivesCode result (λ code. IsSomeAnd slot.new.value (λ after. Made code (step_line line.now) desk after)) }
+{
+    let mut boxed = std::mem::replace(slot, DeskSlot::empty(alloc)).into_box();
+    let code = boxed.step(alloc, line);
+    *slot = DeskSlot::of(boxed);
+    number(code)
+}
+
+/// Receives the message whose frame is all of the bytes. Gives the number of a code, 0 to 3: 1 where the bytes are the frame
+/// of no message. Time and memory are the peer's for the step.
+#[unsafe(no_mangle)]
+pub extern "C" fn editor_receive(alloc: Global, slot: &mut DeskSlot, frame: &[u8]) -> u32
+    ghost desk: { Desk }
+    requires { slot.old.value ≡ Some desk }
+    ensures { GivesCode result (λ code. IsSomeAnd slot.new.value (λ after. Made code (step_received frame.now) desk after)) }
+{
+    let mut boxed = std::mem::replace(slot, DeskSlot::empty(alloc)).into_box();
+    let code = boxed.receive(alloc, frame);
+    *slot = DeskSlot::of(boxed);
+    number(code)
+}
+
+/// Puts the bytes of the text that the peer shows in place of the answer. Gives the number of a code: 0 or 2. Takes time in
+/// the length of the text.
+#[unsafe(no_mangle)]
+pub extern "C" fn editor_show(alloc: Global, slot: &mut DeskSlot) -> u32
+    ghost desk: { Desk }
+    requires { slot.old.value ≡ Some desk }
+    ensures { GivesCode result (λ code. IsSomeAnd slot.new.value (λ after. Asked code (text_answer desk.peer) desk after)) }
+{
+    let mut boxed = std::mem::replace(slot, DeskSlot::empty(alloc)).into_box();
+    let code = boxed.show(alloc);
+    *slot = DeskSlot::of(boxed);
+    number(code)
+}
+
+/// Puts the line of the state of the request of a name in place of the answer, and no bytes where the peer has no such
+/// request. Gives the number of a code: 0, 1 where the bytes spell no name, or 2. Takes time logarithmic in the requests.
+#[unsafe(no_mangle)]
+pub extern "C" fn editor_state(alloc: Global, slot: &mut DeskSlot, name: &[u8]) -> u32
+    ghost desk: { Desk }
+    requires { slot.old.value ≡ Some desk }
+    ensures { GivesCode result (λ code. IsSomeAnd slot.new.value (λ after. Asked code (state_answer desk.peer name.now) desk after)) }
+{
+    let mut boxed = std::mem::replace(slot, DeskSlot::empty(alloc)).into_box();
+    let code = boxed.state(alloc, name);
+    *slot = DeskSlot::of(boxed);
+    number(code)
+}
+
+// Copies bytes to the front of a buffer, if they fit.
+fn copy_front(bytes: &[u8], out: &mut [u8]) -> usize
+    ensures len { result ≡ length bytes.now }
+    ensures copied { out.new ≡ with_front bytes.now out.old }
+{
+    if bytes.len() <= out.len() {
+        out[..bytes.len()].copy_from_slice(bytes);
+    }
+    bytes.len()
+}
+
+/// Copies the answer to the front of a buffer, if it fits, and gives its length. Takes time in it.
+#[unsafe(no_mangle)]
+pub extern "C" fn editor_answer(alloc: Global, slot: &mut DeskSlot, out: &mut [u8]) -> usize
+    ghost desk: { Desk }
+    requires { slot.old.value ≡ Some desk }
+    ensures unchanged { slot.new.value ≡ Some desk }
+    ensures len { result ≡ length desk.told.answer }
+    ensures copied { out.new ≡ with_front desk.told.answer out.old }
+{
+    let boxed = std::mem::replace(slot, DeskSlot::empty(alloc)).into_box();
+    let len = copy_front(boxed.told().answer(), out);
+    *slot = DeskSlot::of(boxed);
+    len
+}
+
+/// Copies the frame of the message that the last step's answer gave to the front of a buffer, if it fits, and gives its
+/// length: 0 where the answer gave none.
+#[unsafe(no_mangle)]
+pub extern "C" fn editor_frame(alloc: Global, slot: &mut DeskSlot, out: &mut [u8]) -> usize
+    ghost desk: { Desk }
+    requires { slot.old.value ≡ Some desk }
+    ensures unchanged { slot.new.value ≡ Some desk }
+    ensures len { result ≡ length desk.told.frame }
+    ensures copied { out.new ≡ with_front desk.told.frame out.old }
+{
+    let boxed = std::mem::replace(slot, DeskSlot::empty(alloc)).into_box();
+    let len = copy_front(boxed.told().frame(), out);
+    *slot = DeskSlot::of(boxed);
+    len
+}
+
+/// Closes the desk of a slot, and gives back its memory.
+#[unsafe(no_mangle)]
+pub extern "C" fn editor_close(alloc: Global, slot: &mut DeskSlot)
+    ghost desk: { Desk }
+    requires { slot.old.value ≡ Some desk }
+    ensures { slot.new.value ≡ None }
+{
+    let old = std::mem::replace(slot, DeskSlot::empty(alloc));
+    drop(old.into_box());
+}

@@ -1,0 +1,11 @@
+//! One peer for programs that aren't Rattle: functions that C, or a page's script, can call.
+//!
+//! The calls are in `calls`, and `include/editor.h` says in words what each promises. A call takes the desk out of its slot,
+//! makes of it what `Desk` does, and puts it back.
+#![tactic(auto)]
+
+mod calls;
+mod code;
+mod desk;
+mod slot;
+mod told;

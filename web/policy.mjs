@@ -1,0 +1,60 @@
+// The policy that a row of entries makes, for reading alone: the peer decides by its own.
+
+function setOf(word) {
+  if (word === 'all') return { kind: 'all' };
+  if (word.startsWith('@')) return { kind: 'groups', numbers: word.slice(1).split(',').map(Number) };
+  return { kind: 'users', numbers: word.split(',').map(Number) };
+}
+
+function extentOf([kind, ...words]) {
+  return { kind, words };
+}
+
+function authorizationOf(version, [sign, users, rights, objects]) {
+  return { version, allows: sign === '+', users: setOf(users), rights, objects: objects.split(',').map(Number) };
+}
+
+export class Policy {
+  constructor() {
+    this.version = 0;
+    this.users = new Set([0]);
+    this.objects = new Map([[0, { kind: 'all', words: [] }]]);
+    this.groups = new Map();
+    this.authorizations = [];
+    this.made = new Map(); // each authorization that was ever made, by its version
+    this.named = new Map([[0, { kind: 'all', words: [] }]]); // each object that was ever made, by its number: the last
+  }
+
+  // Takes the next entry, which is legal since the peer has it.
+  take({ version, op: [kind, first, ...rest] }) {
+    const number = Number(first);
+    this.version = version;
+    if (kind === 'adduser') this.users.add(number);
+    else if (kind === 'deluser') this.users.delete(number);
+    else if (kind === 'addobj') this.addObject(number, extentOf(rest));
+    else if (kind === 'delobj') this.objects.delete(number);
+    else if (kind === 'addgroup') this.groups.set(number, new Set());
+    else if (kind === 'delgroup') this.groups.delete(number);
+    else if (kind === 'addmember') this.groups.get(number).add(Number(rest[0]));
+    else if (kind === 'delmember') this.groups.get(number).delete(Number(rest[0]));
+    else if (kind === 'addauth') this.addAuthorization(number, authorizationOf(version, rest));
+    else if (kind === 'delauth') this.authorizations.splice(number, 1);
+  }
+
+  addObject(number, extent) {
+    this.objects.set(number, extent);
+    this.named.set(number, extent);
+  }
+
+  addAuthorization(place, authorization) {
+    this.authorizations.splice(place, 0, authorization);
+    this.made.set(authorization.version, authorization);
+  }
+
+  // A number that is no object's and never was.
+  freeObject() {
+    let number = 1;
+    while (this.named.has(number)) number++;
+    return number;
+  }
+}

@@ -1,0 +1,125 @@
+// What is told to a person, in words.
+import { deniedBy } from './lines.mjs';
+
+const RIGHTS = { i: 'insert', d: 'delete', u: 'change' };
+
+const FAULTS = {
+  1: 'this person is here already',
+  2: 'there is no such person',
+  3: 'the administrator stays',
+  4: 'this number is taken',
+  5: 'there is no such part',
+  6: 'there is no such place in the list of rules',
+  7: 'there are as many as there may be',
+  8: 'it is confirmed already',
+  9: 'this group is here already',
+  10: 'there is no such group',
+  11: 'this person is in the group already',
+  12: 'this person is not in the group',
+};
+
+function listed(words, last = 'and') {
+  if (words.length < 2) return words.join('');
+  return `${words.slice(0, -1).join(', ')} ${last} ${words.at(-1)}`;
+}
+
+export function person(user) {
+  return user === 0 ? 'the administrator' : `user ${user}`;
+}
+
+function people({ kind, numbers }) {
+  if (kind === 'all') return 'everybody';
+  if (kind === 'groups') return `the members of ${listed(numbers.map((it) => `group ${it}`))}`;
+  return listed(numbers.map(person));
+}
+
+export function object(number, policy) {
+  const extent = policy.named.get(number);
+  if (!extent) return `part ${number}, which is not there`;
+  if (extent.kind === 'all') return 'the whole text';
+  if (extent.kind === 'by') return `what ${person(Number(extent.words[0]))} wrote`;
+  if (extent.kind === 'elems') return `part ${number} (single letters)`;
+  return `paragraph ${number}`;
+}
+
+function rights(letters) {
+  return listed([...letters].map((it) => RIGHTS[it]), 'or');
+}
+
+function capital(text) {
+  return text.charAt(0).toUpperCase() + text.slice(1);
+}
+
+// An authorization as a sentence.
+export function rule({ allows, users, rights: letters, objects }, policy) {
+  const what = listed(objects.map((it) => object(it, policy)));
+  const isNobody = !allows && users.kind === 'all';
+  const who = isNobody ? 'nobody' : people(users);
+  return `${capital(who)} ${allows || isNobody ? 'may' : 'may not'} ${rights(letters)} in ${what}.`;
+}
+
+// Why something is denied or undone: by a version, and by an authorization of it or by none.
+export function reason({ version, by }, policy) {
+  if (!by) return `No rule of version ${version} allows it.`;
+  const made = policy.made.get(by);
+  const said = made ? ` “${rule(made, policy)}”` : '';
+  return `Version ${version} of the rules denies it, by the rule that version ${by} made:${said || ' which is not here.'}`;
+}
+
+function fault(words) {
+  return FAULTS[words[0]] ?? `fault ${words.join(' ')}`;
+}
+
+// An answer to a step of this person's own, if it isn't that it was made.
+export function refusal(answer, policy) {
+  const denial = deniedBy(answer);
+  if (denial) return `This is not allowed. ${reason(denial, policy)}`;
+  if (answer === 'history full') return 'This text has had as many edits as it may, and takes no more.';
+  if (answer === 'clock end') return 'This text takes no more edits.';
+  if (answer === 'log full') return 'The rules have had as many versions as they may.';
+  if (answer === 'not administrator') return 'Only the administrator changes the rules.';
+  if (answer === 'nothing tentative') return 'Nothing waits to be confirmed.';
+  const [first, ...words] = answer.split(' ');
+  if (first === 'refused') return `The rules stay as they are: ${fault(words)}.`;
+  if (first === 'no') return 'The text has changed meanwhile.';
+  return `The peer answers “${answer}”.`;
+}
+
+const CHANGES = {
+  adduser: ([user]) => `${capital(person(Number(user)))} may take part.`,
+  deluser: ([user]) => `${capital(person(Number(user)))} may take part no more.`,
+  addobj: ([number], policy) => `${capital(object(Number(number), policy))} has a number, so that rules can name it.`,
+  delobj: ([number]) => `Part ${number} has no number any more.`,
+  addgroup: ([group]) => `There is a group ${group}.`,
+  delgroup: ([group]) => `There is no group ${group} any more.`,
+  addmember: ([group, user]) => `${capital(person(Number(user)))} is in group ${group}.`,
+  delmember: ([group, user]) => `${capital(person(Number(user)))} is in group ${group} no more.`,
+  delauth: ([place]) => `Rule ${Number(place) + 1} of the list is gone.`,
+  validate: ([name]) => `The edit ${name} is confirmed.`,
+};
+
+// What an entry changes.
+export function change({ version, op: [kind, ...words] }, policy) {
+  if (kind === 'addauth') return rule(policy.made.get(version), policy);
+  return CHANGES[kind](words, policy);
+}
+
+const EDITS = {
+  insert: (count) => `${count} ${count === 1 ? 'letter' : 'letters'} written`,
+  delete: (count) => `${count} ${count === 1 ? 'letter' : 'letters'} deleted`,
+  update: (count) => `${count} ${count === 1 ? 'letter' : 'letters'} changed`,
+};
+
+const SHOWN_LETTERS = 60;
+
+// Requests of one person that were undone for one reason.
+export function undone({ user, denial, requests }, policy) {
+  const counts = Object.keys(EDITS)
+    .map((kind) => [kind, requests.filter((it) => it.edit.kind === kind).length])
+    .filter(([, count]) => count)
+    .map(([kind, count]) => EDITS[kind](count));
+  const letters = Array.from(requests.filter((it) => it.edit.kind === 'insert').map((it) => it.edit.piece).join(''));
+  const more = letters.length > SHOWN_LETTERS ? '…' : '';
+  const what = letters.length ? ` (“${letters.slice(0, SHOWN_LETTERS).join('')}${more}”)` : '';
+  return `${capital(person(user))}: ${listed(counts)}${what}. ${reason(denial, policy)}`;
+}
