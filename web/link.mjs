@@ -59,7 +59,8 @@ export class Link {
     const ours = (action) => (event) => this.socket === socket && action(event);
     socket.addEventListener('open', ours(() => this.opened()));
     socket.addEventListener('message', ours(({ data }) => this.run(ours(() => this.take(data)))));
-    socket.addEventListener('close', ours(() => this.lost()));
+    // A socket that never opened tells of an error, and not everywhere of a close too.
+    for (const end of ['error', 'close']) socket.addEventListener(end, ours(() => this.lost()));
   }
 
   opened() {
