@@ -6,13 +6,11 @@ use Rattle.std.specs.Prelude.{map, IfErr}
 use Rattle.std.specs.List.{list_all, list_any, flat_map}
 use Rattle.std.proofs.lemmas.Bool.{and_parts}
 use Rattle.std.proofs.lemmas.List.Folds.{list_all-append}
-use Rattle.std.specs.BTreeSet.{BTreeSet, btree_set_len}
-use Rattle.element_name.specs.Name.{Name, are_distinct}
+use Rattle.element_name.specs.Name.{are_distinct}
 use Rattle.element_name.proofs.EachAfterLemmas.{EachAfter-front}
 use Rattle.coop_request.specs.History.{IsHistory, placed_of, text_order}
 use Rattle.coop_request.proofs.Histories.{IsTree-placed_of}
 use Rattle.tomb_seq.proofs.Theorems.{once_law}
-use Rattle.audit_cert.specs.Basis.{IsBasisOf}
 use Rattle.coop_request.specs.Request.{Request}
 use Rattle.policy_book.specs.Entry.{Entry}
 use Rattle.edit_message.specs.declared.message.Message.{Message}
@@ -27,7 +25,7 @@ use Rattle.peer_core.proofs.JournalLemmas.{requests_append, entries_append}
 use Rattle.audit_cert.specs.declared.fault.AuditFault.{AuditFault}
 use Rattle.audit_cert.specs.declared.fault.AuditFault.TheVariants.{BadFrame, NotJournal, Differs, NoMemory}
 use Rattle.audit_cert.specs.Certificate.{certificate_bytes}
-use Rattle.audit_cert.specs.Audit.{IsCertified, is_end_frame, messages_of_frames, IsClosed, BreaksIn, IsAuditFault, IsFaultIn, IsFaultOf, AreItems, IsTold}
+use Rattle.audit_cert.specs.Audit.{IsCertified, is_end_frame, messages_of_frames, IsClosed, BreaksIn, IsAuditFault, IsFaultIn, IsFaultOf, IsTold}
 use Rattle.audit_cert.proofs.Fronts.{one_further}
 use Rattle.audit_cert.proofs.Closings.{one_closing, not_broken}
 
@@ -164,16 +162,6 @@ fault_in frames told NoMemory is = tt
 -- no element is twice in the text order
 pub order_once : (R : List Request) → IsHistory R → are_distinct (text_order R) ≡ true
 order_once R history = once_law (placed_of R) (IsTree-placed_of R history)
-
--- what is told is the certificate, with these counts
-pub told_by : (frames : List Frame) (told : List ℕ) (log : List Entry) (names : List Name) (ids : BTreeSet Name) (requests entries : ℕ) → AreItems frames
-    → IsBasisOf (messages_of_frames frames) log names ids → requests ≡ btree_set_len ids → entries ≡ length log → told ≡ certificate_bytes (messages_of_frames frames)
-    → IsTold frames told (requests, entries)
-told_by frames told log names ids requests entries items basis few front certificate = record {
-  journal = items;
-  certificate = certificate;
-  counted = ap (λ n. (n, entries)) (few ∙ basis.count) ∙ ap (λ n. (length (requests_of (messages_of_frames frames)), n)) (front ∙ ap (λ (L : List Entry). length L) basis.entries);
-}
 
 -- ---- frames that break
 

@@ -8,7 +8,7 @@ use Rattle.std.proofs.lemmas.List.{append-nil, length-append}
 use Rattle.std.proofs.lemmas.List.Concat.{flat_map-cons}
 use Rattle.std.proofs.lemmas.List.Folds.{list_all-append, list_any-append}
 use Rattle.edit_frame.specs.declared.frame.Frame.{Frame}
-use Rattle.edit_frame.specs.declared.frame.Frame.TheVariants.{Item, Turn, End}
+use Rattle.edit_frame.specs.declared.frame.Frame.TheVariants.{End}
 use Rattle.edit_frame.specs.declared.frame.FrameKind.{FrameKind}
 use Rattle.edit_frame.specs.Spelling.{spelling}
 use Rattle.edit_frame.specs.Spells.{is_frame}
@@ -17,7 +17,7 @@ use Rattle.edit_frame.proofs.Outcomes.{no_frame}
 use Rattle.edit_frame.proofs.Frames.{frame_at_again, no_prefix}
 use Rattle.audit_cert.specs.declared.fault.AuditFault.{AuditFault}
 use Rattle.audit_cert.specs.declared.fault.AuditFault.TheVariants.{BadFrame, NotJournal, Differs, NoMemory}
-use Rattle.audit_cert.specs.Audit.{is_end_frame, StartWith, IsClosed, IsFaultAt, IsAuditFault}
+use Rattle.audit_cert.specs.Audit.{is_end_frame, StartWith, IsFaultAt, IsAuditFault}
 
 -- ---- one frame more
 
@@ -38,15 +38,6 @@ one_more bytes rest behind frames f start next formed other = record {
   formed = list_all-append is_frame frames (f ∷ []) ∙ and_from (list_all is_frame frames) (is_frame f && true) start.formed (and_from (is_frame f) true formed refl);
   before_end = list_any-append is_end_frame frames (f ∷ []) ∙ ap (λ b. b || (is_end_frame f || false)) start.before_end ∙ ap (λ b. b || false) other;
 }
-
-end_only : (f : Frame) → is_end_frame f ≡ true → f ≡ End
-end_only (Item m) h = absurd cc
-end_only Turn h = absurd cc
-end_only End h = refl
-
-pub closed_here : (bytes rest behind : List ℕ) (frames : List Frame) (f : Frame) → StartWith bytes frames rest → rest ≡ spelling f ++ behind → is_end_frame f ≡ true → IsClosed bytes frames behind
-closed_here bytes rest behind frames f start next last =
-    subst (λ (xs : List ℕ). StartWith bytes frames xs) (next ∙ ap (λ (g : Frame). spelling g ++ behind) (end_only f last)) start
 
 pub broken_here : (bytes rest : List ℕ) (frames : List Frame) (fault : AuditFault) → StartWith bytes frames rest → IsFaultAt (length bytes - length rest) rest fault → IsAuditFault bytes fault
 broken_here bytes rest frames (BadFrame fault) start at =

@@ -1,5 +1,5 @@
 -- Runs of versions with one granting authorization.
-use Rattle.std.proofs.Common.{◌≡◌, ℕ, ◌+◌, ◌-◌, ◌≤◌, Bool, true, false, List, [], ◌∷◌, None, Some, refl, ap, ◌∙◌, arith, eqb, eq-eqb}
+use Rattle.std.proofs.Common.{◌≡◌, ℕ, zero, suc, ◌+◌, ◌-◌, ◌<◌, ◌≤◌, Bool, true, false, List, [], ◌∷◌, None, Some, refl, sym, ap, ◌∙◌, arith, eqb, eq-eqb}
 use Rattle.std.specs.Prelude.{if◌then◌else◌, length, max}
 use Rattle.std.specs.declared.option.Option.{Option}
 use Rattle.std.specs.Option.{option_map_or}
@@ -9,7 +9,6 @@ use Rattle.coop_request.specs.Request.{Request, user_of}
 use Rattle.policy_book.specs.Entry.{Entry}
 use Rattle.admin_log.specs.Log.{validated_at}
 use Rattle.check_remote.specs.State.{until, judged_versions}
-use Rattle.check_remote.proofs.Walks.{range_next}
 use Rattle.audit_cert.specs.declared.grant.Grant.{Grant}
 use Rattle.audit_cert.specs.Grants.{granting_at, one_version, put_in_front, grants_over, grants_of}
 
@@ -17,7 +16,7 @@ abbrev pub grant : ℕ → ℕ → ℕ → Grant
 grant from to by = record { from = from; to = to; by = by }
 
 -- a grant in front of another by the same authorization is one with it
-pub join_one : (a b c d n : ℕ) (later : List Grant) → put_in_front (grant a b n) (put_in_front (grant c d n) later) ≡ put_in_front (grant a d n) later
+join_one : (a b c d n : ℕ) (later : List Grant) → put_in_front (grant a b n) (put_in_front (grant c d n) later) ≡ put_in_front (grant a d n) later
 join_one a b c d n [] = rw (eq-eqb n n refl) refl
 join_one a b c d n (k ∷ later) = by (eqb n k.by)
   where
@@ -26,34 +25,50 @@ join_one a b c d n (k ∷ later) = by (eqb n k.by)
     by true = rw (eq-eqb n n refl) refl
     by false = rw (eq-eqb n n refl) refl
 
--- in front of one by another it stands alone
-pub join_other : (a b c d m n : ℕ) (later : List Grant) → eqb m n ≡ false
-    → put_in_front (grant a b m) (put_in_front (grant c d n) later) ≡ grant a b m ∷ put_in_front (grant c d n) later
-join_other a b c d m n [] other = rw other refl
-join_other a b c d m n (k ∷ later) other = by (eqb n k.by)
-  where
-    by : (x : Bool) → put_in_front (grant a b m) (if x then grant c k.to n ∷ later else grant c d n ∷ k ∷ later)
-        ≡ grant a b m ∷ (if x then grant c k.to n ∷ later else grant c d n ∷ k ∷ later)
-    by true = rw other refl
-    by false = rw other refl
+-- the versions before an end are the first and those behind it
+pub range_first : (a end : ℕ) → a < end → range_with_len a (end - a) ≡ a ∷ range_with_len (a + 1) (end - (a + 1))
+range_first a end lt = let more : end - a ≡ suc (end - (a + 1)) = omega arith in ap (range_with_len a) more
+
+-- none is behind it
+pub range_none : (a end : ℕ) → end ≤ a → range_with_len a (end - a) ≡ []
+range_none a end le = let none : end - a ≡ 0 = omega arith in ap (range_with_len a) none
 
 module _ (f : ℕ → Option ℕ) where
   -- the grants from a version on that is granted
-  pub over_granted : (a b n : ℕ) → a ≤ b → f a ≡ Some n
-      → grants_over f (range_with_len a (b + 1 - a)) ≡ put_in_front (one_version a n) (grants_over f (range_with_len (a + 1) (b + 1 - (a + 1))))
-  over_granted a b n le is =
-      ap (grants_over f) (range_next a b le)
-      ∙ ap (λ o. option_map_or (λ by. put_in_front (one_version a by) (grants_over f (range_with_len (a + 1) (b + 1 - (a + 1))))) o []) is
+  over_granted : (a end n : ℕ) → a < end → f a ≡ Some n
+      → grants_over f (range_with_len a (end - a)) ≡ put_in_front (one_version a n) (grants_over f (range_with_len (a + 1) (end - (a + 1))))
+  over_granted a end n lt is =
+      ap (grants_over f) (range_first a end lt)
+      ∙ ap (λ o. option_map_or (λ by. put_in_front (one_version a by) (grants_over f (range_with_len (a + 1) (end - (a + 1))))) o []) is
 
   -- from one on that isn't
-  pub over_denied : (a b : ℕ) → a ≤ b → f a ≡ None → grants_over f (range_with_len a (b + 1 - a)) ≡ []
-  over_denied a b le is =
-      ap (grants_over f) (range_next a b le)
-      ∙ ap (λ o. option_map_or (λ by. put_in_front (one_version a by) (grants_over f (range_with_len (a + 1) (b + 1 - (a + 1))))) o []) is
+  pub over_denied : (a end : ℕ) → a < end → f a ≡ None → grants_over f (range_with_len a (end - a)) ≡ []
+  over_denied a end lt is =
+      ap (grants_over f) (range_first a end lt)
+      ∙ ap (λ o. option_map_or (λ by. put_in_front (one_version a by) (grants_over f (range_with_len (a + 1) (end - (a + 1))))) o []) is
 
-  -- and behind the last
-  pub over_end : (v b : ℕ) → v ≡ b → grants_over f (range_with_len (v + 1) (b + 1 - (v + 1))) ≡ []
-  over_end v b end = let none : b + 1 - (v + 1) ≡ 0 = omega arith in ap (λ n. grants_over f (range_with_len (v + 1) n)) none
+  -- behind the last
+  pub over_none : (a end : ℕ) → end ≤ a → grants_over f (range_with_len a (end - a)) ≡ []
+  over_none a end le = ap (grants_over f) (range_none a end le)
+
+  run : (n a next end k : ℕ) → next ≡ a + n + 1 → next ≤ end → ((v : ℕ) → a ≤ v → v < next → f v ≡ Some k)
+      → put_in_front (grant a (next - 1) k) (grants_over f (range_with_len next (end - next))) ≡ grants_over f (range_with_len a (end - a))
+  run zero a next end k is le granted =
+      let one : next ≡ a + 1 = omega (arith, is) in
+      let to : next - 1 ≡ a = omega (arith, is) in
+      ap (λ t. put_in_front (grant a t k) (grants_over f (range_with_len next (end - next)))) to
+      ∙ ap (λ m. put_in_front (one_version a k) (grants_over f (range_with_len m (end - m)))) one
+      ∙ sym (over_granted a end k (omega (arith, is, le)) (granted a (omega arith) (omega (arith, is))))
+  run (suc n) a next end k is le granted =
+      let more : next ≡ a + 1 + n + 1 = omega (arith, is) in
+      sym (join_one a a (a + 1) (next - 1) k (grants_over f (range_with_len next (end - next))))
+      ∙ ap (put_in_front (one_version a k)) (run n (a + 1) next end k more le (λ v low high. granted v (omega (arith, low)) high))
+      ∙ sym (over_granted a end k (omega (arith, is, le)) (granted a (omega arith) (omega (arith, is))))
+
+  -- from one on that is granted, as all up to another are by the same authorization
+  pub over_run : (a next end k : ℕ) → a < next → next ≤ end → ((v : ℕ) → a ≤ v → v < next → f v ≡ Some k)
+      → put_in_front (grant a (next - 1) k) (grants_over f (range_with_len next (end - next))) ≡ grants_over f (range_with_len a (end - a))
+  over_run a next end k lt le granted = run (next - (a + 1)) a next end k (omega (arith, lt)) le granted
 
 -- a request that carries a version of the log is judged at that one at least
 pub until_from : (log : List Entry) (q : Request) → q.version ≤ length log → q.version ≤ until log q
@@ -68,4 +83,4 @@ pub none_granted : (names : List Name) (log : List Entry) (q : Request) → q.ve
     → granting_at names log q q.version ≡ None → grants_of names log q ≡ []
 none_granted names log q carried other none =
     ap (λ b. if b then [] else grants_over (granting_at names log q) (judged_versions log q)) other
-    ∙ over_denied (granting_at names log q) q.version (until log q) (until_from log q carried) none
+    ∙ over_denied (granting_at names log q) q.version (until log q + 1) (let le = until_from log q carried in omega (arith, le)) none

@@ -1,5 +1,6 @@
 pub mod GrantRuns
 pub mod Rematches
+pub mod RematchTables
 pub mod NextMessages
 pub mod AnchoredTrees
 pub mod Followings

@@ -102,16 +102,6 @@ within_more J m within follows formed few =
       entries = entries_within (J ++ m ∷ []) journal all;
     }
 
-pub none_read : (log : List Entry) (names : List Name) (ids : BTreeSet Name) → log ≡ [] → names ≡ [] → ((n : Name) → contains name_cmp ids n ≡ false) → btree_set_len ids ≡ 0
-    → IsBasisOf [] log names ids
-none_read log names ids no_log no_names none size = record {
-  within = record { journal_is = tt; formed = refl; requests = omega arith; entries = omega arith };
-  entries = no_log;
-  elements = no_names;
-  known = none;
-  count = size;
-}
-
 module _ (J : List Message) (log : List Entry) (names : List Name) (ids : BTreeSet Name) (basis : IsBasisOf J log names ids) where
   names_known : (n : Name) → has_name names n ≡ has_name (elements_of (requests_of J)) n
   names_known n = ap (λ (names : List Name). has_name names n) basis.elements ∙ has_order (requests_of J) n (known_law J basis.within.journal_is).history

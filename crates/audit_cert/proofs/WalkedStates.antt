@@ -1,8 +1,9 @@
--- The state of a request by a walk through the versions at which it is judged.
-use Rattle.std.proofs.Common.{◌≡◌, ℕ, ◌+◌, ◌-◌, ◌≤◌, List, None, Some, refl, sym, ap, ◌∙◌}
+-- The state of a request by a walk along the versions at which the verdict may change.
+use Rattle.std.proofs.Common.{◌≡◌, ℕ, zero, suc, ◌+◌, ◌-◌, ◌<◌, ◌≤◌, List, None, refl, sym, ap, ◌∙◌, arith}
 use Rattle.std.specs.Prelude.{map}
 use Rattle.std.specs.List.{range_with_len}
 use Rattle.std.specs.declared.option.Option.{Option}
+use Rattle.std.specs.Option.{option_or}
 use Rattle.element_name.specs.Cases.{first_of}
 use Rattle.element_name.specs.Name.{Name}
 use Rattle.coop_request.specs.Request.{Request}
@@ -11,31 +12,48 @@ use Rattle.auth_match.specs.declared.verdict.Verdict.{Verdict}
 use Rattle.auth_match.specs.declared.verdict.Verdict.TheVariants.{Granted, Denied}
 use Rattle.admin_log.specs.Log.{validated_at}
 use Rattle.request_state.specs.declared.state.State.TheVariants.{Invalid}
-use Rattle.check_remote.specs.declared.denial.Denial.{Denial}
-use Rattle.check_remote.specs.State.{until, verdict_at, denial_by, denial_at, first_denial, state_by, state_of}
-use Rattle.check_remote.proofs.Walks.{first_here, first_alone}
+use Rattle.check_remote.specs.State.{verdict_at, denial_by, denial_at, first_denial, state_by, state_of}
+use Rattle.audit_cert.proofs.GrantRuns.{range_first, range_none}
 
 -- a verdict that denies nothing is none
 pub no_denial : (v : ℕ) (w : Verdict) → ((by : Option ℕ) → w ≡ Denied by → ⊥) → denial_by v w ≡ None
 no_denial v Granted other = refl
 no_denial v (Denied by) other = absurd (other by refl)
 
-module _ (names : List Name) (log : List Entry) (q : Request) where
-  -- a version that denies, behind those that grant, decides
-  pub denied_here : (v : ℕ) (by : Option ℕ) → v ≤ until log q → verdict_at names log q v ≡ Denied by
-      → first_denial names log q ≡ first_of (map (denial_at names log q) (range_with_len v (until log q + 1 - v)))
-      → state_of names log q ≡ Invalid v by
-  denied_here v by le denied left =
-      let denial : Denial = record { at = v; by = by } in
-      let here : denial_at names log q v ≡ Some denial = ap (denial_by v) denied in
-      ap (λ d. state_by d (validated_at log q.id)) (left ∙ first_here (denial_at names log q) v (until log q) denial le here)
+module _ {A : Type 0} (f : ℕ → Option A) where
+  first_at : (a end : ℕ) → a < end → first_of (map f (range_with_len a (end - a))) ≡ option_or (f a) (first_of (map f (range_with_len (a + 1) (end - (a + 1)))))
+  first_at a end lt = ap (λ vs. first_of (map f vs)) (range_first a end lt)
 
-  -- the last one decides where those before it grant
-  pub last_decides : (v last : ℕ) (verdict : Verdict) → last ≡ until log q → v ≡ last → verdict ≡ verdict_at names log q v
-      → first_denial names log q ≡ first_of (map (denial_at names log q) (range_with_len v (until log q + 1 - v)))
-      → state_by (denial_by last verdict) (validated_at log q.id) ≡ state_of names log q
-  last_decides v last verdict is at says left =
-      let end : v ≡ until log q = at ∙ is in
-      let first : first_denial names log q ≡ denial_at names log q v =
-      left ∙ ap (λ u. first_of (map (denial_at names log q) (range_with_len v (u + 1 - v)))) (sym end) ∙ first_alone (denial_at names log q) v in
-      ap (λ d. state_by d (validated_at log q.id)) (ap (λ n. denial_by n verdict) (sym at) ∙ ap (denial_by v) says ∙ sym first)
+  passed : (n a next end : ℕ) → next ≡ a + n → next ≤ end → ((v : ℕ) → a ≤ v → v < next → f v ≡ None)
+      → first_of (map f (range_with_len a (end - a))) ≡ first_of (map f (range_with_len next (end - next)))
+  passed zero a next end is le none =
+      let same : a ≡ next = omega (arith, is) in
+      ap (λ m. first_of (map f (range_with_len m (end - m)))) same
+  passed (suc n) a next end is le none =
+      let more : next ≡ a + 1 + n = omega (arith, is) in
+      first_at a end (omega (arith, is, le))
+      ∙ ap (λ row. option_or row (first_of (map f (range_with_len (a + 1) (end - (a + 1)))))) (none a (omega arith) (omega (arith, is)))
+      ∙ passed n (a + 1) next end more le (λ v low high. none v (omega (arith, low)) high)
+
+  -- versions that hold nothing may be passed
+  pub first_behind : (a next end : ℕ) → a ≤ next → next ≤ end → ((v : ℕ) → a ≤ v → v < next → f v ≡ None)
+      → first_of (map f (range_with_len a (end - a))) ≡ first_of (map f (range_with_len next (end - next)))
+  first_behind a next end low le none = passed (next - a) a next end (omega (arith, low)) le none
+
+-- the first verdict decides where all that are left say the same
+pub same_decides : (names : List Name) (log : List Entry) (q : Request) (a end : ℕ) (w : Verdict) → a < end → ((v : ℕ) → a ≤ v → v < end → verdict_at names log q v ≡ w)
+    → denial_by a w ≡ first_of (map (denial_at names log q) (range_with_len a (end - a)))
+same_decides names log q a end Granted lt same =
+    let f = denial_at names log q in
+    sym (first_behind f a end end (omega (arith, lt)) (omega arith) (λ v low high. ap (denial_by v) (same v low high)) ∙ ap (λ vs. first_of (map f vs)) (range_none end end (omega arith)))
+same_decides names log q a end (Denied by) lt same =
+    let f = denial_at names log q in
+    sym (first_at f a end lt ∙ ap (λ row. option_or row (first_of (map f (range_with_len (a + 1) (end - (a + 1)))))) (ap (denial_by a) (same a (omega arith) lt)))
+
+-- a version that denies, behind those that grant, decides
+pub denied_here : (names : List Name) (log : List Entry) (q : Request) (a end : ℕ) (by : Option ℕ) → a < end → verdict_at names log q a ≡ Denied by
+    → first_denial names log q ≡ first_of (map (denial_at names log q) (range_with_len a (end - a))) → Invalid a by ≡ state_of names log q
+denied_here names log q a end by lt denied left =
+    let f = denial_at names log q in
+    let first = left ∙ first_at f a end lt ∙ ap (λ row. option_or row (first_of (map f (range_with_len (a + 1) (end - (a + 1)))))) (ap (denial_by a) denied) in
+    sym (ap (λ d. state_by d (validated_at log q.id)) first)

@@ -11,6 +11,7 @@ use crate::fault::AuditFault;
 use crate::lines::{put_counts, put_elements, put_frames};
 use crate::opening::open;
 use crate::ranks::Ranks;
+use crate::rematch::RematchTable;
 use edit_frame::Frame;
 use element_name::NoMemory;
 use std::alloc::Global;
@@ -52,7 +53,8 @@ fn due_certificate(
     let mut due = Vec::new(alloc);
     put_counts(&mut due, ids.len() as u64, u64::from(log.len()))?;
     put_elements(&mut due, places.names())?;
-    put_frames(alloc, &mut due, log, &places, frames)?;
+    let table = RematchTable::of(alloc, log)?;
+    put_frames(alloc, &mut due, log, &table, &places, frames)?;
     Ok(due)
 }
 
@@ -75,9 +77,9 @@ fn check(alloc: Global, frames: &[Frame], told: &[u8]) -> Result<(u32, u32), Aud
 ///
 /// Nothing that is told is taken on trust: the journal is read, the text order and each state are found anew, and what is
 /// told is compared with what is due. Takes time n log n in the number of messages, and for each request in the number of
-/// versions at which it is judged, at those whose entry isn't on other users alone also in their policy's authorizations,
-/// both of them twice; and memory for the frames, the names of the requests, the elements, the log, a policy, and the
-/// certificate.
+/// versions at which it is judged and whose entry isn't on other users alone, and at these in their policy's authorizations;
+/// and memory for the frames, the names of the requests, the elements, the log, a policy, 8 bytes for each user that an
+/// entry lists, and the certificate.
 ///
 /// Of other bytes the first fault is told: a frame that is none, then frames that are no journal, and then a line that
 /// isn't that of the certificate. Fails also where memory is wanting.

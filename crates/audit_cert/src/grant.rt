@@ -1,18 +1,19 @@
 //! The grants of a request over the versions at which it is judged.
-ghost use Rattle.std.specs.Prelude.{◌≡◌, ◌≤◌, ◌+◌, ◌-◌, ◌++◌, true, Some, List, length, IfOk, OnOk};
+ghost use Rattle.std.specs.Prelude.{◌≡◌, ◌≤◌, ◌<◌, ◌+◌, ◌-◌, ◌++◌, true, Some, List, length, IfOk, OnOk};
 ghost use Rattle.std.specs.List.{range_with_len};
 ghost use Rattle.element_name.specs.Name.{has_name};
 ghost use Rattle.coop_request.specs.Request.{element_of};
 ghost use Rattle.admin_log.specs.Log.{policy_at};
 ghost use Rattle.check_remote.specs.State.{until};
 ghost use Rattle.audit_cert.specs.declared.grant.Grant.{Grant};
-ghost use Rattle.audit_cert.specs.Grants.{granting_at, one_version, put_in_front, grants_over, grants_of};
+ghost use Rattle.audit_cert.specs.Grants.{granting_at, put_in_front, grants_over, grants_of};
+ghost use Rattle.audit_cert.specs.Rematches.{IsRematchTable};
 
 use crate::granting::granting_auth;
-use crate::rematch::may_rematch_at;
+use crate::rematch::RematchTable;
 use admin_log::AdminLog;
 use coop_request::Request;
-use element_name::{NoMemory, Places};
+use element_name::{MAX_VERSION, NoMemory, Places};
 use policy_book::Policy;
 use std::alloc::Global;
 
@@ -24,75 +25,75 @@ pub(crate) struct Grant {
     pub(crate) by: u32,
 }
 
-// One more version goes to the current grant, or begins the next one.
-fn go_on(
-    grants: &mut Vec<Grant>,
-    current: &mut Grant,
-    version: u32,
-    by: u32,
-) -> Result<(), NoMemory>
-    ensures grants { OnOk result ((later : List Grant) → grants.new.items ++ put_in_front current.new later
-        ≡ grants.old.items ++ put_in_front current.old (put_in_front (one_version version by) later)) }
-    ensures by { OnOk result (current.new.by ≡ by) }
+// One more run goes to the current grant, or is the next one.
+fn go_on(grants: &mut Vec<Grant>, current: &mut Grant, run: Grant) -> Result<(), NoMemory>
+    ensures { OnOk result ((later : List Grant) → grants.new.items ++ put_in_front current.new later
+        ≡ grants.old.items ++ put_in_front current.old (put_in_front run later)) }
 {
-    if by == current.by {
-        current.to = version;
+    if run.by == current.by {
+        current.to = run.to;
         return Ok(());
     }
     grants.push(*current)?;
-    *current = Grant {
-        from: version,
-        to: version,
-        by,
-    };
+    *current = run;
     Ok(())
 }
 
-// The grants of the versions from the first of the current grant, which has that one alone, up to `last`.
+// The grants of the versions from `first`, at which the authorization of the number `by` grants, up to the one before `end`.
 fn grants_from<P: Places>(
     alloc: Global,
     log: &AdminLog,
+    table: &RematchTable,
     request: Request,
-    last: u32,
+    first: u32,
+    end: u32,
     mut policy: Policy,
-    mut current: Grant,
+    by: u32,
     places: &P,
 ) -> Result<Vec<Grant>, NoMemory>
-    requires one { current.from ≡ current.to }
-    requires rising { current.from ≤ last }
-    requires within { last ≤ length log.now }
-    requires policy { policy ≡ policy_at log.now current.from }
-    requires granted { granting_at (P.names places.now) log.now request current.from ≡ Some current.by }
+    requires table { IsRematchTable log.now table.now }
+    requires rising { first < end }
+    requires within { end ≤ length log.now + 1 }
+    requires policy { policy ≡ policy_at log.now first }
+    requires granted { granting_at (P.names places.now) log.now request first ≡ Some by }
     requires element { has_name (P.names places.now) (element_of request) ≡ true }
-    ensures { IfOk result (λ grants. grants.items ≡ grants_over (granting_at (P.names places.now) log.now request) (range_with_len current.from (last + 1 - current.from))) }
+    ensures { IfOk result (λ grants. grants.items ≡ grants_over (granting_at (P.names places.now) log.now request) (range_with_len first (end - first))) }
 {
     let mut grants = Vec::new(alloc);
     // The version of the policy.
-    let mut at = current.from;
-    for version in current.from..last {
-        let next = version + 1;
-        if !may_rematch_at(log, next, request.user()) {
-            current.to = next;
-            continue;
-        }
+    let mut at = first;
+    let mut next = table.next(request.user(), at + 1, end);
+    let mut current = Grant {
+        from: first,
+        to: next - 1,
+        by,
+    };
+    while next < end {
         log.advance(&mut policy, at, next)?;
         at = next;
         let Some(by) = granting_auth(places, &policy, request) else {
             grants.push(current)?;
             return Ok(grants);
         };
-        go_on(&mut grants, &mut current, next, by)?;
+        next = table.next(request.user(), at + 1, end);
+        let run = Grant {
+            from: at,
+            to: next - 1,
+            by,
+        };
+        go_on(&mut grants, &mut current, run)?;
     }
     grants.push(current)?;
     Ok(grants)
 }
 
-/// The last version at which the request is judged.
-pub(crate) fn until(log: &AdminLog, request: Request) -> u32
+// The last version at which the request is judged.
+fn until(log: &AdminLog, request: Request) -> u32
     requires { request.version ≤ length log.now }
     ensures value { result ≡ until log.now request }
     ensures rising { request.version ≤ result }
     ensures within { result ≤ length log.now }
+    ensures few { result ≤ MAX_VERSION }
 {
     let front = log.len();
     match log.validated(request.id()) {
@@ -101,16 +102,29 @@ pub(crate) fn until(log: &AdminLog, request: Request) -> u32
     }
 }
 
+/// The version behind it.
+pub(crate) fn range_end(log: &AdminLog, request: Request) -> u32
+    requires { request.version ≤ length log.now }
+    ensures value { result ≡ until log.now request + 1 }
+    ensures rising { request.version < result }
+    ensures within { result ≤ length log.now + 1 }
+{
+    until(log, request) + 1
+}
+
 /// The grants of a request, ascending.
 ///
-/// Takes a policy and 12 bytes a grant, and time in the versions at which the request is judged, at those where another
-/// authorization may match first also that of their policy's authorizations. Fails where memory is wanting.
+/// Takes a policy and 12 bytes a grant, and time in the versions of its range at which another authorization may match
+/// first, for each that of its way from the one before, of its policy's authorizations and of a look-up in the table. Fails
+/// where memory is wanting.
 pub(crate) fn grants_of<P: Places>(
     alloc: Global,
     log: &AdminLog,
+    table: &RematchTable,
     request: Request,
     places: &P,
 ) -> Result<Vec<Grant>, NoMemory>
+    requires table { IsRematchTable log.now table.now }
     requires carried { request.version ≤ length log.now }
     requires element { has_name (P.names places.now) (element_of request) ≡ true }
     ensures { IfOk result (λ grants. grants.items ≡ grants_of (P.names places.now) log.now request) }
@@ -123,18 +137,15 @@ pub(crate) fn grants_of<P: Places>(
     let Some(by) = granting_auth(places, &policy, request) else {
         return Ok(Vec::new(alloc));
     };
-    let current = Grant {
-        from: first,
-        to: first,
-        by,
-    };
     grants_from(
         alloc,
         log,
+        table,
         request,
-        until(log, request),
+        first,
+        range_end(log, request),
         policy,
-        current,
+        by,
         places,
     )
 }

@@ -5,18 +5,18 @@ ghost use Rattle.std.specs.Prelude.{◌≡◌, ◌≤◌, ◌++◌, ◌∷◌, t
 ghost use Rattle.std.specs.List.{concat, flat_map, list_all};
 ghost use Rattle.element_name.specs.Name.{has_name};
 ghost use Rattle.coop_request.specs.Request.{element_of};
-ghost use Rattle.check_remote.specs.State.{state_of};
 ghost use Rattle.line_engine.specs.Output.{line_of};
 ghost use Rattle.step_spelling.specs.Values.{spaced, name_text};
 ghost use Rattle.step_spelling.specs.Answers.{state_words};
 ghost use Rattle.audit_cert.specs.Audit.{messages_of_frames};
 ghost use Rattle.audit_cert.specs.Basis.{may_be_judged, message_bytes};
 ghost use Rattle.audit_cert.specs.Certificate.{counts_line, element_line, grant_line, request_lines};
+ghost use Rattle.audit_cert.specs.Rematches.{IsRematchTable};
 
 use crate::grant::{Grant, grants_of};
+use crate::rematch::RematchTable;
 use crate::walk::state_of;
 use admin_log::AdminLog;
-use check_remote::check_remote;
 use coop_request::Request;
 use edit_frame::Frame;
 use edit_message::Message;
@@ -83,22 +83,23 @@ fn put_state_line(out: &mut Vec<u8>, name: Name, state: State) -> Result<(), NoM
     put(out, b"\n")
 }
 
-// Appends the lines of one request, whose state this is.
+// Appends the lines of one request.
 fn put_request<P: Places>(
     alloc: Global,
     out: &mut Vec<u8>,
     log: &AdminLog,
+    table: &RematchTable,
     places: &P,
     request: Request,
-    state: State,
 ) -> Result<(), NoMemory>
-    requires state { state ≡ state_of (P.names places.now) log.now request }
+    requires table { IsRematchTable log.now table.now }
     requires carried { request.version ≤ length log.now }
     requires element { has_name (P.names places.now) (element_of request) ≡ true }
     ensures { OnOk result (out.new.items ≡ out.old.items ++ concat (request_lines (P.names places.now) log.now request)) }
 {
+    let state = state_of(log, table, request, places)?;
     put_state_line(out, request.id(), state)?;
-    let grants = grants_of(alloc, log, request, places)?;
+    let grants = grants_of(alloc, log, table, request, places)?;
     put_grants(out, &grants)
 }
 
@@ -107,17 +108,16 @@ fn put_message<P: Places>(
     alloc: Global,
     out: &mut Vec<u8>,
     log: &AdminLog,
+    table: &RematchTable,
     places: &P,
     message: &JournalItem<'_>,
 ) -> Result<(), NoMemory>
-    requires { may_be_judged (P.names places.now) (length log.now) message.now ≡ true }
+    requires table { IsRematchTable log.now table.now }
+    requires judged { may_be_judged (P.names places.now) (length log.now) message.now ≡ true }
     ensures { OnOk result (out.new.items ≡ out.old.items ++ message_bytes (P.names places.now) log.now message.now) }
 {
     match message.copied()? {
-        Message::Coop(request) => {
-            let state = check_remote(log, request, places)?;
-            put_request(alloc, out, log, places, request, state)
-        }
+        Message::Coop(request) => put_request(alloc, out, log, table, places, request),
         Message::Admin(_) => Ok(()),
     }
 }
@@ -127,33 +127,36 @@ pub(crate) fn put_requests<P: Places>(
     alloc: Global,
     out: &mut Vec<u8>,
     log: &AdminLog,
+    table: &RematchTable,
     places: &P,
     journal: &[JournalItem<'_>],
 ) -> Result<(), NoMemory>
-    requires { IsTrue (list_all (may_be_judged (P.names places.now) (length log.now)) journal.now) }
+    requires table { IsRematchTable log.now table.now }
+    requires judged { IsTrue (list_all (may_be_judged (P.names places.now) (length log.now)) journal.now) }
     ensures { OnOk result (out.new.items ≡ out.old.items ++ flat_map (message_bytes (P.names places.now) log.now) journal.now) }
 {
     for message in journal {
-        put_message(alloc, out, log, places, message)?;
+        put_message(alloc, out, log, table, places, message)?;
     }
     Ok(())
 }
 
-// Appends the lines of a frame, which are those of its request, if it has one; the state is found by each version.
+// Appends the lines of a frame, which are those of its request, if it has one.
 fn put_frame<P: Places>(
     alloc: Global,
     out: &mut Vec<u8>,
     log: &AdminLog,
+    table: &RematchTable,
     places: &P,
     frame: &Frame,
 ) -> Result<(), NoMemory>
-    requires { IsTrue (list_all (may_be_judged (P.names places.now) (length log.now)) (messages_of_frames (frame.now ∷ []))) }
+    requires table { IsRematchTable log.now table.now }
+    requires judged { IsTrue (list_all (may_be_judged (P.names places.now) (length log.now)) (messages_of_frames (frame.now ∷ []))) }
     ensures { OnOk result (out.new.items ≡ out.old.items ++ flat_map (message_bytes (P.names places.now) log.now) (messages_of_frames (frame.now ∷ []))) }
 {
     match frame {
         Frame::Item(Message::Coop(request)) => {
-            let state = state_of(log, *request, places)?;
-            put_request(alloc, out, log, places, *request, state)
+            put_request(alloc, out, log, table, places, *request)
         }
         Frame::Item(Message::Admin(_)) | Frame::Turn | Frame::End => Ok(()),
     }
@@ -164,14 +167,16 @@ pub(crate) fn put_frames<P: Places>(
     alloc: Global,
     out: &mut Vec<u8>,
     log: &AdminLog,
+    table: &RematchTable,
     places: &P,
     frames: &[Frame],
 ) -> Result<(), NoMemory>
-    requires { IsTrue (list_all (may_be_judged (P.names places.now) (length log.now)) (messages_of_frames frames.now)) }
+    requires table { IsRematchTable log.now table.now }
+    requires judged { IsTrue (list_all (may_be_judged (P.names places.now) (length log.now)) (messages_of_frames frames.now)) }
     ensures { OnOk result (out.new.items ≡ out.old.items ++ flat_map (message_bytes (P.names places.now) log.now) (messages_of_frames frames.now)) }
 {
     for frame in frames {
-        put_frame(alloc, out, log, places, frame)?;
+        put_frame(alloc, out, log, table, places, frame)?;
     }
     Ok(())
 }

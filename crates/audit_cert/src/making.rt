@@ -9,6 +9,7 @@ ghost use Rattle.audit_cert.specs.Journals.{IsFailOf};
 use crate::basis::Basis;
 use crate::fail::CertFail;
 use crate::lines::{put_counts, put_elements, put_requests};
+use crate::rematch::RematchTable;
 use element_name::NoMemory;
 use peer_core::JournalItem;
 use std::alloc::Global;
@@ -31,16 +32,25 @@ fn certificate_of(
     )?;
     let names = basis.elements.names()?;
     put_elements(&mut lines, &names)?;
-    put_requests(alloc, &mut lines, &basis.log, &basis.elements, journal)?;
+    let table = RematchTable::of(alloc, &basis.log)?;
+    put_requests(
+        alloc,
+        &mut lines,
+        &basis.log,
+        &table,
+        &basis.elements,
+        journal,
+    )?;
     Ok(lines)
 }
 
 /// Appends the certificate of a journal.
 ///
 /// The messages are those that a peer gives of its journal, whose entries are lent: one at a time is copied. Takes time
-/// in the number of messages, for each request also in the number of versions at which it is judged, at those whose entry
-/// isn't on other users alone also in their policy's authorizations, and in the certificate's length; and memory for the
-/// names of the requests, the elements, the log, a policy, and twice the certificate.
+/// n log n in the number of messages, for each request also in the number of versions at which it is judged and whose entry
+/// isn't on other users alone, at these also in their policy's authorizations, and in the certificate's length; and memory
+/// for the names of the requests, the elements, the log, a policy, 8 bytes for each user that an entry lists, and twice the
+/// certificate.
 ///
 /// Fails with the number of the first message with which they are no journal, or one above its limits, and where memory
 /// is wanting.

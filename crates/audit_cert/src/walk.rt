@@ -1,20 +1,20 @@
-//! The state of a request, by the policy of each version.
+//! The state of a request, by the policies of the versions at which another authorization may match first.
 ghost use Rattle.std.specs.Prelude.{◌≡◌, ◌≤◌, true, length, IfOk};
 ghost use Rattle.element_name.specs.Name.{has_name};
 ghost use Rattle.coop_request.specs.Request.{element_of};
 ghost use Rattle.admin_log.specs.Log.{validated_at};
 ghost use Rattle.check_remote.specs.State.{denial_by, state_by, state_of};
+ghost use Rattle.audit_cert.specs.Rematches.{IsRematchTable};
 
-use crate::grant::until;
-use crate::rematch::may_rematch_at;
+use crate::grant::range_end;
+use crate::rematch::RematchTable;
 use admin_log::AdminLog;
 use auth_match::{Verdict, request_verdict};
 use coop_request::Request;
 use element_name::{NoMemory, Places};
-use policy_book::Policy;
 use request_state::State;
 
-// The state of a request that was granted before this version, which is the last.
+// The state of a request by the verdict of a version, where those before it grant, and those behind it say the same.
 fn state_by(log: &AdminLog, request: Request, version: u32, verdict: Verdict) -> State
     ensures { result ≡ state_by (denial_by version verdict) (validated_at log.now request.id) }
 {
@@ -25,34 +25,38 @@ fn state_by(log: &AdminLog, request: Request, version: u32, verdict: Verdict) ->
     }
 }
 
-/// The state of a request, by the verdict of each version at which it is judged, up to the first that denies.
+/// The state of a request, by the verdict of the version that it carries and of each at which another authorization may
+/// match first, up to the first that denies.
 ///
-/// Takes a policy, and time in these versions, at those where another authorization may match first also that of their
-/// policy's authorizations. Fails where memory is wanting.
+/// Takes a policy, and time in these versions, for each that of its way from the one before, of its policy's authorizations
+/// and of a look-up in the table. Fails where memory is wanting.
 pub(crate) fn state_of<P: Places>(
     log: &AdminLog,
+    table: &RematchTable,
     request: Request,
     places: &P,
 ) -> Result<State, NoMemory>
+    requires table { IsRematchTable log.now table.now }
     requires carried { request.version ≤ length log.now }
     requires element { has_name (P.names places.now) (element_of request) ≡ true }
     ensures { IfOk result (λ state. state ≡ state_of (P.names places.now) log.now request) }
 {
-    let last = until(log, request);
-    // The version of the policy.
     let mut at = request.version();
+    if request.user() == 0 {
+        return Ok(state_by(log, request, at, Verdict::Granted));
+    }
+    let end = range_end(log, request);
     let mut policy = log.policy_at(at)?;
     let mut verdict = request_verdict(&policy, request, places);
-    for version in request.version()..last {
+    let mut next = table.next(request.user(), at + 1, end);
+    while next < end {
         if let Verdict::Denied { by } = verdict {
-            return Ok(State::Invalid { at: version, by });
+            return Ok(State::Invalid { at, by });
         }
-        let next = version + 1;
-        if may_rematch_at(log, next, request.user()) {
-            log.advance(&mut policy, at, next)?;
-            at = next;
-            verdict = request_verdict(&policy, request, places);
-        }
+        log.advance(&mut policy, at, next)?;
+        at = next;
+        verdict = request_verdict(&policy, request, places);
+        next = table.next(request.user(), at + 1, end);
     }
-    Ok(state_by(log, request, last, verdict))
+    Ok(state_by(log, request, at, verdict))
 }

@@ -1,6 +1,6 @@
 -- The answer to bytes is the one that their parts call for.
-use Rattle.std.proofs.Common.{◌≡◌, ◌≢◌, ℕ, ◌+◌, ◌-◌, Bool, true, false, ◌||◌, List, [], ◌∷◌, ◌++◌, length, Option, Some, None, Result, Ok, Err, refl, sym, ap, subst, ◌∙◌, append_assoc, arith, length-append}
-use Rattle.std.specs.Prelude.{◌&&◌, map, unwrap_or, if◌then◌else◌}
+use Rattle.std.proofs.Common.{◌≡◌, ◌≢◌, ℕ, ◌-◌, Bool, true, false, ◌||◌, List, [], ◌∷◌, ◌++◌, length, Option, Some, None, Result, Ok, Err, refl, sym, ap, subst, ◌∙◌, append_assoc, arith, length-append}
+use Rattle.std.specs.Prelude.{map, unwrap_or, if◌then◌else◌}
 use Rattle.std.specs.Option.{option_map_or}
 use Rattle.std.specs.Str.{bytes_eq}
 use Rattle.std.specs.List.{flat_map, list_all, list_any}
@@ -20,7 +20,7 @@ use Rattle.edit_frame.specs.declared.frame.FrameKind.{FrameKind}
 use Rattle.edit_frame.specs.declared.frame.FrameKind.TheVariants.{Truncated}
 use Rattle.edit_frame.specs.Spelling.{spelling}
 use Rattle.edit_frame.specs.Spells.{is_frame, IsBytes}
-use Rattle.edit_frame.specs.Reading.{frame_at, Stream, stream_with, stream, rest_fault}
+use Rattle.edit_frame.specs.Reading.{frame_at, Stream, stream, rest_fault}
 use Rattle.edit_frame.proofs.Outcomes.{bad, same_kind}
 use Rattle.edit_frame.proofs.Streams.{nothing_waits, stream_spelled, stream_rest}
 use Rattle.feed_form.proofs.Streams.{stream_none}
@@ -28,7 +28,7 @@ use Rattle.peer_core.specs.Sound.{IsWithin}
 use Rattle.audit_cert.specs.declared.fault.AuditFault.{AuditFault}
 use Rattle.audit_cert.specs.declared.fault.AuditFault.TheVariants.{BadFrame, NotJournal, Differs, NoMemory}
 use Rattle.audit_cert.specs.Certificate.{certificate_bytes}
-use Rattle.audit_cert.specs.Audit.{IsCertified, is_end_frame, messages_of_frames, StartWith, IsClosed, IsBroken, IsNoJournal, DiffersAt, IsAuditFault, IsTold, AreItems, differing_line}
+use Rattle.audit_cert.specs.Audit.{IsCertified, is_end_frame, messages_of_frames, IsClosed, IsBroken, IsAuditFault, AreItems, differing_line}
 use Rattle.audit_cert.proofs.Audits.{messages_items, certified_by}
 use Rattle.certificate_form.specs.Certify.{certified_bytes}
 use Rattle.certificate_form.specs.Answer.{breaking_frame, certificate_answer, frames_answer, front_of, told_behind, broken_at, stream_answer, audit_answer}

@@ -1,7 +1,6 @@
 -- How the form that certifies a journal goes from one state to the next, and how it ends.
-use Rattle.std.proofs.Common.{◌≡◌, ℕ, suc, ◌+◌, ◌<◌, Bool, true, false, List, [], ◌∷◌, ◌++◌, length, take, drop, Some, Result, Ok, Err, refl, sym, ap, subst, ◌∙◌, append_assoc, arith}
+use Rattle.std.proofs.Common.{◌≡◌, ℕ, suc, ◌+◌, ◌<◌, true, false, List, [], ◌∷◌, ◌++◌, length, take, Some, Result, Ok, Err, refl, sym, ap, subst, ◌∙◌, append_assoc, arith}
 use Rattle.std.specs.Prelude.{slice_get, OnOk}
-use Rattle.std.proofs.Math.ListN.{take-append-drop}
 use Rattle.std.proofs.Math.Seq.{take-suc}
 use Rattle.std.proofs.lemmas.Option.{slice_get_within, get_or_from_slice_get}
 use Rattle.line_engine.specs.declared.status.Status.{Status}
@@ -18,14 +17,11 @@ use Rattle.edit_message.specs.declared.message.Message.{Message}
 use Rattle.edit_frame.specs.declared.frame.Frame.TheVariants.{End}
 use Rattle.edit_frame.specs.Spelling.{spelling}
 use Rattle.peer_core.specs.Peer.{Peer}
-use Rattle.peer_core.specs.Sound.{IsWithin}
 use Rattle.audit_cert.specs.Certificate.{certificate_bytes}
-use Rattle.audit_cert.specs.Journals.{BreaksAt}
-use Rattle.audit_cert.proofs.Audits.{within_front}
 use Rattle.report_text.specs.Frame.{frame_fault_line}
 use Rattle.feed_form.specs.Turn.{frame_turn}
 use Rattle.certificate_form.specs.declared.certifying.Certifying.{Certifying}
-use Rattle.certificate_form.specs.Certify.{journal_bytes, certified_bytes, certified_from, certify_part}
+use Rattle.certificate_form.specs.Certify.{journal_bytes, certified_bytes, certify_part}
 use Rattle.certificate_form.specs.Form.{certify_meaning}
 use Rattle.certificate_form.proofs.CertifyOutputs.{certified_front, part_front, certified_bad, certified_cut, certified_short, certified_end, part_waits}
 
@@ -120,11 +116,6 @@ one_more J i m items now so_far at pushed =
     let there : take (suc i) J ≡ take i J ++ m ∷ [] =
     take-suc J i m (slice_get_within J i m (sym at)) ∙ ap (λ (k : Message). take i J ++ k ∷ []) (get_or_from_slice_get J i m m (sym at)) in
     pushed ∙ ap (λ (K : List Message). K ++ m ∷ []) so_far ∙ sym there ∙ ap (λ (n : ℕ). take n J) next
-
--- a journal doesn't break
-pub never_breaks : (J : List Message) (k : ℕ) → IsWithin J → BreaksAt J k → ⊥
-never_breaks J k within b =
-    b.breaks (within_front (take (b.place + 1) J) (drop (b.place + 1) J) (subst (λ (K : List Message). IsWithin K) (sym (take-append-drop (b.place + 1) J)) within))
 
 -- its frames, End and its certificate, put one behind the other
 pub put_together : {A E : Type 0} (r : Result A E) (J K M : List Message) (out one two three : List ℕ) → K ≡ J → M ≡ J → one ≡ out ++ journal_bytes K

@@ -1,5 +1,5 @@
 -- What is written of a stream whose journal is certified, by what stands at its front.
-use Rattle.std.proofs.Common.{◌≡◌, ℕ, ◌+◌, ◌-◌, ◌<◌, ◌≤◌, Bool, true, false, List, [], ◌∷◌, ◌++◌, length, Option, Some, None, Err, Ok, refl, sym, ap, ◌∙◌, arith}
+use Rattle.std.proofs.Common.{◌≡◌, ℕ, ◌+◌, ◌-◌, ◌<◌, Bool, true, false, List, [], ◌++◌, length, Option, Some, None, Err, Ok, refl, sym, ap, ◌∙◌, arith}
 use Rattle.std.specs.Prelude.{is_none}
 use Rattle.std.proofs.lemmas.List.{length-append, append-nil}
 use Rattle.element_name.specs.Cases.{when}
@@ -9,11 +9,11 @@ use Rattle.line_engine.proofs.Pumping.{after_none}
 use Rattle.edit_frame.specs.declared.frame.Frame.{Frame}
 use Rattle.edit_frame.specs.declared.frame.FrameKind.{FrameKind}
 use Rattle.edit_frame.specs.declared.frame.FrameKind.TheVariants.{Truncated}
-use Rattle.edit_frame.specs.Reading.{length_field, frame_at, Stream, stream_with, stream}
+use Rattle.edit_frame.specs.Reading.{length_field, frame_at, Stream, stream}
 use Rattle.edit_frame.specs.Splitter.{is_truncated}
 use Rattle.edit_frame.proofs.Stays.{stays}
 use Rattle.peer_core.specs.Peer.{Peer}
-use Rattle.feed_form.specs.Turn.{frame_turn, frames_turn}
+use Rattle.feed_form.specs.Turn.{frame_turn}
 use Rattle.feed_form.specs.Feed.{counted_fault, bad_frame, closing, stream_ending, peer_fed}
 use Rattle.feed_form.proofs.Streams.{behind, behind_size, stream_none, stream_more, rest_short}
 use Rattle.feed_form.proofs.Outputs.{same_place, fed_front, fed_none, fault_counts, cut_counts, end_counts}

@@ -1,5 +1,5 @@
 -- What is written of a stream of frames after which the peer's journal is certified.
-use Rattle.std.specs.Prelude.{ℕ, ◌+◌, ◌-◌, Bool, true, List, [], ◌++◌, Option, Some, None, length, map, is_none}
+use Rattle.std.specs.Prelude.{ℕ, ◌+◌, ◌-◌, Bool, true, List, [], ◌++◌, Option, length, map, is_none}
 use Rattle.std.specs.List.{flat_map}
 use Rattle.element_name.specs.Cases.{when}
 use Rattle.edit_message.specs.declared.message.Message.{Message}

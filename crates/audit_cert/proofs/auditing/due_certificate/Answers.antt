@@ -18,8 +18,8 @@ of-requires c =
     let basis = c.requires.basis in
     ap are_distinct (c.in_ok-names.ensures ∙ basis.elements) ∙ order_once (requests_of J) (history_law J basis.within.journal_is)
 
-pub put_frames-requires : goal.put_frames-requires
-put_frames-requires c =
+pub put_frames-requires-clause-judged : goal.put_frames-requires-clause-judged
+put_frames-requires-clause-judged c =
     let J : List Message = messages_of_frames c.args.frames.now in
     let log : List Entry = c.args.basis.now.log in
     let basis = c.requires.basis in

@@ -10,8 +10,8 @@ use Rattle.audit_cert.specs.Basis.{may_be_judged}
 use Rattle.audit_cert.proofs.LineLists.{all_judgeable, written}
 use Rattle.audit_cert.proofs.making.certificate_of.Goals as goal
 
-pub put_requests-requires : goal.put_requests-requires
-put_requests-requires c =
+pub put_requests-requires-clause-judged : goal.put_requests-requires-clause-judged
+put_requests-requires-clause-judged c =
     let J : List Message = c.args.journal.now in
     let log : List Entry = c.args.basis.now.log in
     let basis = c.requires in

@@ -1,57 +1,60 @@
-use Rattle.std.proofs.Common.{◌≡◌, ◌+◌, ◌≤◌, None, sym, ap, ◌∙◌, arith, false}
+use Rattle.std.proofs.Common.{◌≡◌, ℕ, ◌+◌, ◌<◌, ◌≤◌, sym, ap, ◌∙◌, arith, length}
 use Rattle.coop_request.specs.Request.{user_of}
 use Rattle.policy_book.specs.Policy.{Policy}
 use Rattle.auth_match.specs.Requests.{request_verdict}
-use Rattle.admin_log.specs.Log.{policy_at}
-use Rattle.check_remote.specs.State.{until, denial_by, denial_at}
-use Rattle.check_remote.proofs.Walks.{first_later}
-use Rattle.audit_cert.specs.Rematches.{may_rematch_at}
-use Rattle.audit_cert.proofs.Rematches.{verdict_next}
-use Rattle.audit_cert.proofs.WalkedStates.{denied_here, last_decides, no_denial}
+use Rattle.admin_log.specs.Log.{validated_at}
+use Rattle.check_remote.specs.State.{verdict_at, denial_by, denial_at, state_by}
+use Rattle.check_remote.proofs.States.{administrator_law}
+use Rattle.audit_cert.specs.Rematches.{is_noted}
+use Rattle.audit_cert.proofs.Rematches.{verdict_between}
+use Rattle.audit_cert.proofs.WalkedStates.{no_denial, first_behind, same_decides, denied_here}
 use Rattle.audit_cert.proofs.walk.state_of.Goals as goal
-use Rattle.audit_cert.proofs.walk.state_of.Goals.{then-may_rematch_at+in_ok-advance, else-may_rematch_at}
+
+pub returns-then-user-eq0 : goal.returns-then-user-eq0
+returns-then-user-eq0 g c =
+    let q = c.args.request in
+    let user : user_of q ≡ 0 = sym c.user.ensures ∙ c.if-user-eq0.true in
+    c.state_by.ensures ∙ sym (administrator_law (g.P.Places.names c.args.places.now) c.args.log.now q user)
 
 pub returns-in-Denied : goal.returns-in-Denied
 returns-in-Denied g c =
-    let names = g.P.Places.names c.args.places.now in
-    let kept = c.loop-version.invariant in
-    sym (denied_here names c.args.log.now c.args.request c.loop-version.version c.in-Denied.by kept.rising (sym kept.verdict ∙ c.in-Denied.is) kept.left)
+    let kept = c.loop-next.invariant in
+    let lt : c.loop-next.at < c.range_end-end.result = omega (arith, kept.before, kept.within) in
+    denied_here (g.P.Places.names c.args.places.now) c.args.log.now c.args.request c.loop-next.at c.range_end-end.result c.in-Denied.by lt
+    (sym kept.verdict ∙ c.in-Denied.is) kept.left
 
-pub loop-version-preserved : goal.loop-version-preserved
-loop-version-preserved g c =
+pub loop-next-preserved : goal.loop-next-preserved
+loop-next-preserved g c =
     let names = g.P.Places.names c.args.places.now in
     let log = c.args.log.now in
     let q = c.args.request in
-    let v = c.loop-version.version in
-    let kept = c.loop-version.invariant in
-    let granted : denial_at names log q v ≡ None = ap (denial_by v) (sym kept.verdict) ∙ no_denial v c.loop-version.verdict c.in_default.not-Denied in
-    let rising : v + 1 ≤ until log q = omega (arith, c.until-last.ensures.value) in
-    let left = kept.left ∙ first_later (denial_at names log q) v (until log q) kept.rising granted in
-    elim c.if-may_rematch_at.branch [
-      | then-may_rematch_at+in_ok-advance w ↦ record {
-        before = let same = w.at-is in omega (arith, same);
-        policy = w.policy-is ∙ w.in_ok-advance.ensures.ok ∙ ap (policy_at log) (sym w.at-is);
-        verdict = w.verdict-is ∙ w.request_verdict-verdict-then-may_rematch_at.ensures ∙ ap (λ (p : Policy). request_verdict names p q) w.in_ok-advance.ensures.ok;
-        rising = rising;
-        left = left;
-      }
-      | else-may_rematch_at w ↦
-          let out : may_rematch_at log (v + 1) (user_of q) ≡ false = ap (may_rematch_at log (v + 1)) (sym c.user.ensures) ∙ sym c.may_rematch_at.ensures ∙ w.if-may_rematch_at.false in
-          record {
-            before = let same = w.at-is in let below = kept.before in omega (arith, same, below);
-            policy = w.policy-is ∙ kept.policy ∙ ap (policy_at log) (sym w.at-is);
-            verdict = w.verdict-is ∙ kept.verdict ∙ sym (verdict_next names log q v out);
-            rising = rising;
-            left = left;
-          }
-    ]
+    let table = c.args.table.now in
+    let now = c.loop-next in
+    let kept = now.invariant in
+    let end = c.range_end-end.result in
+    let within : now.next ≤ length log + 1 = omega (arith, kept.within, c.range_end-end.ensures.within) in
+    record {
+      before = omega (arith, c.next-next-in-loop-next.ensures.from);
+      within = c.next-next-in-loop-next.ensures.end;
+      policy = c.in_ok-advance.ensures.ok;
+      verdict = c.request_verdict-verdict-in-loop-next.ensures ∙ ap (λ (p : Policy). request_verdict names p q) c.in_ok-advance.ensures.ok;
+      none = λ v low high. ap (is_noted table v) (sym c.user-in-loop-next.ensures) ∙ c.next-next-in-loop-next.ensures.none v low high;
+      left = kept.left ∙ first_behind (denial_at names log q) now.at now.next end (omega (arith, kept.before)) kept.within (λ v low high.
+          ap (denial_by v) (verdict_between names log q table c.requires.table now.at now.next within kept.none v low high ∙ sym kept.verdict)
+          ∙ no_denial v now.verdict c.in_default.not-Denied);
+    }
 
 pub returns : goal.returns
 returns g c =
     let names = g.P.Places.names c.args.places.now in
     let log = c.args.log.now in
     let q = c.args.request in
-    let v = c.loop-version.version in
-    let kept = c.loop-version.invariant in
-    let end : v ≡ c.until-last.result = omega (arith, kept.rising, c.until-last.ensures.value, c.loop-version-test.false) in
-    c.state_by.ensures ∙ last_decides names log q v c.until-last.result c.loop-version.verdict c.until-last.ensures.value end kept.verdict kept.left
+    let now = c.loop-next in
+    let kept = now.invariant in
+    let end = c.range_end-end.result in
+    let within : now.next ≤ length log + 1 = omega (arith, kept.within, c.range_end-end.ensures.within) in
+    let lt : now.at < end = omega (arith, kept.before, kept.within) in
+    let same : (v : ℕ) → now.at ≤ v → v < end → verdict_at names log q v ≡ now.verdict =
+    λ v low high.
+    verdict_between names log q c.args.table.now c.requires.table now.at now.next within kept.none v low (omega (arith, high, c.loop-next-test.false)) ∙ sym kept.verdict in
+    c.state_by-2.ensures ∙ ap (λ d. state_by d (validated_at log q.id)) (same_decides names log q now.at end now.verdict lt same ∙ sym kept.left)

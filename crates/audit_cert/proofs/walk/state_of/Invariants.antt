@@ -1,17 +1,23 @@
-use Rattle.std.proofs.Common.{◌≡◌, ◌+◌, ◌-◌, ◌≤◌, map}
+use Rattle.std.proofs.Common.{◌≡◌, ℕ, false, ◌+◌, ◌-◌, ◌<◌, ◌≤◌, map}
 use Rattle.std.specs.List.{range_with_len}
 use Rattle.element_name.specs.Cases.{first_of}
+use Rattle.coop_request.specs.Request.{user_of}
 use Rattle.admin_log.specs.Log.{policy_at}
-use Rattle.check_remote.specs.State.{until, verdict_at, denial_at, first_denial}
+use Rattle.check_remote.specs.State.{verdict_at, denial_at, first_denial}
+use Rattle.audit_cert.specs.Rematches.{is_noted}
 use Rattle.audit_cert.proofs.walk.state_of.Given as goal
 
-abbrev pub invariant-loop-version : goal.invariant-loop-version
-invariant-loop-version g l =
+abbrev pub invariant-loop-next : goal.invariant-loop-next
+invariant-loop-next g l =
     let names = g.P.Places.names l.places in
     record {
-      before : l.at ≤ l.version;
+      before : l.at < l.next;
+      within : l.next ≤ l.end;
       policy : l.policy ≡ policy_at l.log l.at;
-      verdict : l.verdict ≡ verdict_at names l.log l.request l.version;
-      rising : l.version ≤ until l.log l.request;
-      left : first_denial names l.log l.request ≡ first_of (map (denial_at names l.log l.request) (range_with_len l.version (until l.log l.request + 1 - l.version)));
+      verdict : l.verdict ≡ verdict_at names l.log l.request l.at;
+      none : (v : ℕ) → l.at + 1 ≤ v → v < l.next → is_noted l.table v (user_of l.request) ≡ false;
+      left : first_denial names l.log l.request ≡ first_of (map (denial_at names l.log l.request) (range_with_len l.at (l.end - l.at)));
     }
+
+abbrev pub decreases-loop-next : goal.decreases-loop-next
+decreases-loop-next g l = l.end - l.next

@@ -11,15 +11,16 @@ returns-then-not-taken-clause-fail g c =
     let now = c.loop-place in
     let J = c.args.journal.now in
     let more = one_further J now.place c.index-journal-place.result c.loop-place-test.true c.index-journal-place.is in
-    let is = c.in_ok-message.ensures in
-    record {
-      place = now.place;
-      number = refl;
-      there = c.loop-place-test.true;
-      before = now.invariant.within;
-      breaks = subst (λ (K : List Message). ¬ IsWithin K) (ap (λ (m : Message). take now.place J ++ m ∷ []) is ∙ sym more)
-          (c.in_ok-taken.ensures.refused c.if-not-taken.true (take now.place J) now.invariant);
-    }
+    let is = c.in_ok-message.ensures in (
+      now.place,
+      refl,
+      record {
+        there = c.loop-place-test.true;
+        before = now.invariant.within;
+        fails = subst (λ (K : List Message). ¬ IsWithin K) (ap (λ (m : Message). take now.place J ++ m ∷ []) is ∙ sym more)
+            (c.in_ok-taken.ensures.refused c.if-not-taken.true (take now.place J) now.invariant);
+      },
+    )
 
 pub loop-place-preserved : goal.loop-place-preserved
 loop-place-preserved g c =
