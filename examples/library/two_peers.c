@@ -1,6 +1,7 @@
 /* Two peers in one program in C. Each line of the input is a peer, 0 or 1, and a step of it, or `give`: then each peer receives the
- * frames of what the other issued since, and settles. What is written is the code of each call, and the answer where it is 0; at
- * the end stand both texts. README.md, "In a browser, and from C", says how it is built. */
+ * frames of what the other issued since, and settles. What is written is the code of each call, and the answer where it is 0. At
+ * the end each peer is closed, comes back by its journal, and shows its text. README.md, "In a browser, and from C", says how it
+ * is built. */
 #include "editor.h"
 
 #include <stdio.h>
@@ -80,6 +81,37 @@ static void make_line(Side sides[2], const char *line, size_t size) {
     if (code == EDITOR_DONE && strncmp(line + 2, "look", 4)) pass_on(side, other);
 }
 
+/* Closes a peer, and opens it again by the frames of its journal. */
+static void come_back(Side *side, uint16_t site) {
+    size_t size = 0, room = FRAME_SIZE, frame_size;
+    uint8_t *journal = more(NULL, room);
+    for (unsigned place = 0;; place++) {
+        char look[24];
+        int look_size = snprintf(look, sizeof look, "look %u", place);
+        if (editor_step(&side->slot, (const uint8_t *)look, (size_t)look_size) != EDITOR_DONE) exit(7);
+        if (room < size + FRAME_SIZE) journal = more(journal, room = 2 * room + FRAME_SIZE);
+        frame_size = editor_frame(&side->slot, journal + size, FRAME_SIZE);
+        if (!frame_size) break;
+        size += frame_size;
+    }
+    editor_close(&side->slot);
+    if (editor_restore(&side->slot, site, journal, size) != EDITOR_DONE) exit(7);
+    free(journal);
+}
+
+/* A caret behind the last element that shows, kept by its name, stands behind as many elements as there are. */
+static int is_last_found(Side *side) {
+    uint8_t name[24], count[11] = {0};
+    if (editor_sizes(&side->slot) != EDITOR_DONE) exit(7);
+    size_t shown = editor_answer(&side->slot, name, sizeof name);
+    if (!shown) return 1;
+    if (editor_name_at(&side->slot, (uint32_t)(shown - 1)) != EDITOR_DONE) exit(7);
+    size_t name_size = editor_answer(&side->slot, name, sizeof name);
+    if (editor_shown_up_to(&side->slot, name, name_size) != EDITOR_DONE) exit(7);
+    editor_answer(&side->slot, count, sizeof count - 1);
+    return strtoul((char *)count, NULL, 10) == shown;
+}
+
 int main(void) {
     Side sides[2] = {0};
     for (uint16_t site = 0; site < 2; site++)
@@ -92,7 +124,9 @@ int main(void) {
         receive_all(&sides[0]);
         receive_all(&sides[1]);
     }
-    for (int site = 0; site < 2; site++) {
+    for (uint16_t site = 0; site < 2; site++) {
+        come_back(&sides[site], site);
+        if (!is_last_found(&sides[site])) return 8;
         put_told(&sides[site], editor_show(&sides[site].slot));
         editor_close(&sides[site].slot);
         free(sides[site].waiting);

@@ -3,7 +3,7 @@
  * A slot is a pointer that the library keeps: begin it as `editor_slot s = {0};`, open a peer in it, and close it at the end.
  * What stands below is what the contracts of crates/editor_lib/src/calls.rt say, if the caller keeps to this:
  *
- *  - editor_open is given an empty slot, and every other call one with an open peer. No call tests that.
+ *  - editor_open and editor_restore are given an empty slot, and every other call one with an open peer. No call tests that.
  *  - Nobody but these calls writes to a slot or to what it points to, and a slot is copied only to move it.
  *  - A pointer with a length points to so many bytes, which no other thread writes meanwhile, and which aren't the
  *    slot. It isn't null, also where the length is 0.
@@ -23,7 +23,7 @@ typedef struct {
 /* How a call ended. */
 enum {
     EDITOR_DONE = 0,      /* what was asked for was done, and the answer is there */
-    EDITOR_BAD = 1,       /* the bytes aren't in the grammar; peer, answer and frame are as they were */
+    EDITOR_BAD = 1,       /* the bytes aren't in the grammar, or are no journal; peer, answer and frame are as they were */
     EDITOR_NO_MEMORY = 2, /* memory was wanting; peer, answer and frame are as they were */
     EDITOR_UNTOLD = 3     /* the step was made, and memory was wanting to tell of it; answer and frame are empty */
 };
@@ -31,6 +31,14 @@ enum {
 /* Opens a fresh peer of a site, which is its user's number, in an empty slot. Answer and frame are empty.
  * DONE, or NO_MEMORY and the slot is still empty. */
 uint32_t editor_open(editor_slot *slot, uint16_t site);
+
+/* Opens in an empty slot the peer of a site whose journal is a row of messages, its own among them. The bytes are the frames of
+ * the messages, one behind another. So a peer that was closed comes back by the frames of its journal's items in their order,
+ * which `look` finds, but for what it held. A name that the site gave and that isn't among them may be given anew. No bytes give
+ * a fresh peer. Answer and frame are empty.
+ * DONE. BAD exactly where the bytes aren't frames of messages one behind another to their end, or the messages are in this order
+ * no journal within its limits, and memory isn't wanting. NO_MEMORY. After both the slot is still empty. */
+uint32_t editor_restore(editor_slot *slot, uint16_t site, const uint8_t *frames, size_t frames_size);
 
 /* Makes the step that a step line says, given without its line end. DONE: the peer is the one after the step, the answer is
  * the step's line, and the frame is that of the message which the step issued, or of the journal's item that it found. BAD
@@ -50,6 +58,22 @@ uint32_t editor_show(editor_slot *slot);
 /* Puts the line `state STATE` of the request of a name, as `3.1`, in place of the answer, and nothing where the peer has no such
  * request. The peer and the frame stay. DONE, BAD exactly where the bytes spell no name, or NO_MEMORY. */
 uint32_t editor_state(editor_slot *slot, const uint8_t *name, size_t name_size);
+
+/* Puts the sizes of the pieces of that text, in their order, in place of the answer: a byte each, 1 to 255. So there are as many
+ * bytes as elements that show, and the piece at a place, from 0, begins in what editor_show gives behind as many bytes as the
+ * sizes in front of it make together. The peer and the frame stay. DONE or NO_MEMORY. */
+uint32_t editor_sizes(editor_slot *slot);
+
+/* Puts the name of the element that shows at a place, from 0, in place of the answer: as `3.1`, without a line end, and nothing
+ * where none shows there. A caret that stands behind that element is kept by this name. The peer and the frame stay. DONE or
+ * NO_MEMORY. */
+uint32_t editor_name_at(editor_slot *slot, uint32_t place);
+
+/* Puts a number in place of the answer: how many elements show up to the one of a name, as `3.1`, itself counted if it still
+ * shows. That is the place of a caret behind it. It is in decimal, as `12`, without a line end; nothing where the peer has no
+ * such element, as of `0.0`. The peer and the frame stay. DONE, BAD exactly where the bytes spell no name and memory isn't
+ * wanting, or NO_MEMORY. */
+uint32_t editor_shown_up_to(editor_slot *slot, const uint8_t *name, size_t name_size);
 
 /* Copies the answer to the front of a buffer if it fits, else nothing. Gives its length in both cases. Changes nothing else. */
 size_t editor_answer(editor_slot *slot, uint8_t *buffer, size_t buffer_size);

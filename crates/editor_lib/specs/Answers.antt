@@ -1,9 +1,10 @@
 -- What questions are answered by.
-use Rattle.std.specs.Prelude.{ℕ, List, Option, Some, option_map}
+use Rattle.std.specs.Prelude.{ℕ, List, Option, Some, option_map, map, length, slice_get}
 use Rattle.std.specs.List.{concat}
-use Rattle.peer_core.specs.Peer.{Peer, state_of_name, text}
+use Rattle.peer_core.specs.Peer.{Peer, state_of_name, text, shown_elements}
+use Rattle.peer_core.specs.Carets.{shown_up_to}
 use Rattle.step_read.specs.Numbers.{read_name}
-use Rattle.editor_lib.specs.Told.{state_line}
+use Rattle.editor_lib.specs.Told.{kept_state_line, element_word, count_word}
 
 -- the bytes of the text
 unfoldable pub text_answer : Peer → Option (List ℕ)
@@ -11,4 +12,16 @@ text_answer peer = Some (concat (text peer))
 
 -- the line of the state of the request that a word names; none where the word is no name
 unfoldable pub state_answer : Peer → List ℕ → Option (List ℕ)
-state_answer peer word = option_map (λ name. state_line (state_of_name peer name)) (read_name word)
+state_answer peer word = option_map (λ name. kept_state_line (state_of_name peer name)) (read_name word)
+
+-- the sizes of the text's pieces
+unfoldable pub sizes_answer : Peer → Option (List ℕ)
+sizes_answer peer = Some (map length (text peer))
+
+-- the name of the element that shows at a place; no bytes where none does
+unfoldable pub name_answer : Peer → ℕ → Option (List ℕ)
+name_answer peer place = Some (element_word (slice_get (shown_elements peer) place))
+
+-- how many elements show up to the one that a word names, and no bytes where it is none; none where the word is no name
+unfoldable pub count_answer : Peer → List ℕ → Option (List ℕ)
+count_answer peer word = option_map (λ name. count_word (shown_up_to peer name)) (read_name word)

@@ -1,5 +1,5 @@
 -- A peer with what it told last, and what a call leaves of them by its code.
-use Rattle.std.specs.Prelude.{◌≡◌, ℕ, List, Option, Some, None, Result, Ok, Err, option_map}
+use Rattle.std.specs.Prelude.{◌≡◌, ℕ, List, Option, Some, None, IsSomeAnd, Result, Ok, Err, option_map}
 use Rattle.edit_message.specs.declared.message.Message.{Message}
 use Rattle.edit_frame.specs.declared.frame.Frame.{Frame}
 use Rattle.edit_frame.specs.declared.frame.Frame.TheVariants.{Item, Turn, End}
@@ -10,18 +10,24 @@ use Rattle.peer_step.specs.declared.step.Step.TheVariants.{Receive}
 use Rattle.peer_core.specs.Peer.{Peer, fresh_peer}
 use Rattle.peer_core.specs.Answers.{answer_of}
 use Rattle.peer_core.specs.After.{peer_after}
+use Rattle.peer_core.specs.Restore.{peer_of_journal}
 use Rattle.editor_lib.specs.declared.code.Code.{Code}
 use Rattle.editor_lib.specs.declared.code.Code.TheVariants as ends
-use Rattle.editor_lib.specs.Told.{Told, nothing, told}
+use Rattle.editor_lib.specs.Told.{LastTold, nothing, told}
+use Rattle.editor_lib.specs.Journal.{SpellsJournal}
 
 -- a peer, and what was told last
 pub record Desk : Type 0 where
   pub peer : Peer
-  pub told : Told
+  pub told : LastTold
 
 -- the desk of a fresh peer
 abbrev pub fresh_desk : ℕ → Desk
 fresh_desk site = record { peer = fresh_peer site; told = nothing }
+
+-- the desk of a site's peer that has this journal
+abbrev pub desk_of_journal : ℕ → List Message → Desk
+desk_of_journal site journal = record { peer = peer_of_journal site journal; told = nothing }
 
 -- ---- opening
 
@@ -30,6 +36,19 @@ abbrev pub Opened : Code → ℕ → Option Desk → Type 0
 Opened ends.Done site after = after ≡ Some (fresh_desk site)
 Opened ends.NoMemory site after = after ≡ None
 Opened code site after = ⊥
+
+-- the desk of a site's peer whose journal these bytes are
+pub record IsRestored (site : ℕ) (bytes : List ℕ) (desk : Desk) : Type 0 where
+  pub journal : List Message
+  pub spelled : SpellsJournal bytes journal
+  pub desk_is : desk ≡ desk_of_journal site journal
+
+-- what opening by the bytes of a journal leaves, by its code
+abbrev pub Restored : Code → ℕ → List ℕ → Option Desk → Type 0
+Restored ends.Done site bytes after = IsSomeAnd after (IsRestored site bytes)
+Restored ends.Bad site bytes after = ((journal : List Message) → ¬ SpellsJournal bytes journal) × (after ≡ None)
+Restored ends.NoMemory site bytes after = after ≡ None
+Restored ends.Untold site bytes after = ⊥
 
 -- ---- steps
 
@@ -45,12 +64,12 @@ abbrev pub step_received : List ℕ → Option Step
 step_received bytes = option_map Receive (message_read (decoded_frame bytes))
 
 -- what a call for the step that bytes say, or for none, leaves of a desk, by its code
-abbrev pub Made : Code → Option Step → Desk → Desk → Type 0
-Made ends.Done (Some step) before after = after ≡ record { peer = peer_after before.peer step; told = told (answer_of before.peer step) }
-Made ends.Untold (Some step) before after = after ≡ record { peer = peer_after before.peer step; told = nothing }
-Made ends.Bad None before after = after ≡ before
-Made ends.NoMemory said before after = after ≡ before
-Made code said before after = ⊥
+abbrev pub StepMade : Code → Option Step → Desk → Desk → Type 0
+StepMade ends.Done (Some step) before after = after ≡ record { peer = peer_after before.peer step; told = told (answer_of before.peer step) }
+StepMade ends.Untold (Some step) before after = after ≡ record { peer = peer_after before.peer step; told = nothing }
+StepMade ends.Bad None before after = after ≡ before
+StepMade ends.NoMemory said before after = after ≡ before
+StepMade code said before after = ⊥
 
 -- ---- questions
 

@@ -1,5 +1,6 @@
 pub mod Code
 pub mod Told
+pub mod Journal
 pub mod Answers
 pub mod Desk
 pub mod Buffer

@@ -1,5 +1,7 @@
 -- What is told of an answer: its line, and the frame of the message that it gives.
-use Rattle.std.specs.Prelude.{ℕ, List, [], ◌∷◌, Option, Some, None, codes}
+use Rattle.std.specs.Prelude.{ℕ, List, [], ◌∷◌, Option, Some, None, codes, decimal}
+use Rattle.std.specs.Option.{option_map_or}
+use Rattle.element_name.specs.Name.{Name}
 use Rattle.line_engine.specs.Output.{line_of}
 use Rattle.edit_message.specs.declared.message.Message.{Message}
 use Rattle.edit_message.specs.declared.message.Message.TheVariants.{Coop, Admin}
@@ -8,16 +10,22 @@ use Rattle.edit_frame.specs.Spelling.{spelling}
 use Rattle.request_state.specs.declared.state.State.{State}
 use Rattle.peer_step.specs.declared.answer.Answer.{Answer}
 use Rattle.peer_step.specs.declared.answer.Answer.TheVariants.{Done, Issued, Item}
-use Rattle.step_spelling.specs.Values.{spaced}
+use Rattle.step_spelling.specs.Values.{spaced, name_text}
 use Rattle.step_spelling.specs.Answers.{state_words, answer_line}
+use Rattle.editor_lib.specs.declared.told.ToldPart.{ToldPart}
+use Rattle.editor_lib.specs.declared.told.ToldPart.TheVariants as parts
 
 -- an answer as bytes, and the frame of a message, each empty where there is none
-pub record Told : Type 0 where
+pub record LastTold : Type 0 where
   pub answer : List ℕ
   pub frame : List ℕ
 
-abbrev pub nothing : Told
+abbrev pub nothing : LastTold
 nothing = record { answer = []; frame = [] }
+
+abbrev pub part_told : ToldPart → LastTold → List ℕ
+part_told parts.Answer t = t.answer
+part_told parts.Frame t = t.frame
 
 -- the message that an answer gives: the one that the step issued, or the journal's item that it found
 abbrev pub message_given : Answer → Option Message
@@ -32,10 +40,18 @@ frame_bytes (Some message) = spelling (frames.Item message)
 frame_bytes None = []
 
 -- the line of an answer, without the number of a message, and the frame of what it gives
-abbrev pub told : Answer → Told
+abbrev pub told : Answer → LastTold
 told answer = record { answer = answer_line None answer; frame = frame_bytes (message_given answer) }
 
 -- the line of the state of a request; no bytes where there is no such request
-abbrev pub state_line : Option State → List ℕ
-state_line (Some state) = line_of (spaced (codes "state" ∷ state_words state))
-state_line None = []
+abbrev pub kept_state_line : Option State → List ℕ
+kept_state_line (Some state) = line_of (spaced (codes "state" ∷ state_words state))
+kept_state_line None = []
+
+-- the name of an element, as a word; no bytes where there is no such element
+abbrev pub element_word : Option Name → List ℕ
+element_word element = option_map_or name_text element []
+
+-- a count in decimal; no bytes where there is none
+abbrev pub count_word : Option ℕ → List ℕ
+count_word count = option_map_or decimal count []

@@ -1,14 +1,18 @@
-//! The calls. Each but `editor_open` wants a slot that has a desk: no call tests that.
+//! The calls. `editor_open` and `editor_restore` want an empty slot, and each other one a slot that has a desk: no call tests
+//! that.
 ghost use Rattle.std.specs.Prelude.{◌≡◌, Some, None, IsSomeAnd, length};
 ghost use Rattle.step_read.specs.Step.{step_line};
 ghost use Rattle.editor_lib.specs.Code.{GivesCode};
-ghost use Rattle.editor_lib.specs.Answers.{text_answer, state_answer};
-ghost use Rattle.editor_lib.specs.Desk.{Desk, step_received, Opened, Made, Asked};
+ghost use Rattle.editor_lib.specs.Answers.{text_answer, state_answer, sizes_answer, name_answer, count_answer};
+ghost use Rattle.editor_lib.specs.Desk.{Desk, step_received, Opened, Restored, StepMade, Asked};
+ghost use Rattle.editor_lib.specs.Told.{part_told};
 ghost use Rattle.editor_lib.specs.Buffer.{with_front};
 
 use crate::code::{Code, number};
 use crate::desk::Desk;
+use crate::journal::JournalFail;
 use crate::slot::DeskSlot;
+use crate::told::ToldPart;
 use std::alloc::Global;
 
 /// Opens the desk of a fresh peer of a site in an empty slot. Gives the number of a code: 0, or 2 and the slot stays empty.
@@ -27,13 +31,38 @@ pub extern "C" fn editor_open(alloc: Global, slot: &mut DeskSlot, site: u16) -> 
     number(Code::Done)
 }
 
+/// Opens in an empty slot the desk of a site's peer whose journal the bytes are: the frames of its messages, one behind
+/// another. Gives the number of a code: 0, or the slot stays empty with 1, where the bytes are no such journal, or 2. Time
+/// and memory are the peer's for its journal, and for a while the memory of the messages besides.
+#[unsafe(no_mangle)]
+pub extern "C" fn editor_restore(
+    alloc: Global,
+    slot: &mut DeskSlot,
+    site: u16,
+    frames: &[u8],
+) -> u32
+    requires { slot.old.value ≡ None }
+    ensures { GivesCode result (λ code. Restored code site frames.now slot.new.value) }
+{
+    let desk = match Desk::restore(alloc, site, frames) {
+        Ok(desk) => desk,
+        Err(JournalFail::Bad) => return number(Code::Bad),
+        Err(JournalFail::NoMemory) => return number(Code::NoMemory),
+    };
+    let Ok(boxed) = Box::new(alloc, desk) else {
+        return number(Code::NoMemory);
+    };
+    *slot = DeskSlot::of(boxed);
+    number(Code::Done)
+}
+
 /// Makes the step that a step line says, given without its line end. Gives the number of a code, 0 to 3. Time and memory
 /// are the peer's for the step, and the length of the answer.
 #[unsafe(no_mangle)]
 pub extern "C" fn editor_step(alloc: Global, slot: &mut DeskSlot, line: &[u8]) -> u32
     ghost desk: { Desk }
     requires { slot.old.value ≡ Some desk }
-    ensures { GivesCode result (λ code. IsSomeAnd slot.new.value (λ after. Made code (step_line line.now) desk after)) }
+    ensures { GivesCode result (λ code. IsSomeAnd slot.new.value (λ after. StepMade code (step_line line.now) desk after)) }
 {
     let mut boxed = std::mem::replace(slot, DeskSlot::empty(alloc)).into_box();
     let code = boxed.step(alloc, line);
@@ -47,7 +76,7 @@ pub extern "C" fn editor_step(alloc: Global, slot: &mut DeskSlot, line: &[u8]) -
 pub extern "C" fn editor_receive(alloc: Global, slot: &mut DeskSlot, frame: &[u8]) -> u32
     ghost desk: { Desk }
     requires { slot.old.value ≡ Some desk }
-    ensures { GivesCode result (λ code. IsSomeAnd slot.new.value (λ after. Made code (step_received frame.now) desk after)) }
+    ensures { GivesCode result (λ code. IsSomeAnd slot.new.value (λ after. StepMade code (step_received frame.now) desk after)) }
 {
     let mut boxed = std::mem::replace(slot, DeskSlot::empty(alloc)).into_box();
     let code = boxed.receive(alloc, frame);
@@ -83,6 +112,49 @@ pub extern "C" fn editor_state(alloc: Global, slot: &mut DeskSlot, name: &[u8]) 
     number(code)
 }
 
+/// Puts the sizes of the pieces of that text, a byte each, in place of the answer. Gives the number of a code: 0 or 2. Takes
+/// time in the length of the text.
+#[unsafe(no_mangle)]
+pub extern "C" fn editor_sizes(alloc: Global, slot: &mut DeskSlot) -> u32
+    ghost desk: { Desk }
+    requires { slot.old.value ≡ Some desk }
+    ensures { GivesCode result (λ code. IsSomeAnd slot.new.value (λ after. Asked code (sizes_answer desk.peer) desk after)) }
+{
+    let mut boxed = std::mem::replace(slot, DeskSlot::empty(alloc)).into_box();
+    let code = boxed.sizes(alloc);
+    *slot = DeskSlot::of(boxed);
+    number(code)
+}
+
+/// Puts the name of the element that shows at a place, from 0, in place of the answer, and no bytes where none shows there.
+/// Gives the number of a code: 0 or 2. Takes a step for each group of blocks of elements, and a pass over a block.
+#[unsafe(no_mangle)]
+pub extern "C" fn editor_name_at(alloc: Global, slot: &mut DeskSlot, place: u32) -> u32
+    ghost desk: { Desk }
+    requires { slot.old.value ≡ Some desk }
+    ensures { GivesCode result (λ code. IsSomeAnd slot.new.value (λ after. Asked code (name_answer desk.peer place) desk after)) }
+{
+    let mut boxed = std::mem::replace(slot, DeskSlot::empty(alloc)).into_box();
+    let code = boxed.name_at(alloc, place);
+    *slot = DeskSlot::of(boxed);
+    number(code)
+}
+
+/// Puts the number of elements that show up to the one of a name in place of the answer, and no bytes where the peer has no
+/// such element. Gives the number of a code: 0, 1 where the bytes spell no name, or 2. Takes the time of `editor_name_at`,
+/// times the logarithm of the elements that show.
+#[unsafe(no_mangle)]
+pub extern "C" fn editor_shown_up_to(alloc: Global, slot: &mut DeskSlot, name: &[u8]) -> u32
+    ghost desk: { Desk }
+    requires { slot.old.value ≡ Some desk }
+    ensures { GivesCode result (λ code. IsSomeAnd slot.new.value (λ after. Asked code (count_answer desk.peer name.now) desk after)) }
+{
+    let mut boxed = std::mem::replace(slot, DeskSlot::empty(alloc)).into_box();
+    let code = boxed.shown_up_to(alloc, name);
+    *slot = DeskSlot::of(boxed);
+    number(code)
+}
+
 // Copies bytes to the front of a buffer, if they fit.
 fn copy_front(bytes: &[u8], out: &mut [u8]) -> usize
     ensures len { result ≡ length bytes.now }
@@ -94,6 +166,20 @@ fn copy_front(bytes: &[u8], out: &mut [u8]) -> usize
     bytes.len()
 }
 
+// Copies a part of what was told to the front of a buffer, if it fits, and gives its length.
+fn copy_told(alloc: Global, slot: &mut DeskSlot, part: ToldPart, out: &mut [u8]) -> usize
+    ghost desk: { Desk }
+    requires { slot.old.value ≡ Some desk }
+    ensures unchanged { slot.new.value ≡ Some desk }
+    ensures len { result ≡ length (part_told part desk.told) }
+    ensures copied { out.new ≡ with_front (part_told part desk.told) out.old }
+{
+    let boxed = std::mem::replace(slot, DeskSlot::empty(alloc)).into_box();
+    let len = copy_front(boxed.told().part(part), out);
+    *slot = DeskSlot::of(boxed);
+    len
+}
+
 /// Copies the answer to the front of a buffer, if it fits, and gives its length. Takes time in it.
 #[unsafe(no_mangle)]
 pub extern "C" fn editor_answer(alloc: Global, slot: &mut DeskSlot, out: &mut [u8]) -> usize
@@ -103,10 +189,7 @@ pub extern "C" fn editor_answer(alloc: Global, slot: &mut DeskSlot, out: &mut [u
     ensures len { result ≡ length desk.told.answer }
     ensures copied { out.new ≡ with_front desk.told.answer out.old }
 {
-    let boxed = std::mem::replace(slot, DeskSlot::empty(alloc)).into_box();
-    let len = copy_front(boxed.told().answer(), out);
-    *slot = DeskSlot::of(boxed);
-    len
+    copy_told(alloc, slot, ToldPart::Answer, out)
 }
 
 /// Copies the frame of the message that the last step's answer gave to the front of a buffer, if it fits, and gives its
@@ -119,10 +202,7 @@ pub extern "C" fn editor_frame(alloc: Global, slot: &mut DeskSlot, out: &mut [u8
     ensures len { result ≡ length desk.told.frame }
     ensures copied { out.new ≡ with_front desk.told.frame out.old }
 {
-    let boxed = std::mem::replace(slot, DeskSlot::empty(alloc)).into_box();
-    let len = copy_front(boxed.told().frame(), out);
-    *slot = DeskSlot::of(boxed);
-    len
+    copy_told(alloc, slot, ToldPart::Frame, out)
 }
 
 /// Closes the desk of a slot, and gives back its memory.

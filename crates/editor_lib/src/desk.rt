@@ -1,11 +1,16 @@
 //! A peer, with what it told last.
-ghost use Rattle.std.specs.Prelude.{◌≡◌, Some, IfOk};
+ghost use Rattle.std.specs.Prelude.{◌≡◌, List, Some, Err, IfOk, OnErr};
+ghost use Rattle.edit_message.specs.declared.message.Message.{Message};
 ghost use Rattle.step_read.specs.Step.{step_line};
-ghost use Rattle.editor_lib.specs.Answers.{text_answer, state_answer};
-ghost use Rattle.editor_lib.specs.Desk.{fresh_desk, step_received, Made, Asked};
+ghost use Rattle.editor_lib.specs.declared.code.Code.TheVariants as ends;
+ghost use Rattle.editor_lib.specs.declared.journal.JournalFail.TheVariants.{Bad as bad};
+ghost use Rattle.editor_lib.specs.Answers.{text_answer, state_answer, sizes_answer, name_answer, count_answer};
+ghost use Rattle.editor_lib.specs.Desk.{fresh_desk, step_received, IsRestored, StepMade, Asked};
+ghost use Rattle.editor_lib.specs.Journal.{SpellsJournal};
 
 use crate::code::Code;
-use crate::told::{Told, state_line};
+use crate::journal::{JournalFail, messages_of};
+use crate::told::{LastTold, count_word, element_word, kept_state_line, piece_sizes, text_bytes};
 use edit_frame::{DecodeFail, Frame, decode};
 use element_name::NoMemory;
 use peer_core::Peer;
@@ -18,7 +23,7 @@ use step_read::{LineFail, read_name, step_line};
 #[derive(Drop)]
 pub struct Desk {
     peer: Peer,
-    told: Told,
+    told: LastTold,
 }
 
 impl Model for Desk {
@@ -36,25 +41,39 @@ impl Desk {
     {
         Ok(Desk {
             peer: Peer::new(alloc, site)?,
-            told: Told::nothing(alloc),
+            told: LastTold::nothing(alloc),
+        })
+    }
+
+    /// The desk of a site's peer whose journal the bytes are, by the frames of its messages one behind another, with
+    /// nothing told. Takes the time that the peer took to integrate the messages, and, beside the peer's memory, for
+    /// a while that of the messages.
+    pub fn restore(alloc: Global, site: u16, frames: &[u8]) -> Result<Desk, JournalFail>
+        ensures desk { IfOk result (IsRestored site frames.now) }
+        ensures bad { result ≡ Err bad → (journal : List Message) → ¬ SpellsJournal frames.now journal }
+    {
+        let messages = messages_of(alloc, frames)?;
+        Ok(Desk {
+            peer: Peer::restore(alloc, site, &messages)?,
+            told: LastTold::nothing(alloc),
         })
     }
 
     // Makes a step, and tells of it.
     fn make(&mut self, alloc: Global, step: Step) -> Code
-        ensures { Made result (Some step) self.old self.new }
+        ensures { StepMade result (Some step) self.old self.new }
     {
         let answer = match self.peer.step(step) {
             Ok(answer) => answer,
             Err(NoMemory) => return Code::NoMemory,
         };
-        match Told::of(alloc, &answer) {
+        match LastTold::of(alloc, &answer) {
             Ok(told) => {
                 self.told = told;
                 Code::Done
             }
             Err(NoMemory) => {
-                self.told = Told::nothing(alloc);
+                self.told = LastTold::nothing(alloc);
                 Code::Untold
             }
         }
@@ -62,7 +81,7 @@ impl Desk {
 
     /// Makes the step that a step line says, given without its line end, and tells of it.
     pub fn step(&mut self, alloc: Global, line: &[u8]) -> Code
-        ensures { Made result (step_line line.now) self.old self.new }
+        ensures { StepMade result (step_line line.now) self.old self.new }
     {
         match step_line(alloc, line) {
             Ok(step) => self.make(alloc, step),
@@ -73,7 +92,7 @@ impl Desk {
 
     /// Receives the message whose frame is all of the bytes, and tells of it.
     pub fn receive(&mut self, alloc: Global, frame: &[u8]) -> Code
-        ensures { Made result (step_received frame.now) self.old self.new }
+        ensures { StepMade result (step_received frame.now) self.old self.new }
     {
         match decode(alloc, frame) {
             Ok(Frame::Item(message)) => self.make(alloc, Step::Receive(message)),
@@ -83,21 +102,61 @@ impl Desk {
         }
     }
 
+    // Puts what answers a question in place of the answer, if there was memory for it.
+    fn put_answer(&mut self, answer: Result<Vec<u8>, NoMemory>) -> Code
+        ensures done { IfOk answer (λ bytes. Asked result (Some bytes.items) self.old self.new) }
+        ensures unchanged { OnErr answer ((result ≡ ends.NoMemory) × (self.new ≡ self.old)) }
+    {
+        match answer {
+            Ok(bytes) => {
+                self.told.set_answer(bytes);
+                Code::Done
+            }
+            Err(NoMemory) => Code::NoMemory,
+        }
+    }
+
     /// Tells the text that the peer shows, as its bytes. Takes time in its length.
     #[tactic(auto, unfolding(crate::specs::Answers::text_answer))]
     pub fn show(&mut self, alloc: Global) -> Code
         ensures { Asked result (text_answer self.old.peer) self.old self.new }
     {
-        let Ok(Answer::Shown(shown)) = self.peer.step(Step::Show) else {
+        let Ok(Answer::Shown(text)) = self.peer.step(Step::Show) else {
             return Code::NoMemory;
         };
-        match Vec::from_slice(alloc, shown.as_str().as_bytes()) {
-            Ok(bytes) => {
-                self.told.set_answer(bytes);
-                Code::Done
-            }
-            Err(_) => Code::NoMemory,
-        }
+        self.put_answer(text_bytes(alloc, &text))
+    }
+
+    /// Tells the sizes of the pieces of that text, a byte each. Takes time in its length.
+    #[tactic(auto, unfolding(crate::specs::Answers::sizes_answer))]
+    pub fn sizes(&mut self, alloc: Global) -> Code
+        ensures { Asked result (sizes_answer self.old.peer) self.old self.new }
+    {
+        let Ok(Answer::Shown(text)) = self.peer.step(Step::Show) else {
+            return Code::NoMemory;
+        };
+        self.put_answer(piece_sizes(alloc, &text))
+    }
+
+    /// Tells the name of the element that shows at a place. Takes the time of `Peer::shown_at`.
+    #[tactic(auto, unfolding(crate::specs::Answers::name_answer))]
+    pub fn name_at(&mut self, alloc: Global, place: u32) -> Code
+        ensures { Asked result (name_answer self.old.peer place) self.old self.new }
+    {
+        let word = element_word(alloc, self.peer.shown_at(place));
+        self.put_answer(word)
+    }
+
+    /// Tells how many elements show up to the one that a word names. Takes the time of `Peer::shown_up_to`.
+    #[tactic(auto, unfolding(crate::specs::Answers::count_answer))]
+    pub fn shown_up_to(&mut self, alloc: Global, word: &[u8]) -> Code
+        ensures { Asked result (count_answer self.old.peer word.now) self.old self.new }
+    {
+        let Some(name) = read_name(word) else {
+            return Code::Bad;
+        };
+        let count = count_word(alloc, self.peer.shown_up_to(name));
+        self.put_answer(count)
     }
 
     /// Tells the state of the request that a word names. Takes time in the word's length, and logarithmic in the requests.
@@ -108,17 +167,12 @@ impl Desk {
         let Some(name) = read_name(word) else {
             return Code::Bad;
         };
-        match state_line(alloc, self.peer.state_of(name).copied()) {
-            Ok(line) => {
-                self.told.set_answer(line);
-                Code::Done
-            }
-            Err(NoMemory) => Code::NoMemory,
-        }
+        let line = kept_state_line(alloc, self.peer.state_of(name).copied());
+        self.put_answer(line)
     }
 
     /// What was told.
-    pub fn told(&self) -> &Told
+    pub fn told(&self) -> &LastTold
         ensures { result.now ≡ self.now.told }
     {
         &self.told

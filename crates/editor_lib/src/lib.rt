@@ -7,5 +7,6 @@
 mod calls;
 mod code;
 mod desk;
+mod journal;
 mod slot;
 mod told;

@@ -1,4 +1,8 @@
 //! A place for a desk, as a pointer that C keeps.
+//!
+//! What C keeps can hold a pointer, but neither a `Box` nor an `Option` of one, and the borrow checker doesn't follow what a
+//! pointer owns. So `empty`, `of_parts`, `into_parts` and the two functions of `Parts` are proved by hand: no derive of the kit
+//! writes them, and its own `futures` keeps a box behind a pointer by the same functions.
 ghost use Rattle.std.specs.Prelude.{◌≡◌, Option, Some, None};
 ghost use Rattle.editor_lib.specs.Desk.{Desk};
 ghost use Rattle.editor_lib.specs.Slot.{maybe_owns};

@@ -1,12 +1,13 @@
 //! What is told of a step: the line of its answer, and the frame of the message that the answer gives.
-ghost use Rattle.std.specs.Prelude.{◌≡◌, IfOk};
+ghost use Rattle.std.specs.Prelude.{◌≡◌, length, map, IfOk};
+ghost use Rattle.std.specs.List.{concat};
 ghost use Rattle.editor_lib.specs.Told as spec;
-ghost use Rattle.editor_lib.specs.Told.{message_given, frame_bytes, state_line, told};
+ghost use Rattle.editor_lib.specs.Told.{message_given, frame_bytes, kept_state_line, element_word, count_word, told, part_told};
 
 use edit_frame::{Frame, encode};
 use edit_message::Message;
-use element_name::NoMemory;
-use peer_step::Answer;
+use element_name::{Name, NoMemory};
+use peer_step::{Answer, Text};
 use request_state::State;
 use std::alloc::Global;
 use std::marker::Model;
@@ -14,15 +15,24 @@ use step_write::{answer_line, put, put_state};
 
 /// An answer's line and a message's frame, each as bytes, of which either may be empty.
 #[derive(Drop)]
-pub struct Told {
+pub struct LastTold {
     answer: Vec<u8>,
     frame: Vec<u8>,
 }
 
-impl Model for Told {
+/// What can be asked for of it.
+#[derive(Clone, Copy, Debug, PartialEq, Eq)]
+pub enum ToldPart {
+    /// The answer's bytes.
+    Answer,
+    /// The frame of the message that the answer gave.
+    Frame,
+}
+
+impl Model for LastTold {
     ghost use Rattle.editor_lib.specs.Told as values;
 
-    ghost Value = { values.Told };
+    ghost Value = { values.LastTold };
 
     ghost view = { λ t. record { answer = t.answer.items; frame = t.frame.items } };
 }
@@ -52,8 +62,8 @@ fn frame_bytes(alloc: Global, message: Option<Message>) -> Result<Vec<u8>, NoMem
 }
 
 /// The line of the state of a request, and no bytes where there is none.
-pub fn state_line(alloc: Global, state: Option<State>) -> Result<Vec<u8>, NoMemory>
-    ensures { IfOk result (λ line. line.items ≡ state_line state) }
+pub fn kept_state_line(alloc: Global, state: Option<State>) -> Result<Vec<u8>, NoMemory>
+    ensures { IfOk result (λ line. line.items ≡ kept_state_line state) }
 {
     let mut line = Vec::new(alloc);
     if let Some(state) = state {
@@ -64,24 +74,67 @@ pub fn state_line(alloc: Global, state: Option<State>) -> Result<Vec<u8>, NoMemo
     Ok(line)
 }
 
-impl Told {
+/// The word of the name of an element, and no bytes where there is none.
+pub fn element_word(alloc: Global, element: Option<Name>) -> Result<Vec<u8>, NoMemory>
+    ensures { IfOk result (λ word. word.items ≡ element_word element) }
+{
+    let Some(element) = element else {
+        return Ok(Vec::new(alloc));
+    };
+    let stamp = element.stamp();
+    let site = element.site();
+    Ok(format!(in alloc; "{stamp}.{site}")?.into_bytes())
+}
+
+/// The digits of a count, and no bytes where there is none.
+pub fn count_word(alloc: Global, count: Option<u32>) -> Result<Vec<u8>, NoMemory>
+    ensures { IfOk result (λ digits. digits.items ≡ count_word count) }
+{
+    let Some(count) = count else {
+        return Ok(Vec::new(alloc));
+    };
+    Ok(format!(in alloc; "{count}")?.into_bytes())
+}
+
+/// The bytes of a text. Takes time and memory in their number.
+pub fn text_bytes(alloc: Global, text: &Text) -> Result<Vec<u8>, NoMemory>
+    ensures { IfOk result (λ bytes. bytes.items ≡ concat text.now) }
+{
+    Ok(Vec::from_slice(alloc, text.as_str().as_bytes())?)
+}
+
+/// The sizes of a text's pieces. Takes time and memory in their number.
+pub fn piece_sizes(alloc: Global, text: &Text) -> Result<Vec<u8>, NoMemory>
+    ensures { IfOk result (λ sizes. sizes.items ≡ map length text.now) }
+{
+    let mut sizes = Vec::with_capacity(alloc, text.len())?;
+    for place in 0..text.len() {
+        let Some(size) = text.size(place) else {
+            unreachable!()
+        };
+        sizes.push(size)?;
+    }
+    Ok(sizes)
+}
+
+impl LastTold {
     /// Nothing told. Takes no memory.
-    pub fn nothing(alloc: Global) -> Told
+    pub fn nothing(alloc: Global) -> LastTold
         ensures { result ≡ spec.nothing }
     {
-        Told {
+        LastTold {
             answer: Vec::new(alloc),
             frame: Vec::new(alloc),
         }
     }
 
     /// What is told of an answer. Takes time in the length of its line.
-    pub fn of(alloc: Global, answer: &Answer) -> Result<Told, NoMemory>
+    pub fn of(alloc: Global, answer: &Answer) -> Result<LastTold, NoMemory>
         ensures { IfOk result (λ it. it ≡ told answer.now) }
     {
         let mut line = Vec::new(alloc);
         answer_line(alloc, None, answer, &mut line)?;
-        Ok(Told {
+        Ok(LastTold {
             answer: line,
             frame: frame_bytes(alloc, message_given(answer)?)?,
         })
@@ -94,17 +147,13 @@ impl Told {
         self.answer = answer;
     }
 
-    /// The answer's line.
-    pub fn answer(&self) -> &[u8]
-        ensures { result.now ≡ self.now.answer }
+    /// A part of it.
+    pub fn part(&self, part: ToldPart) -> &[u8]
+        ensures { result.now ≡ part_told part self.now }
     {
-        &self.answer
-    }
-
-    /// The message's frame.
-    pub fn frame(&self) -> &[u8]
-        ensures { result.now ≡ self.now.frame }
-    {
-        &self.frame
+        match part {
+            ToldPart::Answer => &self.answer,
+            ToldPart::Frame => &self.frame,
+        }
     }
 }

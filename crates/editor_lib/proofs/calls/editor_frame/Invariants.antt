@@ -1,5 +1,5 @@
 -- The desk of the slot.
 use Rattle.editor_lib.proofs.calls.editor_frame.Given as goal
 
-abbrev pub ghost-into_box : goal.ghost-into_box
-ghost-into_box g a = g.desk
+abbrev pub ghost-copy_told : goal.ghost-copy_told
+ghost-copy_told g a = g.desk
