@@ -10,7 +10,7 @@ use Rattle.screen_read.specs.declared.view.BoardRole.{BoardRole}
 use Rattle.screen_read.specs.declared.view.BoardRole.TheVariants.{Writer, Reader, Note}
 use Rattle.screen_read.specs.declared.view.BoardView.{BoardView}
 use Rattle.screen_read.specs.Pages.{PageText, IsAscending, AllBegin}
-use Rattle.screen_read.specs.Rule.{word_of, AreThree, BoardState, LiesIn, NewestLiesIn, IsWriting, IsReading, FitsBoard, IsOneBoard, opener, with_reader, reader_of, note, told_of, arming, putting, relaxed, noticing, fetching, settling, BoardSeat, page_in, takes_slot, puts_page, looks_middle, fetches_page, settles}
+use Rattle.screen_read.specs.Rule.{word_of, AreThree, BoardState, LiesIn, NewestLiesIn, IsWriting, IsReading, FitsBoard, IsOneBoard, opener, with_reader, reader_of, note, told_by, arming, putting, relaxed, noticing, fetching, settling, BoardSeat, page_in, takes_slot, puts_page, looks_middle, fetches_page, settles}
 use Rattle.screen_read.specs.Moves.{IsReaderSeat, CanArm, CanPut}
 use Rattle.screen_read.proofs.Lists.{prefix_refl, prefix_more, at_end, all_begin_more, all_begin_one_more}
 
@@ -458,10 +458,10 @@ tells id v paired s k at =
         let here : id ≡ i = k.alone i id u v there is at in
         some-injective u v (sym there ∙ ap (λ (n : ℕ). get_elem? s.views n) (sym here) ∙ at)
 
-pub learns : (id : ℕ) (v : BoardView) (other : ℕ) (w : BoardView) → v.alone ≡ false → Joins IsOneBoard id v other w (told_of v w) (note [])
+pub learns : (id : ℕ) (v : BoardView) (other : ℕ) (w : BoardView) → v.alone ≡ false → Joins IsOneBoard id v other w (told_by v w) (note [])
 learns id v other w paired s k at apart there =
     let f = k.fits id v at in
-    let both : BoardView = told_of v w in
+    let both : BoardView = told_by v w in
     let views : List BoardView = set s.views id both in
     let theirs : get_elem? s.views other ≡ some w = ⊎_elim (λ (t : (other ≡ id) × (both ≡ w)). absurd (apart t.0)) (λ (t : (other ≢ id) × (get_elem? s.views other ≡ some w)). t.1) (at_set s.views id other both w there) in
     let g = k.fits other w theirs in

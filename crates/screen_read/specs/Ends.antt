@@ -36,6 +36,6 @@ pub record ReadsNewest (r : ReaderPages) (page : PageText) (s : ReaderPages) : T
   pub ascending : IsAscending s.pages
 
 -- a read, which changes nothing where it fails
-abbrev pub Reads : {E : Type 0} → ReaderPages → Result PageText E → ReaderPages → Type 0
-Reads r (Ok page) s = ReadsNewest r page s
-Reads r (Err e) s = s ≡ r
+abbrev pub ReadsPage : {E : Type 0} → ReaderPages → Result PageText E → ReaderPages → Type 0
+ReadsPage r (Ok page) s = ReadsNewest r page s
+ReadsPage r (Err e) s = s ≡ r

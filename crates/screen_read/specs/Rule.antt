@@ -95,8 +95,8 @@ abbrev pub note : List PageText → BoardView
 note pages = record { role = Note; seen = pages; told = []; found = []; slot = 0; armed = false; due = false; alone = false }
 
 -- a seat that was told what another has seen
-abbrev pub told_of : BoardView → BoardView → BoardView
-told_of v w = record v { told = v.told ++ w.seen ∷ [] }
+abbrev pub told_by : BoardView → BoardView → BoardView
+told_by v w = record v { told = v.told ++ w.seen ∷ [] }
 
 -- a seat that has taken its slot
 abbrev pub arming : BoardView → BoardView

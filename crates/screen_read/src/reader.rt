@@ -1,6 +1,6 @@
 //! The reader of a screen.
 ghost use Rattle.std.specs.Prelude.{◌≡◌};
-ghost use Rattle.screen_read.specs.Ends.{told_also, Reads};
+ghost use Rattle.screen_read.specs.Ends.{told_also, ReadsPage};
 
 use crate::board::Board;
 use crate::page::Page;
@@ -42,7 +42,7 @@ impl ScreenReader {
     ///
     /// Fails where the text has as many pages as can be counted.
     pub fn read(&mut self) -> Result<Page, NoMemory>
-        ensures { Reads self.old result self.new }
+        ensures { ReadsPage self.old result self.new }
     {
         self.slot = self.board.freshen(&mut self.seat, self.slot);
         let newest = self

@@ -1,6 +1,6 @@
 //! The rule of a board, and the names of its steps.
 ghost use Rattle.std.specs.Prelude.{[]};
-ghost use Rattle.screen_read.specs.Rule.{IsOneBoard, opener, with_reader, reader_of, note, told_of, takes_slot, puts_page, looks_middle, fetches_page, settles};
+ghost use Rattle.screen_read.specs.Rule.{IsOneBoard, opener, with_reader, reader_of, note, told_by, takes_slot, puts_page, looks_middle, fetches_page, settles};
 
 use crate::page::Page;
 use crate::view::BoardView;
@@ -73,7 +73,7 @@ impl Split<BoardView> for Tell {
 pub struct Learn;
 
 impl Join<BoardView> for Learn {
-    ghost both = { told_of };
+    ghost both = { told_by };
 
     ghost spent = { note [] };
 }
