@@ -1,0 +1,6 @@
+mod Pages
+mod ReadPages
+mod Published
+mod Runs
+mod Tellings
+mod Forms

@@ -1,0 +1,4 @@
+pub mod Run
+pub mod Reads
+pub mod Watch
+pub mod Workers

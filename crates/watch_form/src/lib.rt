@@ -1,0 +1,17 @@
+//! The form that watches an input: one thread makes its steps and publishes the text after each, another reads pages and
+//! never waits, and then the run and what was read are written.
+#![tactic(auto)]
+
+mod form;
+mod limits;
+mod lines;
+mod reading;
+mod telling;
+mod watching;
+mod writing;
+
+pub use form::watch_form;
+pub use limits::MAX_LINES;
+
+#[cfg(test)]
+mod tests;
