@@ -1,0 +1,8 @@
+mod StepLines
+mod Reading
+mod Steps
+mod Openings
+mod Puts
+mod Causes
+mod Rows
+mod Complete
