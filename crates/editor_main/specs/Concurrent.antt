@@ -3,9 +3,9 @@ use Rattle.std.specs.Prelude.{ℕ, not, ◌==◌, List, [], ◌∷◌, Option, S
 use Rattle.std.specs.Str.{bytes_eq}
 use Rattle.element_name.specs.Cases.{when, given, first_of, ◌>>=◌}
 use Rattle.step_read.specs.Numbers.{read_number}
-use Rattle.editor_main.specs.declared.command.TheConstants.{MAX_SITE, MAX_PORT, MAX_LINKS, MAX_ROUNDS}
+use Rattle.editor_main.specs.declared.command.TheConstants.{MAX_SITE, MAX_PORT, MAX_LINKS, MAX_ROUNDS, MAX_READS}
 use Rattle.editor_main.specs.declared.command.ConcurrentCommand.{ConcurrentCommand}
-use Rattle.editor_main.specs.declared.command.ConcurrentCommand.TheVariants.{Race, Serve, Dial}
+use Rattle.editor_main.specs.declared.command.ConcurrentCommand.TheVariants.{Race, Serve, Dial, Watch}
 
 -- SITE
 abbrev pub race_by : List ℕ → List ℕ → Option ConcurrentCommand
@@ -35,7 +35,15 @@ dial_by name a b c = given (bytes_eq name (codes "dial")) (do
   rounds ← read_positive MAX_ROUNDS c
   Some (Dial site port rounds))
 
+-- SITE READS
+abbrev pub watch_by : List ℕ → List ℕ → List ℕ → Option ConcurrentCommand
+watch_by name a b = given (bytes_eq name (codes "watch")) (do
+  site ← read_number MAX_SITE a
+  reads ← read_positive MAX_READS b
+  Some (Watch site reads))
+
 abbrev pub concurrent_command_of : List (List ℕ) → Option ConcurrentCommand
 concurrent_command_of (name ∷ site ∷ []) = race_by name site
+concurrent_command_of (name ∷ site ∷ reads ∷ []) = watch_by name site reads
 concurrent_command_of (name ∷ site ∷ port ∷ many ∷ []) = first_of (serve_by name site port many ∷ dial_by name site port many ∷ [])
 concurrent_command_of words = None

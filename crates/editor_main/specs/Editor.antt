@@ -6,12 +6,13 @@ use Rattle.line_engine.specs.Engine.{StatusCause}
 use Rattle.peer_step.specs.declared.step.Step.{Step}
 use Rattle.peer_lock.specs.declared.call.Call.{Call}
 use Rattle.race_form.specs.Race.{RanRace}
+use Rattle.watch_form.specs.Watch.{Watches}
 use Rattle.step_input.specs.declared.reading.InputEnd.{InputEnd}
 use Rattle.step_input.specs.Steps.{ReadSteps, EndCause}
 use Rattle.link_report.specs.Report.{SinkCause}
 use Rattle.link_form.specs.Form.{DoorState, Serves, Dials, RunEnds, RanOrNot, HasLinkCause}
 use Rattle.editor_main.specs.declared.command.ConcurrentCommand.{ConcurrentCommand}
-use Rattle.editor_main.specs.declared.command.ConcurrentCommand.TheVariants.{Race, Serve, Dial}
+use Rattle.editor_main.specs.declared.command.ConcurrentCommand.TheVariants.{Race, Serve, Dial, Watch}
 use Rattle.editor_main.specs.Command.{command_of}
 use Rattle.editor_main.specs.Plain.{RanPlain}
 
@@ -41,6 +42,18 @@ pub record RanLinks {L : Type 0} (Ends : InputEnd → List Step → RunEnds) (si
   pub write_cause : SinkCause sink.faults sink'.faults status
   pub link_cause : HasLinkCause door.faults door'.faults door.hurt door'.hurt status
 
+-- A call that watches: the steps are those of the input, what is written is that of a watch of them, the faults of the
+-- source and of the sink have their causes, and no door is asked.
+pub record RanWatch {L : Type 0} (site reads : ℕ) (source source' sink sink' : StreamState) (door door' : DoorState L) (status : Status) : Type 0 where
+  pub input : List ℕ
+  pub steps : List Step
+  pub end : InputEnd
+  pub read : ReadSteps source.bytes source'.bytes input steps end
+  pub read_cause : EndCause source.faults source'.faults end
+  pub watched : Watches site reads steps end sink.bytes sink'.bytes status
+  pub write_cause : StatusCause sink.faults sink'.faults status WriteFault
+  pub door_is : door' ≡ door
+
 -- what the top call does for these words, by the command that they name in which others take part
 abbrev pub EditorEnds : {L : Type 0} → (L → Option (List (List ℕ))) → (L → Option (List (List ℕ))) → (L → ℕ) → (L → ℕ)
     → List (List ℕ) → Option ConcurrentCommand → StreamState → StreamState → StreamState → StreamState → DoorState L → DoorState L → Status → Type 0
@@ -54,3 +67,5 @@ EditorEnds got sent faults closes words (Some (Serve site port links)) source so
     RanLinks (λ end steps. Serves got sent faults closes site links steps door door') site source source' sink sink' door door' status
 EditorEnds got sent faults closes words (Some (Dial site port rounds)) source source' sink sink' door door' status =
     RanLinks (λ end steps. Dials got sent faults closes site rounds end steps door door') site source source' sink sink' door door' status
+EditorEnds got sent faults closes words (Some (Watch site reads)) source source' sink sink' door door' status =
+    RanWatch site reads source source' sink sink' door door' status

@@ -1,4 +1,5 @@
 pub mod Command
 pub mod Concurrent
 pub mod Plain
+pub mod Stored
 pub mod Editor

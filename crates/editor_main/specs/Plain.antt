@@ -18,7 +18,7 @@ use Rattle.editor_main.specs.declared.command.Command.{Command}
 use Rattle.editor_main.specs.declared.command.Command.TheVariants.{Replay, Feed, Make, Certify, Audit}
 
 abbrev pub usage_line : List ℕ
-usage_line = line_of (codes "usage: replay | feed SITE | make SEED EDITS | race SITE | serve SITE PORT LINKS | dial SITE PORT ROUNDS | certify SITE | audit")
+usage_line = line_of (codes "usage: replay | feed SITE | make SEED EDITS | race SITE | serve SITE PORT LINKS | dial SITE PORT ROUNDS | watch SITE READS | certify SITE | audit | keep SITE FILE")
 
 -- what is written where the words name no command, and the status
 abbrev pub usage_output : Output

@@ -3,7 +3,7 @@ ghost use Rattle.std.specs.Prelude.{◌≡◌, ◌<◌, ◌≤◌, ◌^◌, ℕ,
 ghost use Rattle.edit_make.specs.declared.limits.TheConstants.{MAX_EDITS};
 ghost use Rattle.step_read.specs.Numbers.{read_number};
 ghost use Rattle.editor_main.specs.Command.{command_of, alone_by, site_by, make_by};
-ghost use Rattle.editor_main.specs.Concurrent.{race_by, read_positive, serve_by, dial_by, concurrent_command_of};
+ghost use Rattle.editor_main.specs.Concurrent.{race_by, read_positive, serve_by, dial_by, watch_by, concurrent_command_of};
 
 use crate::word::Word;
 use edit_make::MAX_EDITS;
@@ -23,6 +23,9 @@ pub(crate) const MAX_LINKS: u64 = 16;
 
 /// The most rounds that are dialled.
 pub(crate) const MAX_ROUNDS: u64 = 1000;
+
+/// The most reads of a watch.
+pub(crate) const MAX_READS: u64 = 100;
 
 /// What words ask for: the form that is to run, and what it is run with.
 #[derive(Clone, Copy)]
@@ -48,6 +51,8 @@ pub(crate) enum ConcurrentCommand {
     Serve { site: u16, port: u16, links: u32 },
     /// A peer of this site makes the step lines that the source gives, and dials this port for so many rounds.
     Dial { site: u16, port: u16, rounds: u32 },
+    /// The step lines that the source gives are made on a peer of this site, and so often its text is read beside them.
+    Watch { site: u16, reads: u32 },
 }
 
 fn alone_by(name: &[u8]) -> Option<Command>
@@ -62,7 +67,8 @@ fn alone_by(name: &[u8]) -> Option<Command>
     None
 }
 
-fn read_site(word: &[u8]) -> Option<u16>
+/// A site, by its number.
+pub(crate) fn read_site(word: &[u8]) -> Option<u16>
     ensures { result ≡ read_number MAX_SITE word.now }
 {
     let site = read_number(MAX_SITE, word)?;
@@ -168,6 +174,21 @@ fn dial_by(name: &[u8], site: &[u8], port: &[u8], rounds: &[u8]) -> Option<Concu
     })
 }
 
+fn watch_by(name: &[u8], site: &[u8], reads: &[u8]) -> Option<ConcurrentCommand>
+    ensures command { result ≡ watch_by name.now site.now reads.now }
+    ensures few { (site port links : ℕ) → result ≡ Some (ConcurrentCommand.Serve site port links) → links ≤ MAX_LINKS }
+{
+    if name != b"watch".as_slice() {
+        return None;
+    }
+    let site = read_site(site)?;
+    let reads = read_positive(MAX_READS, reads)?;
+    Some(ConcurrentCommand::Watch {
+        site,
+        reads: reads as u32,
+    })
+}
+
 /// The command that words name in which others take part, if they name one.
 pub(crate) fn concurrent_command_of(words: &[Word]) -> Option<ConcurrentCommand>
     ensures command { result ≡ concurrent_command_of words.now }
@@ -175,6 +196,7 @@ pub(crate) fn concurrent_command_of(words: &[Word]) -> Option<ConcurrentCommand>
 {
     match words {
         [name, site] => race_by(name.bytes(), site.bytes()),
+        [name, site, reads] => watch_by(name.bytes(), site.bytes(), reads.bytes()),
         [name, site, port, many] => {
             let (name, site, port, many) = (name.bytes(), site.bytes(), port.bytes(), many.bytes());
             serve_by(name, site, port, many).or(dial_by(name, site, port, many))

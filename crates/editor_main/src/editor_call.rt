@@ -16,11 +16,12 @@ use race_run::Gate;
 use std::alloc::Global;
 use std::sync::Wait;
 use std::thread::Threads;
+use watch_form::watch_form;
 
 /// Runs the command that the words name over a source and a sink, a door to other programs that wasn't asked yet, and a
-/// gate that the workers of a race pass.
+/// gate that the workers of a race or of a watch pass.
 ///
-/// A race, and a peer that is run over links, read their input to the end, or to its first fault, and then run its steps.
+/// A race, a watch, and a peer that is run over links, read their input to the end, or to its first fault, and then run its steps.
 /// All other commands are those of [`plain`](crate::plain). It waits for threads, and for the programs that connect or
 /// are connected to.
 pub fn editor<R: Threads + Wait + Sync, S: Source + Send, K: Sink, D: Door, G: Gate + Sync>(
@@ -48,6 +49,9 @@ pub fn editor<R: Threads + Wait + Sync, S: Source + Send, K: Sink, D: Door, G: G
         }
         Some(ConcurrentCommand::Dial { site, port, rounds }) => {
             dial_form(rt, alloc, site, port, rounds, source, sink, door)
+        }
+        Some(ConcurrentCommand::Watch { site, reads }) => {
+            watch_form(rt, alloc, site, reads, source, sink, gate)
         }
         None => plain(alloc, words, source, sink),
     }

@@ -4,17 +4,21 @@
 mod command;
 mod editor_call;
 mod plain_call;
+mod stored_call;
 mod word;
 
-use edit_io::{ReadSource, WriteSink};
+use edit_io::{ReadSource, Sink, Source, WriteSink};
 pub use editor_call::editor;
 use line_engine::Status;
 use link_ws::TcpDoor;
+use peer_disk::FileDisk;
 pub use plain_call::plain;
 use race_run::FreeGate;
+use std::alloc::{AllocError, Global};
 use std::process::ExitCode;
 use std::rt::Env;
-use std::{env, io};
+use std::{env, io, str};
+pub use stored_call::stored;
 pub use word::Word;
 
 #[cfg(test)]
@@ -29,6 +33,44 @@ fn words<R: Env + AllocGlobal>(rt: &R) -> io::Result<Vec<Word>> {
     Ok(all)
 }
 
+// The name of the file in the words `keep SITE FILE`, and none in others.
+fn file_name(alloc: Global, words: &[Word]) -> Result<String, AllocError> {
+    match words {
+        [_, _, file] => match str::from_utf8(file.bytes()) {
+            Ok(name) => String::from_str(alloc, name),
+            Err(_) => Ok(String::new(alloc)),
+        },
+        _ => Ok(String::new(alloc)),
+    }
+}
+
+// Whether the words ask for the call that keeps a peer.
+fn is_stored(words: &[Word]) -> bool {
+    match words {
+        [name, ..] => name.bytes() == b"keep".as_slice(),
+        [] => false,
+    }
+}
+
+// Keeps a peer in the file that the words name.
+fn keep_in_file<S: Source, K: Sink>(
+    rt: &HostRuntime,
+    words: &[Word],
+    source: &mut S,
+    sink: &mut K,
+) -> Status {
+    let Ok(name) = file_name(rt.alloc(), words) else {
+        return Status::NoMemory;
+    };
+    stored(
+        rt.alloc(),
+        words,
+        source,
+        sink,
+        &mut FileDisk::new(rt, name),
+    )
+}
+
 fn main(rt: HostRuntime) -> ExitCode {
     let words = match words(&rt) {
         Ok(words) => words,
@@ -40,6 +82,9 @@ fn main(rt: HostRuntime) -> ExitCode {
     };
     let mut source = ReadSource::new(rt.stdin());
     let mut sink = WriteSink::new(rt.stdout());
+    if is_stored(&words) {
+        return ExitCode::from(keep_in_file(&rt, &words, &mut source, &mut sink).code());
+    }
     let mut door = TcpDoor::new(rt, rt.alloc());
     let status = editor(
         &rt,

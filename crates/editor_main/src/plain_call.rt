@@ -15,9 +15,10 @@ use line_engine::{Status, say};
 use replay_form::replay;
 use std::alloc::Global;
 
-// What is written where the words name no command.
-const USAGE: &[u8; 127] = b"usage: replay | feed SITE | make SEED EDITS | race SITE \
-    | serve SITE PORT LINKS | dial SITE PORT ROUNDS | certify SITE | audit\n";
+/// What is written where the words name no command.
+pub(crate) const USAGE: &[u8; 163] = b"usage: replay | feed SITE | make SEED EDITS | race SITE \
+    | serve SITE PORT LINKS | dial SITE PORT ROUNDS | watch SITE READS | certify SITE | audit \
+    | keep SITE FILE\n";
 
 // Writes the summary of the world that a seed makes.
 fn make<K: Sink>(alloc: Global, seed: u32, edits: u32, sink: &mut K) -> Status

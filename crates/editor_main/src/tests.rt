@@ -1,7 +1,8 @@
 //! The forms by their words, over sources and sinks that come in pieces and fail.
-use crate::{Word, editor};
+use crate::{Word, editor, stored};
 use edit_io::{MemDoor, MemSink, MemSource};
 use line_engine::Status;
+use peer_disk::MemDisk;
 use race_run::FreeGate;
 use std::alloc::{AllocError, Global};
 use std::sync::Wait;
@@ -11,7 +12,8 @@ use std::thread::Threads;
 const LEAST: &[u8] = b"peers 1\n0 insert 0 a\nshow 0\n";
 
 const USAGE: &[u8] = b"usage: replay | feed SITE | make SEED EDITS | race SITE \
-    | serve SITE PORT LINKS | dial SITE PORT ROUNDS | certify SITE | audit\n";
+    | serve SITE PORT LINKS | dial SITE PORT ROUNDS | watch SITE READS | certify SITE | audit \
+    | keep SITE FILE\n";
 
 /// A run: the words, what the source gives and the sink takes, at how many bytes a call and which call of each fails
 /// (none where it is 0), and how it ends.
@@ -60,6 +62,9 @@ const RACED: &[u8] = b"run 2\n\
     1 message entry 2 deluser 3 => held version 1\n\
     1 message entry 1 adduser 1 => version 1 undone 0\n\
     show\nheld 1\nwaits entry 2 for settle\n";
+
+// The text before any step.
+const WATCHED: &[u8] = b"run 1\n0 show => show\nshow\nheld 0\nread 1\nread 1\n";
 
 // The administrator takes user 1 in and lets him insert, and he inserts an `x`.
 const GRANTED: &[u8] = b"\x00\x00\x00\x07\x01\x04\x00\x01\x01\x00\x01\
@@ -168,6 +173,7 @@ fn forms(rt: HostRuntime) -> Result<(), Fail> {
             Status::BadInput,
             b"bad line 2\n",
         ),
+        call(&[b"watch", b"0", b"2"], b"", Status::Done, WATCHED),
     ];
     for row in rows {
         let (status, written) = run(&rt, rt.alloc(), &row)?;
@@ -254,7 +260,7 @@ fn certificates(rt: HostRuntime) -> Result<(), Fail> {
 
 #[test]
 fn words_that_name_no_form(rt: HostRuntime) -> Result<(), Fail> {
-    let rows: [&[&[u8]]; 22] = [
+    let rows: [&[&[u8]]; 25] = [
         &[],
         &[b"audit", b"2"],
         &[b"certify"],
@@ -277,11 +283,47 @@ fn words_that_name_no_form(rt: HostRuntime) -> Result<(), Fail> {
         &[b"serve", b"0", b"7000", b"17"],
         &[b"dial", b"0", b"7000"],
         &[b"dial", b"0", b"7000", b"1001"],
+        &[b"watch", b"0"],
+        &[b"watch", b"0", b"0"],
+        &[b"watch", b"0", b"101"],
     ];
     for words in rows {
         let (status, written) = run(&rt, rt.alloc(), &call(words, b"", Status::Usage, USAGE))?;
         assert_eq!(rt; written.as_slice(), USAGE);
         assert_eq!(rt; status, Status::Usage);
+    }
+    Ok(())
+}
+
+#[test]
+fn kept_peers(rt: HostRuntime) -> Result<(), Fail> {
+    let alloc = rt.alloc();
+    let rows: [(&[&[u8]], Status, &[u8]); 8] = [
+        (&[b"keep", b"0", b"file"], Status::Done, b"show\nheld 0\n"),
+        (
+            &[b"keep", b"1", b"file"],
+            Status::BadStore,
+            b"bad store 0\n",
+        ),
+        (&[b"keep"], Status::Usage, USAGE),
+        (&[b"keep", b"0"], Status::Usage, USAGE),
+        (&[b"keep", b"0", b""], Status::Usage, USAGE),
+        (&[b"keep", b"0", b"\xff"], Status::Usage, USAGE),
+        (&[b"keep", b"65536", b"file"], Status::Usage, USAGE),
+        (&[b"replay"], Status::Usage, USAGE),
+    ];
+    for (named, status, written) in rows {
+        let mut words = Vec::new(alloc);
+        for word in named {
+            words.push(Word::new(Vec::from_slice(alloc, word)?))?;
+        }
+        let mut source = MemSource::new(Vec::new(alloc), 7, Vec::new(alloc));
+        let mut sink = MemSink::new(alloc, 4, Vec::new(alloc));
+        let file = Vec::from_slice(alloc, b"\x01\0\0\0")?;
+        let mut disk = MemDisk::new(file, Vec::new(alloc), None);
+        let ended = stored(alloc, &words, &mut source, &mut sink, &mut disk);
+        assert_eq!(rt; sink.written(), written);
+        assert_eq!(rt; ended, status);
     }
     Ok(())
 }
