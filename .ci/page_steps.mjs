@@ -1,4 +1,5 @@
-// As examples/library/two_peers.c, by the module: the same lines give the same answers. With a number N it writes N made lines.
+// As examples/library/two_peers.c, by the module: the same lines give the same answers, and at the end each peer comes back. With a
+// number N it writes N made lines.
 //
 //   node --experimental-wasm-memory64 .ci/page_steps.mjs < LINES          node .ci/page_steps.mjs N
 import { readFileSync } from 'node:fs';
@@ -41,6 +42,14 @@ function* madeLines(count) {
   yield 'give';
 }
 
+// A peer that is closed and comes back by its journal.
+function back(peer) {
+  const frames = [];
+  for (let it = peer.step('look 0'); it.frame.length; it = peer.step(`look ${frames.length}`)) frames.push(it.frame);
+  peer.close();
+  return new Peer(peer.module, peer.site, Buffer.concat(frames));
+}
+
 function answered(lines, peers, put) {
   const waiting = [[], []];
   const tell = ({ code, answer }) => put(`${code} ${code === DONE ? answer : ''}`);
@@ -64,7 +73,7 @@ function answered(lines, peers, put) {
     tell(told);
     if (told.frame.length && !line.startsWith('look', 2)) waiting[1 - site].push(told.frame);
   }
-  for (const peer of peers) put(`0 ${peer.text().replace(/\n$/, '')}`);
+  for (const peer of peers) put(`0 ${Buffer.from(back(peer).text()).toString().replace(/\n$/, '')}`);
 }
 
 async function main() {

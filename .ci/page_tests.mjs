@@ -7,14 +7,18 @@ import assert from 'node:assert/strict';
 import { spawn } from 'node:child_process';
 import { readFileSync } from 'node:fs';
 import { createServer } from 'node:net';
-import { Module, NoMemory, Peer } from '../web/peer.mjs';
+import { Module, NoJournal, NoMemory } from '../web/peer.mjs';
 import { BadFrame, Copy } from '../web/copy.mjs';
-import { difference } from '../web/difference.mjs';
+import { cut, difference, replacement } from '../web/difference.mjs';
 import { Editor } from '../web/editor.mjs';
 import { Session } from '../web/session.mjs';
 import { Link } from '../web/link.mjs';
 import { Channel } from '../web/channel.mjs';
-import { scalars, spelled, unspelled } from '../web/lines.mjs';
+import { split } from '../web/frames.mjs';
+import { having, lacking } from '../web/having.mjs';
+import { Keeper } from '../web/keeper.mjs';
+import { Pieces } from '../web/pieces.mjs';
+import { spelled, unspelled } from '../web/lines.mjs';
 import * as words from '../web/words.mjs';
 
 const PATIENCE_MS = 20000;
@@ -36,11 +40,16 @@ class Area extends EventTarget {
   value = '';
   selectionStart = 0;
   selectionEnd = 0;
+  selectionDirection = 'none';
   readOnly = false;
 
   setSelectionRange(start, end) {
     this.selectionStart = start;
     this.selectionEnd = end;
+  }
+
+  get carets() {
+    return [this.selectionStart, this.selectionEnd];
   }
 
   // A person replaces what is from one place to another, in units of UTF-16.
@@ -51,22 +60,39 @@ class Area extends EventTarget {
   }
 }
 
-function opened(site) {
-  const copy = new Copy(new Peer(module, site));
+// What a browser's store does, in memory.
+class Rows {
+  bytes = Buffer.alloc(0);
+
+  async append(row) {
+    this.bytes = Buffer.concat([this.bytes, row]);
+  }
+}
+
+function opened(site, bytes) {
+  const copy = new Copy(module, site, bytes);
   const area = new Area();
   const refusals = [];
-  const editor = new Editor(copy, area, { refused: (answer) => refusals.push(answer), changed: () => {} });
-  return { copy, area, editor, refusals, sent: 0 };
+  const store = new Rows();
+  const side = { copy, area, refusals, store, sent: 0, news: () => {} };
+  side.keeper = new Keeper(copy, store, { kept: () => side.news(), failed: assert.fail });
+  side.editor = new Editor(copy, area, { refused: (answer) => refusals.push(answer), changed: () => side.keeper.keep() });
+  return side;
+}
+
+// All frames from a place of a journal on.
+function framesOf({ copy: { journal } }, from = 0) {
+  return [...split(journal.slice(from, journal.count))];
 }
 
 // Gives each what the others have that wasn't given yet.
 function exchange(...sides) {
-  const news = sides.map((side) => side.copy.journal.slice(side.sent).map((it) => it.frame));
-  sides.forEach((side, i) => news.forEach((frames, j) => i !== j && frames.forEach((it) => side.copy.receive(it))));
-  for (const side of sides) {
-    side.sent = side.copy.journal.length;
-    side.editor.refresh();
-  }
+  const news = sides.map((side) => framesOf(side, side.sent));
+  sides.forEach((side, i) => {
+    side.editor.during(() => news.forEach((frames, j) => i !== j && frames.forEach((it) => side.copy.receive(it))));
+    assert.equal(side.copy.pieces.text, Buffer.from(side.copy.peer.text()).toString());
+  });
+  for (const side of sides) side.sent = side.copy.journal.count;
 }
 
 // The module with at most so many pages of memory: section 5 has a flag, 4 without and 5 with a last number, and the numbers.
@@ -89,81 +115,138 @@ function limited(bytes, most) {
   throw new Error('the module has no memory');
 }
 
-function administratorAndUser() {
+function administratorAndUser(text = '') {
   const [administrator, user] = [opened(0), opened(1)];
   RULES.forEach((it) => administrator.copy.step(it));
+  if (text) administrator.area.type(0, 0, text);
   exchange(administrator, user);
   return [administrator, user];
 }
 
+function piecesOf(...texts) {
+  const bytes = texts.map((it) => Buffer.from(it));
+  return Pieces.of(Buffer.concat(bytes), Uint8Array.from(bytes, (it) => it.length));
+}
+
+// Where a caret of one goes by what another does: the text, the carets, what is replaced by what, and the carets behind it.
+const CARETS = [
+  ['one two', [4, 7], [3, 3, ' 𝟝'], [7, 10]],
+  ['aaa', [2, 2], [3, 3, 'a'], [2, 2]],
+  ['aaa', [2, 2], [1, 1, 'a'], [3, 3]],
+  ['aaa', [2, 2], [2, 2, 'a'], [2, 2]],
+  ['aaa', [2, 2], [0, 1, ''], [1, 1]],
+  ['aaa', [2, 2], [2, 3, ''], [2, 2]],
+  ['aaa', [2, 2], [1, 2, ''], [1, 1]],
+  ['aaa', [0, 3], [0, 0, 'a'], [0, 4]],
+  ['abc', [1, 2], [0, 3, ''], [0, 0]],
+  ['𝟝𝟝', [2, 2], [0, 2, ''], [0, 0]],
+];
+
 const tries = {
   differences() {
     const rows = [
-      ['abc', 'abXc', Infinity, { at: 2, removed: 0, added: ['X'] }],
-      ['aaa', 'aaaa', 1, { at: 2, removed: 0, added: ['a'] }],
-      ['abc', '', Infinity, { at: 0, removed: 3, added: [] }],
-      ['', '𝟝', Infinity, { at: 0, removed: 0, added: ['𝟝'] }],
+      ['abc', 'abXc', Infinity, { start: 2, end: 2, text: 'X' }],
+      ['aaa', 'aaaa', 1, { start: 2, end: 2, text: 'a' }],
+      ['abc', '', Infinity, { start: 0, end: 3, text: '' }],
+      ['', '𝟝', Infinity, { start: 0, end: 0, text: '𝟝' }],
+      ['𝟝', '𝟝𝟞', 0, { start: 2, end: 2, text: '𝟞' }],
+      ['𝟝', '𝟞', Infinity, { start: 0, end: 2, text: '𝟞' }],
+      ['\u{1f600}', '\u{20600}', Infinity, { start: 0, end: 2, text: '\u{20600}' }],
     ];
-    for (const [from, to, behind, wanted] of rows) assert.deepEqual(difference(Array.from(from), scalars(to), behind), wanted);
-    const pieces = ['Tea ', 'at four', '.'];
-    assert.deepEqual(difference(pieces, scalars('Tea at five.')), { at: 1, removed: 1, added: scalars('at five') });
-    assert.deepEqual(difference(pieces, scalars('Tea at four!')), { at: 2, removed: 1, added: ['!'] });
+    for (const [from, to, behind, wanted] of rows) assert.deepEqual(difference(from, to, behind), wanted);
+  },
+
+  replacements() {
+    const pieces = piecesOf('Tea ', 'at 𝟝our', '.');
+    const rows = [
+      ['Tea at five.', { at: 1, removed: 1, added: ['at ', 'five'], isSplit: true }],
+      ['Tea at 𝟝our!', { at: 2, removed: 1, added: ['!'], isSplit: false }],
+      ['Tea Xat 𝟝our.', { at: 1, removed: 0, added: ['X'], isSplit: false }],
+      ['TeaX at 𝟝our.', { at: 0, removed: 1, added: ['Tea', 'X', ' '], isSplit: true }],
+      ['Tea at 𝟝our.\nX\n', { at: 3, removed: 0, added: ['\n', 'X', '\n'], isSplit: false }],
+      ['Tur.', { at: 0, removed: 2, added: ['T', 'ur'], isSplit: true }],
+      ['.', { at: 0, removed: 2, added: [], isSplit: false }],
+    ];
+    for (const [to, wanted] of rows) assert.deepEqual(replacement(pieces, difference(pieces.text, to)), wanted);
+    assert.deepEqual(cut('a'.repeat(600)).map((it) => it.length), [255, 255, 90]);
+    assert.deepEqual(cut('é'.repeat(200)).map((it) => it.length), [127, 73]);
   },
 
   spelling() {
     assert.equal(spelled('a\\ b\nc'), 'a\\\\\\sb\\nc');
     for (const piece of ['\\s', ' \\', '\\n\n', 'é𝟝\\\\n']) assert.equal(unspelled(spelled(piece)), piece);
-    assert.deepEqual(scalars('a\ud835b'), ['a', '\ufffd', 'b']);
   },
 
   typing_pasting_cutting_and_undoing() {
-    const [administrator, user] = administratorAndUser();
+    const [administrator, user] = administratorAndUser('Tea at four.\nBring cups.');
     const { area } = administrator;
-    area.type(0, 0, 'Tea at four.\nBring cups.');
+    assert.equal(administrator.copy.journal.count, RULES.length + 3); // a paste is a piece for each line, and its end
     area.type(7, 11, '𝟝');
     exchange(administrator, user);
     assert.equal(user.area.value, 'Tea at 𝟝.\nBring cups.');
     area.type(7, 9, 'four'); // as the browser's undo does
     exchange(administrator, user);
     assert.equal(user.area.value, 'Tea at four.\nBring cups.');
+    const before = administrator.copy.journal.count;
     area.type(0, area.value.length, '');
     exchange(administrator, user);
     assert.equal(user.area.value, '');
+    assert.equal(administrator.copy.journal.count - before, 5);
   },
 
   composing() {
     const [administrator, user] = administratorAndUser();
+    const before = user.copy.journal.count;
     user.area.dispatchEvent(new Event('compositionstart'));
     user.area.type(0, 0, 'k');
     user.area.type(0, 1, 'か');
-    assert.equal(user.copy.requests.length, 0);
+    assert.equal(user.copy.journal.count, before);
     user.area.dispatchEvent(new Event('compositionend'));
     exchange(administrator, user);
     assert.equal(administrator.area.value, 'か');
   },
 
-  half_of_a_pair() {
+  odd_letters() {
     const [administrator] = administratorAndUser();
     administrator.area.type(0, 0, '\ud835');
-    administrator.editor.refresh();
     assert.equal(administrator.area.value, '\ufffd');
+    administrator.editor.during(() => administrator.copy.step('edit insert 0 a\r\\nb')); // a text area has no CR
+    administrator.area.value = 'a\n\nb\ufffd';
+    administrator.area.type(4, 4, 'X');
+    assert.equal(administrator.copy.pieces.text, 'a\r\nbX\ufffd');
   },
 
   async carets() {
-    const [administrator, user] = administratorAndUser();
-    administrator.area.type(0, 0, 'one two');
+    for (const [text, carets, change, wanted] of CARETS) {
+      const [administrator, user] = administratorAndUser();
+      for (const letter of Array.from(text).toReversed()) administrator.area.type(0, 0, letter);
+      exchange(administrator, user);
+      user.area.setSelectionRange(...carets);
+      administrator.area.type(...change);
+      exchange(administrator, user);
+      assert.deepEqual(user.area.carets, wanted, `${text} ${carets} ${change}`);
+    }
+  },
+
+  async carets_in_pieces() {
+    const [administrator, user] = administratorAndUser('one two');
+    user.area.setSelectionRange(1, 5);
+    administrator.area.type(0, 0, 'X');
     exchange(administrator, user);
-    user.area.setSelectionRange(4, 7);
-    administrator.area.type(3, 3, ' 𝟝');
+    assert.deepEqual(user.area.carets, [2, 6]);
+    administrator.area.type(4, 4, 'Y'); // takes the piece apart
     exchange(administrator, user);
-    assert.deepEqual([user.area.selectionStart, user.area.selectionEnd], [7, 10]);
-    user.editor.run(() => user.copy.receive(administrator.copy.step('edit insert 0 X') && administrator.copy.journal.at(-1).frame));
-    await until('the text shows', () => user.area.value === 'Xone 𝟝 two');
+    assert.equal(user.area.value, 'XoneY two');
+    assert.deepEqual(user.area.carets, [2, 7]);
+    user.editor.run(() => user.copy.receive(administrator.copy.step('edit insert 0 Z') && framesOf(administrator).at(-1)));
+    await until('the text shows', () => user.area.value === 'ZXoneY two');
+    assert.deepEqual(user.area.carets, [3, 8]);
   },
 
   denied() {
     const [administrator, user] = administratorAndUser();
-    user.area.type(0, 0, 'ab');
+    user.area.type(0, 0, 'a');
+    user.area.type(1, 1, 'b');
     exchange(administrator, user);
     administrator.copy.step('validatenext');
     administrator.copy.step('validatenext');
@@ -183,71 +266,102 @@ const tries = {
     assert.equal(words.refusal('denied 0 none', user.copy.policy), 'This is not allowed. No rule of version 0 allows it.');
   },
 
+  denied_within_a_piece() {
+    for (const rights of ['i', 'd']) {
+      const [administrator, user] = administratorAndUser('one two');
+      administrator.copy.step('admin delauth 0');
+      administrator.copy.step(`admin addauth 0 + 1 ${rights} 0`);
+      exchange(administrator, user);
+      user.area.type(3, 4, '-');
+      assert.equal(user.area.value, 'one two');
+      assert.deepEqual(user.refusals, ['denied 4 none']);
+    }
+  },
+
   undone() {
-    const [administrator, user] = administratorAndUser();
-    administrator.area.type(0, 0, 'Tea.');
-    exchange(administrator, user);
+    const [administrator, user] = administratorAndUser('Tea.');
     user.area.type(4, 4, ' Now.');
     administrator.copy.step('admin addauth 0 - 1 idu 0');
     exchange(administrator, user);
     assert.equal(user.area.value, 'Tea.');
-    for (const { copy } of [administrator, user]) {
-      assert.deepEqual(copy.undone.map((it) => words.undone(it, copy.policy)), [
+    const again = opened(1, user.copy.journal.slice(0, user.copy.journal.count));
+    for (const { copy } of [administrator, user, again]) {
+      assert.deepEqual(copy.undone.rows.map((it) => words.undone(it, copy.policy)), [
         'User 1: 5 letters written (“ Now.”). Version 3 of the rules denies it, by the rule that version 3 made: “User 1 may not insert, delete or change in the whole text.”',
       ]);
     }
   },
 
   paragraphs() {
-    const [administrator, user] = administratorAndUser();
-    administrator.area.type(0, 0, 'one\ntwo\nthree');
-    for (const [place, text] of [[0, 'one'], [3, 'one'], [4, 'two'], [7, 'two'], [8, 'three'], [13, 'three']]) {
-      administrator.area.setSelectionRange(place, place);
-      const [first, last] = administrator.editor.paragraph();
-      const elements = administrator.copy.elements();
-      const places = [first, last].map((name) => elements.findIndex((it) => it.name === name));
-      assert.equal(elements.slice(places[0], places[1] + 1).map((it) => it.piece).join(''), text);
+    const [administrator, user] = administratorAndUser('one\ntwo\n\nthree');
+    const { area, editor, copy } = administrator;
+    const rows = [[0, 0, 'one'], [3, 3, 'one'], [4, 4, 'two'], [7, 7, 'two'], [8, 8, null], [9, 9, 'three'], [14, 14, 'three'], [2, 5, 'one\ntwo']];
+    for (const [start, end, text] of rows) {
+      area.setSelectionRange(start, end);
+      const ends = editor.paragraph()?.map((it) => copy.peer.shownUpTo(it));
+      const found = ends ? copy.pieces.text.slice(copy.pieces.startOf(ends[0] - 1), copy.pieces.startOf(ends[1])) : null;
+      assert.equal(found, text);
     }
-    administrator.area.setSelectionRange(5, 5);
-    administrator.copy.step(`admin addobj 1 span ${administrator.editor.paragraph().join(' ')}`);
-    administrator.copy.step('admin addauth 0 - all idu 1');
+    area.setSelectionRange(5, 5);
+    copy.step(`admin addobj 1 span ${editor.paragraph().join(' ')}`);
+    copy.step('admin addauth 0 - all idu 1');
     exchange(administrator, user);
     user.area.type(5, 6, '');
-    assert.equal(user.area.value, 'one\ntwo\nthree');
-    assert.match(words.refusal(user.refusals[0], user.copy.policy), /Nobody may insert, delete or change in paragraph 1\./);
+    assert.equal(user.area.value, 'one\ntwo\n\nthree');
+    assert.match(words.refusal(user.refusals[0], user.copy.policy), /Nobody may insert, delete or change in paragraph 1 \(“two”\)\./);
     user.area.type(0, 1, 'O');
-    assert.equal(user.area.value, 'One\ntwo\nthree');
+    assert.equal(user.area.value, 'One\ntwo\n\nthree');
   },
 
-  long_pieces() {
-    const [administrator, user] = administratorAndUser();
-    administrator.copy.step('edit insert 0 Tea\\sat\\sfour.');
-    administrator.copy.step('edit insert 1 \\sBring\\scups.');
-    exchange(administrator, user);
-    user.area.type(7, 11, 'five');
-    exchange(administrator, user);
-    assert.equal(administrator.area.value, 'Tea at five. Bring cups.');
-    assert.equal(user.copy.requests.length, 2 + 12 + 1);
-  },
-
-  elements_of_made_texts() {
+  pieces_of_made_texts() {
     const sides = administratorAndUser();
+    const texts = ['a', 'long ', 'é𝟝\n', ''];
     for (let i = 0; i < 600; i++) {
       const side = sides[i % 2];
-      const count = side.copy.pieces().length;
-      const place = (i * 7919) % (count + 1);
-      const piece = i % 5 ? String.fromCharCode(97 + (i % 26)) : 'long\\s';
-      const line = i % 7 === 6 && place < count ? `edit delete ${place}` : i % 11 === 10 && place < count ? `edit update ${place} ${piece}` : `edit insert ${place} ${piece}`;
-      side.copy.step(line);
+      const { length } = side.area.value;
+      const start = Math.min(length, (i * 7919) % (length + 1));
+      const end = Math.min(length, start + (i % 7 === 6 ? i % 9 : 0));
+      side.area.type(start, end, texts[i % texts.length]);
+      if (i % 50 === 49) side.copy.step(`edit update 0 new${i}`);
       if (i === 300) sides[0].copy.step('admin addauth 0 - 1 d 0');
       if (i % 13 === 12) exchange(...sides);
-      assert.ok(side.copy.elements(), `the elements are found after ${i} edits`);
     }
     exchange(...sides);
-    assert.deepEqual(sides[0].copy.elements(), sides[1].copy.elements());
+    assert.equal(sides[0].area.value, sides[1].area.value);
+    assert.ok(sides[0].copy.undone.count > 0);
   },
 
-  sessions() {
+  async coming_back() {
+    const [administrator, user] = administratorAndUser('Tea at four.');
+    user.area.type(12, 12, ' Milk?');
+    user.area.type(3, 4, '-');
+    await until('all is kept', () => user.keeper.isDone);
+    const again = opened(1, user.store.bytes);
+    assert.equal(again.area.value, 'Tea-at four. Milk?');
+    assert.deepEqual(again.copy.entries, user.copy.entries);
+    assert.deepEqual([...again.copy.tentative], [...user.copy.tentative]);
+    again.area.type(0, 0, 'No names twice. ');
+    again.sent = user.sent;
+    exchange(administrator, again);
+    assert.equal(administrator.area.value, again.area.value);
+    for (const bytes of [[1], [...user.store.bytes, 0], user.store.bytes.subarray(1), [...user.store.bytes, ...user.store.bytes]]) {
+      assert.throws(() => new Copy(module, 1, Uint8Array.from(bytes)), NoJournal);
+    }
+  },
+
+  async a_store_that_fails() {
+    const copy = new Copy(module, 0);
+    const failures = [];
+    const store = { append: () => Promise.reject(new Error('no room')) };
+    const keeper = new Keeper(copy, store, { kept: assert.fail, failed: (error) => failures.push(error.message) });
+    copy.step('edit insert 0 a');
+    await keeper.keep();
+    await keeper.keep();
+    assert.deepEqual(failures, ['no room']);
+    assert.ok(!keeper.isDone && !new Session(copy).hasNews); // what isn't kept isn't sent
+  },
+
+  async sessions() {
     const [administrator, user] = [opened(0), opened(1)];
     RULES.forEach((it) => administrator.copy.step(it));
     administrator.area.type(0, 0, 'Tea.');
@@ -257,18 +371,18 @@ const tries = {
     const session = new Session(user.copy, (it) => came.push(it), () => false);
     const serve = () => {
       for (const it of came.splice(0)) it.length > 6 && administrator.copy.receive(it);
-      administrator.copy.journal.forEach((it) => session.take(it.frame));
+      user.editor.during(() => framesOf(administrator).forEach((it) => session.take(it)));
       session.take(Uint8Array.of(0, 0, 0, 2, 1, 5));
     };
     session.begin();
     serve();
-    user.editor.refresh();
     assert.equal(user.area.value, 'Tea.');
     user.area.type(4, 4, ' Milk.');
+    await until('all is kept', () => user.keeper.isDone);
     assert.ok(session.hasNews);
     session.begin();
     serve();
-    assert.equal(administrator.copy.text(), 'Tea. Milk.');
+    assert.equal(administrator.copy.pieces.text, 'Tea. Milk.');
     assert.throws(() => session.take(Uint8Array.of(1)), BadFrame); // it isn't the other side's turn
     session.begin();
     assert.throws(() => session.take(Uint8Array.of(0, 0, 0, 1)), BadFrame);
@@ -280,36 +394,50 @@ const tries = {
     const sides = [opened(0), opened(1), opened(2)];
     const open = (side) => {
       side.channel = new Channel(side.copy, { run: (it) => side.editor.run(it) });
-      side.editor.changed = () => side.channel.postNews();
-      side.channel.postNews();
+      side.news = () => side.channel.postNews();
+      side.keeper.keep();
     };
     RULES.forEach((it) => sides[0].copy.step(it));
     open(sides[0]);
     sides[0].area.type(0, 0, 'Tea.');
+    await until('it is kept', () => sides[0].keeper.isDone);
     open(sides[1]);
     await until('the new page has the text', () => sides[1].area.value === 'Tea.');
     sides[1].area.type(4, 4, ' Milk.');
     open(sides[2]);
     await until('all have it', () => sides.every((it) => it.area.value === 'Tea. Milk.'));
-    sides[0].channel.channel.postMessage([Uint8Array.of(1, 2), 'no frame']);
-    sides[0].channel.channel.postMessage({ no: 'frames' });
+    sides[0].channel.channel.postMessage(Uint8Array.of(1, 2));
+    for (const it of [{ no: 'frames' }, { had: 1 }, null, 'ask']) sides[0].channel.channel.postMessage(it);
     sides[0].area.type(0, 3, 'Coffee');
     await until('what is no frame does no harm', () => sides.every((it) => it.area.value === 'Coffee. Milk.'));
     sides.forEach((it) => it.channel.channel.close());
   },
 
+  what_one_lacks() {
+    const [administrator, user] = administratorAndUser('Tea.');
+    const all = administrator.copy.journal;
+    const given = (told) => [...split(all.choose(lacking(all, all.count, told)))].length;
+    assert.equal(given(having(user.copy.journal, user.copy.journal.count)), 0);
+    administrator.area.type(4, 4, ' Milk.');
+    administrator.copy.step('admin adduser 2');
+    assert.equal(given(having(user.copy.journal, user.copy.journal.count)), 2);
+    const told = { entries: 3, sites: new Map([[0, { count: 1, last: 2 }]]) }; // he lacks the first
+    assert.equal(given(told), 2);
+    for (const it of [null, {}, { sites: new Map([[0, null]]) }]) assert.equal(given(it), all.count);
+  },
+
   async want_of_memory() {
-    const copy = new Copy(new Peer(await Module.load(limited(bytes, 64)), 0));
-    const area = new Area();
-    const editor = new Editor(copy, area, { refused: () => {}, changed: () => {} });
+    const copy = new Copy(await Module.load(limited(bytes, 64)), 0);
+    const editor = new Editor(copy, new Area(), { refused: () => {}, changed: () => {} });
     const made = () => {
       for (let i = 0; i < 100000; i++) copy.step(`edit insert ${i} x`);
     };
     assert.throws(made, NoMemory);
-    const count = Number(/^no place ([0-9]+)$/.exec(copy.step('edit delete 4294967295'))[1]);
-    assert.ok(count > 100 && count - copy.journal.length <= 1); // the last insert may be made and not told
+    const { count } = copy.pieces;
+    assert.ok(count > 100 && count - copy.journal.count <= 1); // the last insert may be made and not told
     assert.equal(copy.step('settle'), 'quiet');
-    assert.equal(editor.pieces.length, 0);
+    editor.show();
+    assert.equal(editor.area.value, 'x'.repeat(count));
   },
 
   a_site_that_wrote_before() {
@@ -317,13 +445,12 @@ const tries = {
     user.area.type(0, 0, 'a');
     exchange(administrator, user);
     const again = opened(1);
-    administrator.copy.journal.forEach((it) => again.copy.receive(it.frame));
-    again.editor.refresh();
+    again.editor.during(() => framesOf(administrator).forEach((it) => again.copy.receive(it)));
     assert.ok(again.copy.isStale && again.area.readOnly);
     const changed = opened(1);
-    administrator.copy.journal.slice(0, 2).forEach((it) => changed.copy.receive(it.frame));
+    framesOf(administrator).slice(0, 2).forEach((it) => changed.copy.receive(it));
     changed.copy.step('edit insert 0 b');
-    changed.copy.receive(administrator.copy.journal.at(-1).frame);
+    changed.copy.receive(framesOf(administrator).at(-1));
     assert.ok(changed.copy.isStale);
   },
 };
@@ -350,7 +477,7 @@ async function link_to_the_program(program) {
   const sides = [opened(1), opened(2)];
   for (const side of sides) {
     side.link = new Link(side.copy, { run: (it) => side.editor.run(it), told: () => {}, validates: () => false });
-    side.editor.changed = () => side.link.plan();
+    side.news = () => side.link.plan();
     side.link.open(`ws://127.0.0.1:${port}/`);
   }
   await until('both have the text', () => sides.every((it) => it.area.value === 'Tea at four.'));

@@ -1,51 +1,88 @@
-// A person's own copy: the peer, the items of its journal, the policy that they make, and what was undone.
-import { BAD, DONE, NoMemory, UNTOLD } from './peer.mjs';
-import { readMessage, undoneBy } from './lines.mjs';
+// A person's own copy: the peer, the frames of its journal's items, the pieces that show, the policy, and what was undone.
+import { BAD, DONE, NoMemory, Peer, UNTOLD } from './peer.mjs';
+import { Frames, isEntry, requestOf, split } from './frames.mjs';
+import { readMessage, spelled, undoneBy } from './lines.mjs';
+import { Pieces } from './pieces.mjs';
 import { Policy } from './policy.mjs';
-import { shownElements } from './elements.mjs';
+import { Undone } from './undone.mjs';
 
 // A frame of no message: the bytes are at fault, and whoever sent them.
 export class BadFrame extends Error {}
 
-const FAR_PLACE = 4294967295;
+const ITEM = 'item ';
+const EXCERPT = 24; // letters by which a paragraph is told
 
 export class Copy {
-  constructor(peer) {
-    this.peer = peer;
-    this.site = peer.site;
-    this.journal = []; // of each item its message and its frame
-    this.requests = [];
+  // The copy of a site's peer whose journal the bytes are; a fresh one for none. Throws NoJournal.
+  constructor(module, site, bytes) {
+    this.peer = new Peer(module, site, bytes);
+    this.site = site;
+    this.journal = new Frames();
+    this.kept = 0; // so many of its items are in the browser's store
     this.policy = new Policy();
-    this.tentative = new Map(); // by their names, those that a new version may undo
-    this.invalid = new Map(); // by their names, why those that were undone were
-    this.undone = []; // of requests of one person that were undone for one reason, the last last
-    this.hasLongPieces = false;
-    this.hasWritten = false; // others may have what this site wrote
+    this.entries = []; // the messages of the policy's versions
+    this.tentative = new Map(); // by their names, the places in the journal of those that a new version may undo
+    this.undone = new Undone();
     this.isStale = false; // this site wrote before what isn't here
+    this.shown = null; // the pieces that show, where they are known
+    if (bytes) this.takeAll(bytes);
   }
 
-  // Makes a step, and takes in what the journal has since. The answer, and the code where it isn't DONE.
+  // Takes in a journal whose requests have their last states already.
+  takeAll(bytes) {
+    const undone = [];
+    for (const frame of split(bytes)) {
+      const place = this.journal.count;
+      this.journal.append(frame);
+      if (isEntry(frame)) {
+        this.takeVersion(this.item(place).message);
+        continue;
+      }
+      const denial = this.denialOf(requestOf(frame), place);
+      if (denial) undone.push({ place, denial });
+    }
+    undone.sort((a, b) => a.denial.version - b.denial.version);
+    for (const { place, denial } of undone) this.undone.put(this.item(place).message, denial);
+    this.kept = this.journal.count;
+  }
+
+  // The pieces that show.
+  get pieces() {
+    this.shown ??= Pieces.of(this.peer.text(), this.peer.sizes());
+    return this.shown;
+  }
+
+  // Makes a step, and takes in what the journal has since. The answer, and an error where the code isn't DONE.
   step(line) {
     const told = this.peer.step(line);
-    this.takeIn();
+    this.takeIn(told.answer);
     if (told.code === UNTOLD) throw new NoMemory();
     if (told.code !== DONE) throw new Error(`“${line}” is no step: a number may be too large, or there are too many.`);
     return told.answer;
   }
 
+  insert(place, piece) {
+    return this.step(`edit insert ${place} ${spelled(piece)}`);
+  }
+
+  delete(place) {
+    return this.step(`edit delete ${place}`);
+  }
+
+  // Whether some rule lets this person insert somewhere.
+  get mayInsert() {
+    return this.site === 0 || this.policy.mayInsert(this.site);
+  }
+
   // Receives a message, and settles what is due by then.
   receive(frame) {
     const { code, answer } = this.peer.receive(frame);
+    this.takeIn(answer);
     if (code === BAD) throw new BadFrame();
+    if (code === UNTOLD) throw new NoMemory();
     if (this.tellsOfOwn(answer)) this.isStale = true;
-    while (this.peer.step('settle').answer !== 'quiet');
-    this.takeIn();
+    while (this.step('settle') !== 'quiet');
     return answer;
-  }
-
-  // Whether a message is this site's own.
-  isOwn(message) {
-    return message.kind === 'entry' ? this.site === 0 : message.user === this.site;
   }
 
   // Whether an answer to a message says that this site issued it before, and doesn't have it.
@@ -54,70 +91,87 @@ export class Copy {
     return answer === 'own site' || answer === 'own log';
   }
 
+  // Whether a message is this site's own.
+  isOwn(message) {
+    return message.kind === 'entry' ? this.site === 0 : message.user === this.site;
+  }
+
   // Confirms all that waits for it.
   validateAll() {
     while (this.step('validatenext').startsWith('entry '));
   }
 
-  // Takes in the journal's new items.
-  takeIn() {
-    for (;;) {
-      const { answer, frame } = this.peer.step(`look ${this.journal.length}`);
-      if (!answer.startsWith('item ')) return;
-      const message = readMessage(answer.slice('item '.length));
-      this.journal.push({ message, frame });
-      if (this.isOwn(message)) this.hasWritten = true;
-      if (message.kind === 'entry') this.takeEntry(message);
-      else this.takeRequest(message);
+  // The journal's item at a place, as a message; null where it is shorter.
+  item(place) {
+    const { answer, frame } = this.peer.step(`look ${place}`);
+    return answer.startsWith(ITEM) ? { message: readMessage(answer.slice(ITEM.length)), frame } : null;
+  }
+
+  // Takes in what the journal has since a step that had this answer: an item, if any.
+  takeIn(answer) {
+    for (let it = this.item(this.journal.count); it; it = this.item(this.journal.count)) {
+      const place = this.journal.count;
+      this.journal.append(it.frame);
+      if (it.message.kind === 'entry') this.takeEntry(it.message, !answer.endsWith(' undone 0'));
+      else this.takeRequest(it.message, place);
     }
   }
 
-  takeEntry(entry) {
+  takeVersion(entry) {
     this.policy.take(entry);
+    this.entries.push(entry);
+    const [kind, number, extent, first, last] = entry.op;
+    if (kind === 'addobj' && extent === 'span') this.policy.named.get(Number(number)).said = this.excerpt(first, last);
+  }
+
+  // The first letters of what shows from one element to another.
+  excerpt(first, last) {
+    const { peer, pieces } = this;
+    const upTo = peer.shownUpTo(first) ?? 0;
+    const from = upTo && peer.nameAt(upTo - 1) === first ? upTo - 1 : upTo;
+    const letters = Array.from(pieces.text.slice(pieces.startOf(from), pieces.startOf(peer.shownUpTo(last) ?? 0)));
+    return letters.length > EXCERPT ? `${letters.slice(0, EXCERPT).join('')}…` : letters.join('');
+  }
+
+  takeEntry(entry, mayUndo) {
+    this.takeVersion(entry);
     const [kind, name] = entry.op;
-    const asked = kind === 'validate' ? [this.tentative.get(name)].filter(Boolean) : [...this.tentative.values()];
-    asked.forEach((it) => this.ask(it));
+    const asked = mayUndo ? [...this.tentative.keys()] : [];
+    for (const it of kind === 'validate' ? [name] : asked) {
+      if (this.tentative.has(it)) this.judge(it, this.tentative.get(it));
+    }
   }
 
-  takeRequest(request) {
-    this.requests.push(request);
-    if (Array.from(request.edit.piece ?? '').length > 1) this.hasLongPieces = true;
-    if (request.user === 0) return;
-    this.tentative.set(request.name, request);
-    this.ask(request);
-  }
-
-  // Asks the peer for the state of a request that may have changed.
-  ask(request) {
-    const state = this.peer.state(request.name);
-    if (state === 'tentative') return;
-    this.tentative.delete(request.name);
-    const denial = undoneBy(state);
+  // What showed until now may be undone. Where it is, all of the text may be another.
+  judge(name, place) {
+    const denial = this.denialOf({ user: null, name }, place);
     if (!denial) return;
-    this.invalid.set(request.name, denial);
-    this.putUndone(request, denial);
+    this.undone.put(this.item(place).message, denial);
+    this.shown = null;
   }
 
-  putUndone(request, denial) {
-    const last = this.undone.at(-1);
-    const isSame = last && last.user === request.user && last.denial.version === denial.version && last.denial.by === denial.by;
-    if (isSame) last.requests.push(request);
-    else this.undone.push({ user: request.user, denial, requests: [request] });
+  takeRequest(request, place) {
+    const denial = this.denialOf(request, place);
+    if (denial) this.undone.put(request, denial);
+    else this.follow(request);
   }
 
-  text() {
-    return this.peer.text();
+  // Asks the peer for the state of a request that isn't the administrator's: its denial, or null.
+  denialOf({ user, name }, place) {
+    if (user === 0) return null;
+    const state = this.peer.state(name);
+    if (state === 'tentative') this.tentative.set(name, place);
+    else this.tentative.delete(name);
+    return undoneBy(state);
   }
 
-  // The elements that show, with their names; null where they can't be told.
-  elements(text = this.text()) {
-    return shownElements(this.requests, (it) => !this.invalid.has(it.name), text);
-  }
-
-  // The pieces that show, in order; null where they can't be told. An edit out of the text tells how many there are.
-  pieces(text = this.text()) {
-    const [, , count] = this.peer.step(`edit delete ${FAR_PLACE}`).answer.split(' ');
-    const found = this.hasLongPieces ? this.elements(text)?.map((it) => it.piece) : Array.from(text);
-    return found?.length === Number(count) ? found : null;
+  // Puts what a new request changed into the pieces, where one piece came or went by it; else they are asked for anew.
+  follow({ name, edit }) {
+    const { shown } = this;
+    if (!shown) return;
+    const came = this.peer.count() - shown.count;
+    if (edit.kind === 'insert' && came === 1) shown.splice(this.peer.shownUpTo(name) - 1, 0, [edit.piece]);
+    else if (edit.kind === 'delete' && came === -1) shown.splice(this.peer.shownUpTo(edit.name), 1, []);
+    else if (came !== 0 || edit.kind === 'update') this.shown = null;
   }
 }

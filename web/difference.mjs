@@ -1,31 +1,51 @@
-// Where a text that was typed differs from the pieces that were shown.
+// Where a text that was typed differs from the one that was shown, and which pieces it takes.
 
-// `from` are pieces, `to` scalar values: so many pieces are alike in front, then `removed` pieces are replaced by `added`.
-// No more than `behind` scalar values are taken for alike at the end, so that among equal letters the place of the caret decides.
+const MOST_BYTES = 255; // of a piece
+const encoder = new TextEncoder();
+
+const isHigh = (unit) => (unit & 0xfc00) === 0xd800;
+const isLow = (unit) => (unit & 0xfc00) === 0xdc00;
+
+// In units of UTF-16: `text` replaces what stands from `start` to `end`. No more than `behind` units are taken for alike at the
+// end, so that among equal letters the place of the caret decides.
 export function difference(from, to, behind = Infinity) {
-  const { front, back } = alike(from.join(''), to, behind);
-  const sizes = from.map((it) => Array.from(it).length);
-  const all = sizes.reduce((sum, it) => sum + it, 0);
-  const [first, start] = whole(sizes, front);
-  const [last, rest] = whole(sizes.toReversed(), Math.min(back, all - start));
-  return { at: first, removed: from.length - first - last, added: to.slice(start, to.length - rest) };
-}
-
-// How many scalar values are alike at the end and then in front.
-function alike(before, to, behind) {
-  const from = Array.from(before);
   const most = Math.min(from.length, to.length);
   let back = 0;
-  while (back < Math.min(most, behind) && from.at(-1 - back) === to.at(-1 - back)) back++;
+  while (back < Math.min(most, behind) && from.charCodeAt(from.length - 1 - back) === to.charCodeAt(to.length - 1 - back)) back++;
+  if (isLow(from.charCodeAt(from.length - back)) || isLow(to.charCodeAt(to.length - back))) back--;
   let front = 0;
-  while (front < most - back && from[front] === to[front]) front++;
-  return { front, back };
+  while (front < most - back && from.charCodeAt(front) === to.charCodeAt(front)) front++;
+  if (front && isHigh(from.charCodeAt(front - 1))) front--;
+  return { start: front, end: from.length - back, text: to.slice(front, to.length - back) };
 }
 
-// How many pieces of these sizes lie whole within so many scalar values, and their size.
-function whole(sizes, within) {
-  let count = 0;
-  let size = 0;
-  while (count < sizes.length && size + sizes[count] <= within) size += sizes[count++];
-  return [count, size];
+// The pieces that a text is written in: a line end is one of its own, so that paragraphs begin and end with pieces, and what stands
+// between two is as few as can be.
+export function cut(text) {
+  const pieces = [];
+  let size = Infinity; // of the last piece
+  for (const letter of text) {
+    const bytes = letter === '\n' ? MOST_BYTES : encoder.encode(letter).length;
+    if (size + bytes > MOST_BYTES) {
+      pieces.push(letter);
+      size = bytes;
+    } else {
+      pieces[pieces.length - 1] += letter;
+      size += bytes;
+    }
+  }
+  return pieces;
+}
+
+// What a difference does to pieces: `removed` ones from the place `at` are replaced by `added`, among these what stays of the pieces
+// in which it begins and ends.
+export function replacement(pieces, { start, end, text }) {
+  const first = pieces.behind(start);
+  const isWithin = first.start < start;
+  if (start === end && !isWithin) return { at: first.place, removed: 0, added: cut(text), isSplit: false };
+  const last = pieces.behind(Math.max(start, end - 1));
+  const front = pieces.text.slice(first.start, start);
+  const back = pieces.text.slice(end, last.end);
+  const added = [front, ...cut(text), back].filter(Boolean);
+  return { at: first.place, removed: last.place + 1 - first.place, added, isSplit: Boolean(front || back) };
 }

@@ -1,9 +1,12 @@
 // What a person types becomes steps, and what comes from others goes into the text area.
-import { scalars, spelled } from './lines.mjs';
-import { difference } from './difference.mjs';
+import { difference, replacement } from './difference.mjs';
+import { caretAt, moved, offsetOf } from './caret.mjs';
 
 const DRAIN_MS = 16; // so that a burst of messages is shown at once
 const MOST_AT_ONCE = 1000;
+
+// A text as a text area has it, which knows one line end: as long, in the same places.
+const inArea = (text) => text.replaceAll('\r', '\n');
 
 export class Editor {
   // `refused` is given the answer to an edit that wasn't made, `changed` is called after each change.
@@ -12,11 +15,11 @@ export class Editor {
     this.area = area;
     this.refused = refused;
     this.changed = changed;
+    this.isClosed = false; // nothing more may be typed
     this.isComposing = false;
     this.waiting = [];
     this.timer = null;
-    this.pieces = [];
-    this.refresh();
+    this.show();
     area.addEventListener('compositionstart', () => (this.isComposing = true));
     area.addEventListener('compositionend', () => this.endComposition());
     area.addEventListener('input', () => this.isComposing || this.typed());
@@ -43,80 +46,81 @@ export class Editor {
     this.timer = null;
     if (this.isComposing) return;
     try {
-      for (let i = 0; i < MOST_AT_ONCE && this.waiting.length; i++) this.waiting.shift()();
+      this.during(() => {
+        for (let i = 0; i < MOST_AT_ONCE && this.waiting.length; i++) this.waiting.shift()();
+      });
     } finally {
       this.plan();
-      this.refresh();
-      this.changed();
     }
   }
 
-  // The letters go in before those that they replace go out, so that where only one of both is allowed nothing is lost.
-  typed() {
-    if (!this.pieces) return this.refresh();
+  // Runs an action on the copy, and shows the text with its carets behind the pieces that they stood behind.
+  during(action) {
     const { area } = this;
-    const behind = scalars(area.value.slice(area.selectionEnd)).length;
-    const { at, removed, added } = difference(this.pieces, scalars(area.value), behind);
-    const lines = added.map((it, i) => `edit insert ${at + i} ${spelled(it)}`);
-    for (let i = 0; i < removed; i++) lines.push(`edit delete ${at + added.length}`);
-    let isMade = false;
+    const carets = [area.selectionStart, area.selectionEnd].map((it) => caretAt(this.copy, it));
     try {
-      isMade = lines.every((it) => this.make(it));
+      return action();
     } finally {
-      if (isMade) this.pieces = [...this.pieces.slice(0, at), ...added, ...this.pieces.slice(at + removed)];
-      else this.refresh();
+      this.show((caret, change) => offsetOf(this.copy, caret, change), carets);
       this.changed();
     }
   }
 
-  make(line) {
-    const answer = this.copy.step(line);
+  // What differs between the text that showed and the one that was typed becomes edits.
+  typed() {
+    const { area, copy } = this;
+    const behind = area.value.length - area.selectionEnd;
+    const change = replacement(copy.pieces, difference(inArea(copy.pieces.text), area.value.toWellFormed(), behind));
+    try {
+      this.make(change);
+    } finally {
+      this.show();
+      this.changed();
+    }
+  }
+
+  // The letters go in before those that they replace go out, so that where only one of both is allowed nothing is lost. A piece that
+  // is taken apart goes out first, so that where it must stay it doesn't stand there twice.
+  make({ at, removed, added, isSplit }) {
+    const insert = () => added.every((piece, i) => this.isMade(this.copy.insert(at + i, piece)));
+    const remove = (place) => Array.from({ length: removed }).every(() => this.isMade(this.copy.delete(place)));
+    if (isSplit && this.copy.mayInsert) return remove(at) && insert();
+    return insert() && remove(at + added.length);
+  }
+
+  isMade(answer) {
     const isMade = answer.startsWith('done ');
     if (!isMade) this.refused(answer);
     return isMade;
   }
 
-  // The text that the peer shows goes into the area. A place behind the difference moves with what is behind it, one in front
-  // stays, one within goes to its end. Among equal letters that may be another place than the person's.
-  refresh() {
-    this.pieces = null; // until they are known: the peer may find no memory to tell them
-    const text = this.copy.text();
-    this.pieces = this.copy.pieces(text);
-    this.area.readOnly = !this.pieces || this.copy.isStale;
-    if (this.area.value !== text) this.put(text);
-  }
-
-  put(text) {
+  // The peer's text goes into the area, where another one stands there. `placed` tells where a caret goes.
+  show(placed = moved, carets = [this.area.selectionStart, this.area.selectionEnd]) {
     const { area } = this;
-    const [from, to] = [scalars(area.value), scalars(text)];
-    const { at, removed, added } = difference(from, to);
-    const moved = (place) => {
-      if (place <= at) return place;
-      return place >= at + removed ? place + added.length - removed : at + added.length;
-    };
-    const [start, end] = [area.selectionStart, area.selectionEnd].map((units) => {
-      const place = moved(scalars(area.value.slice(0, units)).length);
-      return to.slice(0, place).join('').length;
-    });
+    area.readOnly = this.isClosed || this.copy.isStale;
+    const text = inArea(this.copy.pieces.text);
+    const { value, selectionDirection } = area;
+    if (value === text) return;
+    const change = difference(value, text);
+    const [start, end] = carets.map((it) => placed(it, change));
     area.value = text;
-    area.setSelectionRange(start, end);
+    area.setSelectionRange(start, end, selectionDirection);
   }
 
-  // The first and the last element of the paragraph in which the selection begins; null where there is none.
+  close() {
+    this.isClosed = true;
+    this.area.readOnly = true;
+  }
+
+  // The names of the first and the last piece of the paragraphs in which the selection stands; null where there is none.
   paragraph() {
-    const elements = this.copy.elements();
-    const place = scalars(this.area.value.slice(0, this.area.selectionStart)).length;
-    if (!elements) return null;
-    let size = 0;
-    const lines = [[]];
-    let chosen = null;
-    for (const element of elements) {
-      if (size >= place) chosen ??= lines.at(-1);
-      size += Array.from(element.piece).length;
-      if (element.piece === '\n') lines.push([]);
-      else lines.at(-1).push(element.name);
-    }
-    chosen ??= lines.at(-1);
-    return chosen.length ? [chosen[0], chosen.at(-1)] : null;
+    const { area, copy } = this;
+    const { pieces } = copy;
+    const text = inArea(pieces.text);
+    const start = area.selectionStart ? text.lastIndexOf('\n', area.selectionStart - 1) + 1 : 0;
+    const next = text.indexOf('\n', Math.max(start, area.selectionEnd));
+    const end = next < 0 ? text.length : next;
+    if (start === end) return null;
+    return [start, end - 1].map((it) => copy.peer.nameAt(pieces.behind(it).place));
   }
 }

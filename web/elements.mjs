@@ -1,53 +1,31 @@
-// Which element each piece of the text is, read from the journal. The peer doesn't tell it yet, so it is found here anew, and held
-// against the peer's own text: where they differ, nothing is told.
-import { compareNames } from './lines.mjs';
+// What the page's parts do with its HTML. Nothing that comes by a link is ever markup: all of it goes in as text.
 
-const START = '0.0';
+export const of = (id) => document.getElementById(id);
 
-// The inserts of a journal by what they are anchored on, those of the greatest name last.
-function children(requests) {
-  const found = new Map();
-  for (const request of requests) {
-    if (request.edit.kind !== 'insert') continue;
-    const anchor = request.edit.name;
-    if (!found.has(anchor)) found.set(anchor, []);
-    found.get(anchor).push(request);
-  }
-  for (const siblings of found.values()) siblings.sort((a, b) => compareNames(a.name, b.name));
-  return found;
+export function say(id, text) {
+  if (of(id).textContent !== text) of(id).textContent = text;
 }
 
-// The inserts in text order: each before those that are anchored on it, and of two on one anchor the greater name first.
-function inOrder(requests) {
-  const below = children(requests);
-  const found = [];
-  const waiting = (below.get(START) ?? []).slice();
-  while (waiting.length) {
-    const next = waiting.pop();
-    found.push(next);
-    for (const it of below.get(next.name) ?? []) waiting.push(it);
-  }
-  return found;
+export function item(...parts) {
+  const line = document.createElement('li');
+  line.append(...parts);
+  return line;
 }
 
-// The deleted elements, and the last update of each, of those requests that count.
-function changes(requests) {
-  const deleted = new Set();
-  const updates = new Map();
-  for (const { name, edit } of requests) {
-    if (edit.kind === 'delete') deleted.add(edit.name);
-    if (edit.kind !== 'update') continue;
-    const last = updates.get(edit.name);
-    if (!last || compareNames(last.name, name) < 0) updates.set(edit.name, { name, piece: edit.piece });
-  }
-  return { deleted, updates };
+export function button(text, label, action) {
+  const made = document.createElement('button');
+  made.type = 'button';
+  made.textContent = text;
+  made.setAttribute('aria-label', label);
+  made.addEventListener('click', action);
+  return made;
 }
 
-// The elements that show, in text order, each with its name and its piece; null where they don't make the text.
-export function shownElements(requests, counts, text) {
-  const { deleted, updates } = changes(requests.filter(counts));
-  const shown = inOrder(requests)
-    .filter((it) => counts(it) && !deleted.has(it.name))
-    .map(({ name, edit }) => ({ name, piece: updates.get(name)?.piece ?? edit.piece }));
-  return shown.map((it) => it.piece).join('') === text ? shown : null;
+// Gives bytes to the person as a file.
+export function download(bytes, name) {
+  const link = document.createElement('a');
+  link.href = URL.createObjectURL(new Blob([bytes], { type: 'application/octet-stream' }));
+  link.download = name;
+  link.click();
+  setTimeout(() => URL.revokeObjectURL(link.href), 60000);
 }

@@ -6,6 +6,7 @@ const ROUND_MS = 1000; // from one round to the next where there is no news
 const NEWS_MS = 100; // where there is
 const FIRST_WAIT_MS = 1000;
 const LONGEST_WAIT_MS = 30000;
+const LAST_TURN_MS = 5000; // to wait for the other side's turn where the link is ended
 const WENT = 1000;
 const BROKE_PROTOCOL = 4002;
 const OPEN = 1;
@@ -33,15 +34,17 @@ export class Link {
     this.connect();
   }
 
-  // Ends the session where it can be ended, and dials no more.
+  // Dials no more, and ends the session: where it is the other side's turn, behind it.
   close() {
     this.stopTimer();
     this.address = null;
     const { socket, session } = this;
     this.socket = null;
     this.told('There is no link.');
-    if (socket?.readyState === OPEN) session.end();
-    socket?.close(WENT);
+    if (socket?.readyState !== OPEN) return socket?.close();
+    session.end();
+    if (session.isOver) socket.close(WENT);
+    else setTimeout(() => socket.close(WENT), LAST_TURN_MS);
   }
 
   connect() {
@@ -54,11 +57,12 @@ export class Link {
     }
     socket.binaryType = 'arraybuffer';
     this.socket = socket;
-    this.session = new Session(this.copy, (bytes) => socket.send(bytes), this.validates);
+    const session = new Session(this.copy, (bytes) => socket.send(bytes), this.validates);
+    this.session = session;
     this.told('Dialling.');
     const ours = (action) => (event) => this.socket === socket && action(event);
     socket.addEventListener('open', ours(() => this.opened()));
-    socket.addEventListener('message', ours(({ data }) => this.run(ours(() => this.take(data)))));
+    socket.addEventListener('message', ({ data }) => this.run(() => this.take(data, socket, session)));
     // A socket that never opened tells of an error, and not everywhere of a close too.
     for (const end of ['error', 'close']) socket.addEventListener(end, ours(() => this.lost()));
   }
@@ -70,19 +74,19 @@ export class Link {
   }
 
   // Takes a message. The first that is none ends the session, and so does want of memory: dialled again, all comes again.
-  take(data) {
-    if (this.session.isOver) return;
+  take(data, socket, session) {
+    if (session.isOver) return;
     try {
       if (!(data instanceof ArrayBuffer)) throw new BadFrame();
-      this.session.take(new Uint8Array(data));
+      session.take(new Uint8Array(data));
     } catch (error) {
-      this.session.isOver = true;
-      this.socket.close(error instanceof BadFrame ? BROKE_PROTOCOL : WENT);
+      session.isOver = true;
+      socket.close(error instanceof BadFrame ? BROKE_PROTOCOL : WENT);
       if (error instanceof BadFrame) return;
       throw error;
     }
-    if (this.session.isOver) this.socket.close(WENT);
-    else if (!this.session.isListening) this.plan();
+    if (session.isOver) socket.close(WENT);
+    else if (!session.isListening) this.plan();
   }
 
   stopTimer() {

@@ -51,6 +51,15 @@ export class Policy {
     this.made.set(authorization.version, authorization);
   }
 
+  // Whether some authorization lets a user insert somewhere, whatever else is forbidden.
+  mayInsert(user) {
+    const isFor = ({ kind, numbers }) => {
+      if (kind === 'all') return true;
+      return kind === 'users' ? numbers.includes(user) : numbers.some((it) => this.groups.get(it)?.has(user));
+    };
+    return this.users.has(user) && this.authorizations.some((it) => it.allows && it.rights.includes('i') && isFor(it.users));
+  }
+
   // A number that is no object's and never was.
   freeObject() {
     let number = 1;

@@ -17,24 +17,27 @@ export class Session {
     this.validates = validates;
     this.mark = 0; // how many items of the journal were sent on this link
     this.isListening = false;
+    this.isEnding = false;
     this.isOver = false;
   }
 
-  // Whether this side has items that it didn't send yet.
+  // Whether this side has items that it didn't send yet. It sends none that isn't kept, so that it never comes back with less than
+  // others have of it.
   get hasNews() {
-    return this.mark < this.copy.journal.length;
+    return this.mark < this.copy.kept;
   }
 
   // Begins a round: the items from the mark on, and a turn.
   begin() {
     if (this.isListening || this.isOver) return;
-    for (; this.hasNews; this.mark++) this.send(this.copy.journal[this.mark].frame);
+    for (; this.hasNews; this.mark++) this.send(this.copy.journal.at(this.mark));
     this.send(TURN);
     this.isListening = true;
   }
 
-  // Says that nothing more comes, where it is this side's turn.
+  // Says that nothing more comes: at once where it is this side's turn, else behind the other side's.
   end() {
+    this.isEnding = true;
     if (this.isListening || this.isOver) return;
     this.send(END);
     this.isOver = true;
@@ -51,5 +54,6 @@ export class Session {
   takeTurn() {
     this.isListening = false;
     if (this.validates()) this.copy.validateAll();
+    if (this.isEnding) this.end();
   }
 }

@@ -39,7 +39,7 @@ export function object(number, policy) {
   if (extent.kind === 'all') return 'the whole text';
   if (extent.kind === 'by') return `what ${person(Number(extent.words[0]))} wrote`;
   if (extent.kind === 'elems') return `part ${number} (single letters)`;
-  return `paragraph ${number}`;
+  return `paragraph ${number}${extent.said ? ` (“${extent.said}”)` : ''}`;
 }
 
 function rights(letters) {
@@ -104,22 +104,27 @@ export function change({ version, op: [kind, ...words] }, policy) {
   return CHANGES[kind](words, policy);
 }
 
+function counted(count, one) {
+  return `${count} ${one}${count === 1 ? '' : 's'}`;
+}
+
 const EDITS = {
-  insert: (count) => `${count} ${count === 1 ? 'letter' : 'letters'} written`,
-  delete: (count) => `${count} ${count === 1 ? 'letter' : 'letters'} deleted`,
-  update: (count) => `${count} ${count === 1 ? 'letter' : 'letters'} changed`,
+  insert: (count) => `${counted(count, 'letter')} written`,
+  delete: (count) => counted(count, 'deletion'),
+  update: (count) => counted(count, 'change'),
 };
 
 const SHOWN_LETTERS = 60;
 
 // Requests of one person that were undone for one reason.
-export function undone({ user, denial, requests }, policy) {
-  const counts = Object.keys(EDITS)
-    .map((kind) => [kind, requests.filter((it) => it.edit.kind === kind).length])
-    .filter(([, count]) => count)
-    .map(([kind, count]) => EDITS[kind](count));
-  const letters = Array.from(requests.filter((it) => it.edit.kind === 'insert').map((it) => it.edit.piece).join(''));
+export function undone({ user, denial, counts, letters }, policy) {
+  const said = Object.entries(counts).filter(([, count]) => count).map(([kind, count]) => EDITS[kind](count));
   const more = letters.length > SHOWN_LETTERS ? '…' : '';
   const what = letters.length ? ` (“${letters.slice(0, SHOWN_LETTERS).join('')}${more}”)` : '';
-  return `${capital(person(user))}: ${listed(counts)}${what}. ${reason(denial, policy)}`;
+  return `${capital(person(user))}: ${listed(said)}${what}. ${reason(denial, policy)}`;
+}
+
+// How many edits were confirmed or undone.
+export function edits(count) {
+  return counted(count, 'edit');
 }

@@ -1,0 +1,71 @@
+// The administrator's buttons: each is one operation of the policy, but for the protection of a paragraph, which is two.
+import { of, say } from './elements.mjs';
+import * as words from './words.mjs';
+
+export class Administration {
+  // `refused` is given the answer to an operation that wasn't made.
+  constructor(copy, editor, refused) {
+    this.copy = copy;
+    this.editor = editor;
+    this.refused = refused;
+    of('administration').hidden = false;
+    this.listen();
+  }
+
+  listen() {
+    of('people-form').addEventListener('submit', (event) => {
+      event.preventDefault();
+      this.make(`admin ${event.submitter.value} ${Number(of('user').value)}`);
+    });
+    of('rule-form').addEventListener('submit', (event) => {
+      event.preventDefault();
+      this.addRule(event.submitter.value);
+    });
+    of('protect').addEventListener('click', () => this.protect());
+    of('validate').addEventListener('click', () => this.make('validatenext'));
+    of('validate-all').addEventListener('click', () => this.validateAll());
+  }
+
+  // Makes a step of the rules, and says in words what came of it.
+  make(step) {
+    const answer = this.editor.during(() => this.copy.step(step));
+    const isMade = answer.startsWith('entry ');
+    if (isMade) this.tell(Number(answer.split(' ').at(-1)));
+    else this.refused(answer);
+    return isMade;
+  }
+
+  tell(undone) {
+    const entry = this.copy.entries.at(-1);
+    const more = undone ? ` It undid ${words.edits(undone)}.` : '';
+    say('status', `Version ${entry.version}: ${words.change(entry, this.copy.policy)}${more}`);
+  }
+
+  addRule(sign) {
+    const rights = [...document.querySelectorAll('input[name=right]:checked')].map((it) => it.value).join('');
+    const whom = of('whom').value;
+    const numbers = whom.split(',').map(Number).sort((a, b) => a - b);
+    if (!rights) return say('status', 'A rule is about one of insert, delete and change at least.');
+    this.make(`admin addauth 0 ${sign} ${whom === 'all' ? whom : [...new Set(numbers)].join(',')} ${rights} ${of('object').value}`);
+  }
+
+  removeRule(place) {
+    this.make(`admin delauth ${place}`);
+  }
+
+  validateAll() {
+    const before = this.copy.policy.version;
+    this.editor.during(() => this.copy.validateAll());
+    const count = this.copy.policy.version - before;
+    say('status', count ? `${words.edits(count)} ${count === 1 ? 'is' : 'are'} confirmed.` : 'Nothing waits to be confirmed.');
+  }
+
+  // The paragraphs of the selection become an object, and then nobody may change it.
+  protect() {
+    const ends = this.editor.paragraph();
+    if (!ends) return say('status', 'There is no paragraph with letters at the caret.');
+    const number = this.copy.policy.freeObject();
+    if (!this.make(`admin addobj ${number} span ${ends.join(' ')}`)) return;
+    this.make(`admin addauth 0 - all idu ${number}`);
+  }
+}

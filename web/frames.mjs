@@ -1,0 +1,87 @@
+// Frames of messages, one behind another, as docs/FORMATS.md has them.
+
+const HEAD_SIZE = 4; // the length field, which counts the bytes behind it
+const KIND_AT = 5;
+const NAME_AT = 6;
+const SITE_AT = 12;
+const ENTRY = 4;
+const FIRST_ROOM = 4096;
+const FIRST_COUNT = 64;
+
+function lengthAt(bytes, at) {
+  return HEAD_SIZE + new DataView(bytes.buffer, bytes.byteOffset + at).getUint32(0);
+}
+
+// The frames that bytes are, as views; what stands behind the last whole one is the last view.
+export function* split(bytes) {
+  for (let at = 0; at < bytes.length; ) {
+    const end = bytes.length - at < HEAD_SIZE ? bytes.length : Math.min(bytes.length, at + lengthAt(bytes, at));
+    yield bytes.subarray(at, end);
+    at = end;
+  }
+}
+
+export function isEntry(frame) {
+  return frame[KIND_AT] === ENTRY;
+}
+
+// The stamp and the user, who is the site, of the name of the request of a frame, and the name.
+export function requestOf(frame) {
+  const view = new DataView(frame.buffer, frame.byteOffset);
+  const stamp = view.getUint16(NAME_AT) * 2 ** 32 + view.getUint32(NAME_AT + 2);
+  const user = view.getUint16(SITE_AT);
+  return { stamp, user, name: `${stamp}.${user}` };
+}
+
+// A copy of these bytes with more room behind them.
+function roomier(old, room) {
+  const larger = new old.constructor(room);
+  larger.set(old);
+  return larger;
+}
+
+// The frames of a journal's items, in one row of bytes.
+export class Frames {
+  constructor() {
+    this.bytes = new Uint8Array(FIRST_ROOM);
+    this.ends = new Uint32Array(FIRST_COUNT);
+    this.count = 0;
+  }
+
+  get size() {
+    return this.startOf(this.count);
+  }
+
+  startOf(place) {
+    return place ? this.ends[place - 1] : 0;
+  }
+
+  append(frame) {
+    const end = this.size + frame.length;
+    if (end > this.bytes.length) this.bytes = roomier(this.bytes, 2 * this.bytes.length);
+    if (this.count === this.ends.length) this.ends = roomier(this.ends, 2 * this.ends.length);
+    this.bytes.set(frame, end - frame.length);
+    this.ends[this.count++] = end;
+  }
+
+  at(place) {
+    return this.slice(place, place + 1);
+  }
+
+  // The frame at a place, for at once.
+  view(place) {
+    return this.bytes.subarray(this.startOf(place), this.ends[place]);
+  }
+
+  // The bytes of the frames at these places.
+  choose(places) {
+    const chosen = new Frames();
+    for (const it of places) chosen.append(this.view(it));
+    return chosen.slice(0, chosen.count);
+  }
+
+  // The bytes of the frames from one place to another.
+  slice(from, to) {
+    return this.bytes.slice(this.startOf(from), this.startOf(to));
+  }
+}

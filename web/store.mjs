@@ -1,0 +1,62 @@
+// Where a browser keeps the frames of a site's journal: rows of bytes in a database of their own, in the order in which they came.
+
+const FRAMES = 'frames';
+const MOST_ROWS = 64; // of so many one is made
+
+function result(request) {
+  return new Promise((done, failed) => {
+    request.onsuccess = () => done(request.result);
+    request.onerror = () => failed(request.error);
+  });
+}
+
+function joined(rows) {
+  const all = new Uint8Array(rows.reduce((size, it) => size + it.length, 0));
+  let at = 0;
+  for (const row of rows) {
+    all.set(row, at);
+    at += row.length;
+  }
+  return all;
+}
+
+export class Store {
+  // The browser is asked to clear it only when the person does.
+  static async open(site) {
+    navigator.storage?.persist?.().catch(() => {});
+    const request = indexedDB.open(`roastcliff site ${site}`, 1);
+    request.onupgradeneeded = () => request.result.createObjectStore(FRAMES, { autoIncrement: true });
+    return new Store(await result(request));
+  }
+
+  constructor(database) {
+    this.database = database;
+  }
+
+  // All that was appended.
+  async read() {
+    const rows = await result(this.database.transaction(FRAMES).objectStore(FRAMES).getAll());
+    const all = joined(rows);
+    if (rows.length > MOST_ROWS) await this.change((frames) => [frames.clear(), frames.add(all)]);
+    return all;
+  }
+
+  append(bytes) {
+    return this.change((frames) => frames.add(bytes));
+  }
+
+  clear() {
+    return this.change((frames) => frames.clear());
+  }
+
+  // Changes the rows all at once; it is done when they are on the disk.
+  change(action) {
+    const transaction = this.database.transaction(FRAMES, 'readwrite', { durability: 'strict' });
+    return new Promise((done, failed) => {
+      transaction.oncomplete = () => done();
+      transaction.onabort = () => failed(transaction.error ?? new Error('the browser gave it up'));
+      action(transaction.objectStore(FRAMES));
+      transaction.commit();
+    });
+  }
+}
