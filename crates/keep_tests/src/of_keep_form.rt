@@ -112,7 +112,7 @@ fn rows(rt: HostRuntime) -> Result<(), Fail> {
     Ok(())
 }
 
-// A first run makes nine calls of its disk: one for the length, two to make the file, four to put its step. Where the
+// A first run makes seven calls of its disk: one for the length, two to make the file, four to put its step. Where the
 // disk stops behind so many of them, the next run finds the text from before the step, or the new one.
 #[test]
 fn a_first_run_stops(rt: HostRuntime) -> Result<(), Fail> {
