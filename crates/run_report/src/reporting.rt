@@ -130,7 +130,7 @@ fn tell_all<K: Sink>(
 /// then the text, and what is held.
 ///
 /// The steps are made once more on a fresh peer of the site, so it takes the time of the peer's steps, and the memory
-/// of that peer, a step, a line and 64 KiB of lines. Whole lines are offered to the sink, many at once.
+/// of that peer, a step, a line and 64 KiB of lines. Lines are gathered, and then offered to the sink one by one.
 pub fn report<K: Sink>(alloc: Global, site: u16, history: &History, sink: &mut K) -> Status
     ensures says { (written : List ℕ) × Says (K.written sink.old) (K.written sink.new) result (report_output site history.now) written }
     ensures cause { StatusCause (K.faults sink.old) (K.faults sink.new) result Status.WriteFault }

@@ -12,7 +12,7 @@ use Rattle.screen_read.proofs.Shows.{published_as}
 use Rattle.watch_form.specs.Run.{each_shown}
 use Rattle.watch_form.specs.Workers.{IsCurrent, Publishing}
 
-same_twice : (k l m : KnownPass) → IsSame k l → IsSame l m → IsSame k m
+pub same_twice : (k l m : KnownPass) → IsSame k l → IsSame l m → IsSame k m
 same_twice k l m a b = record {
   table = b.table ∙ a.table;
   id = b.id ∙ a.id;

@@ -1,6 +1,6 @@
 -- The run of a watch, once its shared peer was closed.
-use Rattle.std.proofs.Common.{◌≡◌, ℕ, ◌≤◌, Bool, List, [], ◌∷◌, ◌++◌, length, map, refl, sym, ap, ◌∙◌, subst, arith, cond, eq-eqb, Ok}
-use Rattle.std.specs.Prelude.{IfOk}
+use Rattle.std.proofs.Common.{◌≡◌, ℕ, ◌≤◌, Bool, List, [], ◌∷◌, ◌++◌, length, map, refl, sym, ap, ◌∙◌, subst, arith, cond, eq-eqb, Ok, Err}
+use Rattle.std.specs.Prelude.{IfOk, IfErr}
 use Rattle.std.specs.declared.result.Result.{Result}
 use mathlib.Core.Logic.{dite}
 use native.Mathlib.Decide.{ℕ_discrete}
@@ -80,3 +80,7 @@ module _ (site : ℕ) (first opened last : KnownPass) (s t : KnownScreen) (r : R
 -- what holds of a result that is known to be Ok
 pub ok_of : {T E : Type 0} (P : T → Type 0) (r : Result T E) (x : T) → r ≡ Ok x → IfOk r P → P x
 ok_of {T} {E} P r x is h = subst (λ (y : Result T E). IfOk y P) is h
+
+-- what holds of one that is known to be Err
+pub err_of : {T E : Type 0} (P : E → Type 0) (r : Result T E) (x : E) → r ≡ Err x → IfErr r P → P x
+err_of {T} {E} P r x is h = subst (λ (y : Result T E). IfErr y P) is h

@@ -1,12 +1,15 @@
 -- What the two workers of a watch leave.
-use Rattle.std.specs.Prelude.{◌≡◌, ℕ, ◌+◌, List, [], ◌∷◌, ◌++◌, length, map, nat_lt, if◌then◌else◌}
+use Rattle.std.specs.Prelude.{◌≡◌, ℕ, ◌+◌, ◌<◌, ◌≤◌, List, [], ◌∷◌, ◌++◌, length, map, nat_lt, if◌then◌else◌}
 use mathlib.Core.List.{IsPrefix}
 use Rattle.peer_step.specs.declared.step.Step.{Step}
 use Rattle.peer_step.specs.declared.step.Step.TheVariants.{Show}
+use Rattle.peer_lock.specs.declared.limits.TheConstants.{MAX_RUN}
 use Rattle.peer_lock.specs.declared.call.Call.{Call}
 use Rattle.peer_lock.specs.Run.{steps_by}
 use Rattle.peer_lock.specs.KnownPass.{KnownPass}
 use Rattle.peer_lock.specs.Answers.{IsSame}
+use Rattle.screen_read.specs.declared.fail.ScreenFail.{ScreenFail}
+use Rattle.screen_read.specs.declared.fail.ScreenFail.TheVariants.{RunFull}
 use Rattle.screen_read.specs.Pages.{PageText, IsAscending, IsNewest}
 use Rattle.screen_read.specs.Ends.{ReaderPages, ReadsNewest}
 use Rattle.screen_read.specs.Screen.{KnownScreen, page_after, ArePagesOf, ArePublished}
@@ -33,6 +36,19 @@ pub record Publishing (s : KnownScreen) (k : KnownPass) (steps : List Step) (t :
   pub board : t.table ≡ s.table
   pub grown : length t.pages ≡ length s.pages + length steps
   pub current : IsCurrent t l
+
+-- the pass has made at most so many steps more, and then one failed; where the run was full the pass knows that
+pub record StopsShort (k : KnownPass) (most : ℕ) (l : KnownPass) (fail : ScreenFail) : Type 0 where
+  pub same : IsSame k l
+  pub few : length (steps_by k.view.number l.view.seen) ≤ length (steps_by k.view.number k.view.seen) + most
+  pub full : fail ≡ RunFull → l.view.floor ≡ MAX_RUN
+
+-- the one pass of a shared peer has failed so, and has made fewer steps than a run may have
+pub record HasStopped (k : KnownPass) (fail : ScreenFail) : Type 0 where
+  pub numbers : k.view.numbers ≡ 0 ∷ []
+  pub made : k.view.made ≡ 1
+  pub few : length (steps_by 0 k.view.seen) < MAX_RUN
+  pub full : fail ≡ RunFull → k.view.floor ≡ MAX_RUN
 
 -- the reader has read these pages, in this order
 abbrev pub HasRead : ReaderPages → List PageText → ReaderPages → Type 0

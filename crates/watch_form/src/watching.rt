@@ -1,10 +1,10 @@
 //! The two workers of a watch.
-ghost use Rattle.std.specs.Prelude.{◌≡◌, ◌≤◌, List, length, IfOk, OnOk};
+ghost use Rattle.std.specs.Prelude.{◌≡◌, ◌*◌, ◌≤◌, List, length, IfOk, IfErr, OnOk};
 ghost use Rattle.std.specs.Thread.{IsSync};
 ghost use Rattle.peer_lock.specs.Rule.{newcomer};
 ghost use Rattle.screen_read.specs.Pages.{IsNewest};
 ghost use Rattle.watch_form.specs.Run.{watch_run};
-ghost use Rattle.watch_form.specs.Workers.{Opens, IsCurrent, Publishing, HasRead, BothBegin, AreReadPages};
+ghost use Rattle.watch_form.specs.Workers.{Opens, IsCurrent, Publishing, StopsShort, HasStopped, HasRead, BothBegin, AreReadPages};
 
 use crate::limits::MAX_LINES;
 use crate::reading::read_all;
@@ -13,7 +13,7 @@ use element_name::NoMemory;
 use peer_lock::{History, Pass, SharedPeer};
 use peer_step::Step;
 use race_run::Gate;
-use screen_read::{Page, Screen, ScreenReader};
+use screen_read::{Page, Screen, ScreenFail, ScreenReader};
 use std::alloc::Global;
 use std::sync::Wait;
 use std::thread::{Threads, join};
@@ -39,19 +39,20 @@ fn start(alloc: Global, site: u16) -> Result<(SharedPeer, Pass), NoMemory>
     Ok((shared, pass))
 }
 
-// The screen of a pass, and its reader.
+// The screen of a pass, and its reader; or the pass, and why it has none.
 fn open<R: Threads + Wait + Sync>(
     rt: &R,
     alloc: Global,
     shared: &SharedPeer,
     mut pass: Pass,
-) -> Result<(Pass, Screen, ScreenReader), NoMemory>
+) -> Result<(Pass, Screen, ScreenReader), (Pass, ScreenFail)>
     requires { pass.table ≡ shared.now }
-    ensures { IfOk result (λ r. Opens pass r.0 r.1 r.2) }
+    ensures opened { IfOk result (λ r. Opens pass r.0 r.1 r.2) }
+    ensures stopped { IfErr result (λ r. StopsShort pass 1 r.0 r.1) }
 {
     match Screen::new(rt, alloc, shared, &mut pass) {
         Ok((screen, reader)) => Ok((pass, screen, reader)),
-        Err(_) => Err(NoMemory),
+        Err(fail) => Err((pass, fail)),
     }
 }
 
@@ -65,22 +66,24 @@ fn work_beside<R: Threads + Wait + Sync, G: Gate + Sync>(
     reads: u32,
     gate: &G,
 ) -> (
-    Result<(Pass, Screen), NoMemory>,
+    Result<(Pass, Screen), (Pass, ScreenFail)>,
     Result<(ScreenReader, Vec<Page>), NoMemory>,
 )
     requires own { ends.0.table ≡ shared.now }
     requires current { IsCurrent ends.1 ends.0 }
     requires few { length steps.now ≤ MAX_LINES }
     ensures published { IfOk result.0 (λ r. Publishing ends.1 ends.0 steps.now r.1 r.0) }
+    ensures stopped { IfErr result.0 (λ r. StopsShort ends.0 (2 * length steps.now) r.0 r.1) }
     ensures many { IfOk result.1 (λ r. length r.1.items ≡ reads) }
     ensures read { IfOk result.1 (λ r. HasRead ends.2 r.1.items r.0) }
 {
     let (pass, screen, reader) = ends;
     join(
         rt,
-        || -> Result<(Pass, Screen), NoMemory>
+        || -> Result<(Pass, Screen), (Pass, ScreenFail)>
             requires { IsSync R.row × (pass.table ≡ shared.now) × IsCurrent screen pass × (length steps.now ≤ MAX_LINES) }
-            ensures { IfOk result (λ r. Publishing screen pass steps.entry.now r.1 r.0) }
+            ensures published { IfOk result (λ r. Publishing screen pass steps.entry.now r.1 r.0) }
+            ensures stopped { IfErr result (λ r. StopsShort pass (2 * length steps.entry.now) r.0 r.1) }
         { publish_all(rt, alloc, shared, pass, screen, steps, gate) },
         || -> Result<(ScreenReader, Vec<Page>), NoMemory>
             ensures many { IfOk result (λ r. length r.1.items ≡ reads) }
@@ -104,6 +107,20 @@ fn settle(mut screen: Screen, mut reader: ScreenReader) -> Result<Page, NoMemory
     Ok(newest)
 }
 
+// Ends a watch whose pass stopped: for want of memory. Once its run is closed it is known that it was never full.
+fn end_short(shared: SharedPeer, stopped: (Pass, ScreenFail)) -> NoMemory
+    requires own { stopped.0.table ≡ shared }
+    requires stopped { HasStopped stopped.0 stopped.1 }
+{
+    let (pass, fail) = stopped;
+    let closed = shared.close(pass);
+    drop(closed);
+    match fail {
+        ScreenFail::RunFull => unreachable!(),
+        ScreenFail::NoMemory => NoMemory,
+    }
+}
+
 /// Makes the steps of a list over a shared peer of a site, and publishes the text before the first one and after each; on
 /// another thread the pages are read so often.
 ///
@@ -122,9 +139,15 @@ pub(crate) fn watch<R: Threads + Wait + Sync, G: Gate + Sync>(
     ensures pages { IfOk result (λ w. AreReadPages site reads w.history w.pages.items w.newest) }
 {
     let (shared, pass) = start(alloc, site)?;
-    let ends = open(rt, alloc, &shared, pass)?;
+    let ends = match open(rt, alloc, &shared, pass) {
+        Ok(ends) => ends,
+        Err(stopped) => return Err(end_short(shared, stopped)),
+    };
     let (published, read) = work_beside(rt, alloc, &shared, ends, steps, reads, gate);
-    let (pass, screen) = published?;
+    let (pass, screen) = match published {
+        Ok(published) => published,
+        Err(stopped) => return Err(end_short(shared, stopped)),
+    };
     let (reader, pages) = read?;
     let newest = settle(screen, reader)?;
     let (peer, history) = shared.close(pass);

@@ -1,17 +1,15 @@
 //! The worker that writes.
 //!
-//! The run has room for all steps of a watch, so a step fails for want of memory alone. No clause says so: want of memory
-//! is free in all of them.
-ghost use Rattle.std.specs.Prelude.{◌≡◌, ◌≤◌, [], ◌∷◌, length, IfOk, OnOk};
+//! The run has room for all steps of a watch: once it is closed it is proved that the worker never met a full one.
+ghost use Rattle.std.specs.Prelude.{◌≡◌, ◌*◌, ◌≤◌, [], ◌∷◌, length, IfOk, IfErr, OnOk};
 ghost use Rattle.peer_lock.specs.Answers.{IsSame, Stepped};
-ghost use Rattle.watch_form.specs.Workers.{IsCurrent, Publishing};
+ghost use Rattle.watch_form.specs.Workers.{IsCurrent, Publishing, StopsShort};
 
 use crate::limits::MAX_LINES;
-use element_name::NoMemory;
-use peer_lock::{Pass, SharedPeer};
+use peer_lock::{Pass, SharedPeer, StepFail};
 use peer_step::{Answer, Step};
 use race_run::Gate;
-use screen_read::Screen;
+use screen_read::{Screen, ScreenFail};
 use std::alloc::Global;
 use std::sync::Wait;
 use std::thread::Threads;
@@ -29,18 +27,22 @@ fn make<R: Threads + Wait + Sync>(
     shared: &SharedPeer,
     pass: &mut Pass,
     step: &Step,
-) -> Result<(), NoMemory>
+) -> Result<(), ScreenFail>
     requires { pass.old.table ≡ shared.now }
     ensures same { IsSame pass.old pass.new }
     ensures made { OnOk result ((answer : Answer) × Stepped pass.old.view step.now answer pass.new.view) }
+    ensures stopped { IfErr result (StopsShort pass.old 0 pass.new) }
 {
-    let copy = step.copied()?;
+    let Ok(copy) = step.copied() else {
+        return Err(ScreenFail::NoMemory);
+    };
     match shared.step(rt, alloc, pass, copy) {
         Ok(answer) => {
             forget(answer);
             Ok(())
         }
-        Err(_) => Err(NoMemory),
+        Err(StepFail::RunFull) => Err(ScreenFail::RunFull),
+        Err(StepFail::NoMemory) => Err(ScreenFail::NoMemory),
     }
 }
 
@@ -52,20 +54,21 @@ fn publish_step<R: Threads + Wait + Sync>(
     pass: &mut Pass,
     screen: &mut Screen,
     step: &Step,
-) -> Result<(), NoMemory>
+) -> Result<(), ScreenFail>
     requires own { pass.old.table ≡ shared.now }
     requires current { IsCurrent screen.old pass.old }
-    ensures { OnOk result (Publishing screen.old pass.old (step.now ∷ []) screen.new pass.new) }
+    ensures published { OnOk result (Publishing screen.old pass.old (step.now ∷ []) screen.new pass.new) }
+    ensures stopped { IfErr result (StopsShort pass.old 2 pass.new) }
 {
     make(rt, alloc, shared, pass, step)?;
     match screen.publish(rt, alloc, shared, pass) {
         Ok(_) => Ok(()),
-        Err(_) => Err(NoMemory),
+        Err(fail) => Err(fail),
     }
 }
 
 /// Makes all steps of a list, in their order, publishes the page after each, and tells the gate of each step, and at the
-/// end how many they are.
+/// end how many they are. Where one fails it gives the pass, and why.
 pub(crate) fn publish_all<R: Threads + Wait + Sync, G: Gate>(
     rt: &R,
     alloc: Global,
@@ -74,17 +77,20 @@ pub(crate) fn publish_all<R: Threads + Wait + Sync, G: Gate>(
     mut screen: Screen,
     steps: &[Step],
     gate: &G,
-) -> Result<(Pass, Screen), NoMemory>
+) -> Result<(Pass, Screen), (Pass, ScreenFail)>
     requires own { pass.table ≡ shared.now }
     requires current { IsCurrent screen pass }
     requires few { length steps.now ≤ MAX_LINES }
-    ensures { IfOk result (λ r. Publishing screen pass steps.now r.1 r.0) }
+    ensures published { IfOk result (λ r. Publishing screen pass steps.now r.1 r.0) }
+    ensures stopped { IfErr result (λ r. StopsShort pass (2 * length steps.now) r.0 r.1) }
 {
     let mut made = 0;
     for step in steps {
         gate.pass(WRITER, made);
-        publish_step(rt, alloc, shared, &mut pass, &mut screen, step)?;
-        made += 1;
+        match publish_step(rt, alloc, shared, &mut pass, &mut screen, step) {
+            Ok(()) => made += 1,
+            Err(fail) => return Err((pass, fail)),
+        }
     }
     gate.pass(WRITER, made);
     Ok((pass, screen))
