@@ -110,51 +110,96 @@ const WHOLE: Row = Row {
     sent: 2,
 };
 
+// The report of a session whose link fails where all steps were made.
+const ALL_STEPS_AND_A_FAULT: &[u8] = b"run 5\n\
+    1 message request 1.1 0 insert 0.0 x => taken invalid 0 none\n\
+    1 settle => quiet\n\
+    1 validatenext => nothing tentative\n\
+    1 look 0 => item request 1.1 0 insert 0.0 x\n\
+    1 look 1 => no item\n\
+    show\nheld 0\nlink 1 fault\n";
+
+// A session of the same messages whose link fails.
+const BROKEN: Row = Row {
+    status: Status::LinkFault,
+    sent: 0,
+    ..WHOLE
+};
+
+// The rows of a side that serves. A whole session calls its link five times: the insert and the turn come, the insert
+// and a turn go, and the end comes.
+const SERVED: [Row; 10] = [
+    WHOLE,
+    Row {
+        messages: &[INSERT],
+        status: Status::BadInput,
+        written: b"run 2\n\
+            1 message request 1.1 0 insert 0.0 x => taken invalid 0 none\n\
+            1 settle => quiet\n\
+            show\nheld 0\nlink 1 closed\n",
+        sent: 0,
+        ..WHOLE
+    },
+    Row {
+        messages: &[b"\x00\x00\x00\x02\x01\x07"],
+        status: Status::BadInput,
+        written: b"run 0\nshow\nheld 0\nlink 1 bad frame 2\n",
+        sent: 0,
+        ..WHOLE
+    },
+    Row {
+        link_fails: 1,
+        written: b"run 0\nshow\nheld 0\nlink 1 fault\n",
+        ..BROKEN
+    },
+    Row {
+        link_fails: 2,
+        written: b"run 2\n\
+            1 message request 1.1 0 insert 0.0 x => taken invalid 0 none\n\
+            1 settle => quiet\n\
+            show\nheld 0\nlink 1 fault\n",
+        ..BROKEN
+    },
+    Row {
+        link_fails: 3,
+        written: b"run 4\n\
+            1 message request 1.1 0 insert 0.0 x => taken invalid 0 none\n\
+            1 settle => quiet\n\
+            1 validatenext => nothing tentative\n\
+            1 look 0 => item request 1.1 0 insert 0.0 x\n\
+            show\nheld 0\nlink 1 fault\n",
+        ..BROKEN
+    },
+    Row {
+        link_fails: 4,
+        written: ALL_STEPS_AND_A_FAULT,
+        sent: 1,
+        ..BROKEN
+    },
+    Row {
+        link_fails: 5,
+        written: ALL_STEPS_AND_A_FAULT,
+        sent: 2,
+        ..BROKEN
+    },
+    Row {
+        door_fails: 1,
+        written: b"run 0\nshow\nheld 0\ndoor fault\n",
+        ..BROKEN
+    },
+    Row {
+        input: b"show\nshow now\n",
+        messages: &[END],
+        status: Status::BadInput,
+        written: b"run 1\n0 show => show\nshow\nheld 0\nbad line 2\n",
+        sent: 0,
+        ..WHOLE
+    },
+];
+
 #[test]
 fn serves(rt: HostRuntime) -> Result<(), Fail> {
-    let rows = [
-        WHOLE,
-        Row {
-            messages: &[INSERT],
-            status: Status::BadInput,
-            written: b"run 2\n\
-                1 message request 1.1 0 insert 0.0 x => taken invalid 0 none\n\
-                1 settle => quiet\n\
-                show\nheld 0\nlink 1 closed\n",
-            sent: 0,
-            ..WHOLE
-        },
-        Row {
-            messages: &[b"\x00\x00\x00\x02\x01\x07"],
-            status: Status::BadInput,
-            written: b"run 0\nshow\nheld 0\nlink 1 bad frame 2\n",
-            sent: 0,
-            ..WHOLE
-        },
-        Row {
-            link_fails: 1,
-            status: Status::LinkFault,
-            written: b"run 0\nshow\nheld 0\nlink 1 fault\n",
-            sent: 0,
-            ..WHOLE
-        },
-        Row {
-            door_fails: 1,
-            status: Status::LinkFault,
-            written: b"run 0\nshow\nheld 0\ndoor fault\n",
-            sent: 0,
-            ..WHOLE
-        },
-        Row {
-            input: b"show\nshow now\n",
-            messages: &[END],
-            status: Status::BadInput,
-            written: b"run 1\n0 show => show\nshow\nheld 0\nbad line 2\n",
-            sent: 0,
-            ..WHOLE
-        },
-    ];
-    for row in rows {
+    for row in SERVED {
         let (status, written, sent) = serve_one(&rt, rt.alloc(), &row)?;
         assert_eq!(rt; written.as_slice(), row.written);
         assert_eq!(rt; status, row.status);

@@ -18,12 +18,13 @@ const TURN: &[u8] = b"\x00\x00\x00\x02\x01\x05";
 
 const END: &[u8] = b"\x00\x00\x00\x02\x01\x06";
 
-fn link_of(alloc: Global, messages: &[&[u8]]) -> Result<MemLink, AllocError> {
+// A link over which these messages come. The calls of these numbers fail.
+fn link_of(alloc: Global, messages: &[&[u8]], fails: &[u64]) -> Result<MemLink, AllocError> {
     let mut incoming = Vec::new(alloc);
     for message in messages {
         incoming.push(Vec::from_slice(alloc, message)?)?;
     }
-    Ok(MemLink::new(alloc, incoming, Vec::new(alloc)))
+    Ok(MemLink::new(alloc, incoming, Vec::from_slice(alloc, fails)?))
 }
 
 fn are_sent(link: &MemLink, messages: &[&[u8]]) -> bool {
@@ -55,12 +56,25 @@ fn serve_one<R: Threads + Wait + Sync>(
 #[test]
 fn serves(rt: HostRuntime) -> Result<(), Fail> {
     let alloc = rt.alloc();
-    let mut whole = link_of(alloc, &[INSERT, TURN, END])?;
+    let mut whole = link_of(alloc, &[INSERT, TURN, END], &[])?;
     assert_eq!(rt; serve_one(&rt, alloc, &mut whole)?, Ok(1));
     assert!(rt; are_sent(&whole, &[INSERT, TURN]));
-    let mut cut = link_of(alloc, &[INSERT])?;
+    let mut cut = link_of(alloc, &[INSERT], &[])?;
     assert_eq!(rt; serve_one(&rt, alloc, &mut cut)?, Err(SessionFault::Closed));
     assert!(rt; are_sent(&cut, &[]));
+    Ok(())
+}
+
+// The insert and the turn come, the insert and a turn go, and the end comes: each of the five calls fails in turn.
+#[test]
+fn serves_until_the_link_fails(rt: HostRuntime) -> Result<(), Fail> {
+    let alloc = rt.alloc();
+    for (call, sent) in [(1, 0), (2, 0), (3, 0), (4, 1), (5, 2)] {
+        let mut link = link_of(alloc, &[INSERT, TURN, END], &[call])?;
+        let turns = serve_one(&rt, alloc, &mut link)?;
+        assert_eq!(rt; turns, Err(SessionFault::LinkFault), "call {call}");
+        assert_eq!(rt; link.sent().len(), sent, "call {call}");
+    }
     Ok(())
 }
 
@@ -68,7 +82,7 @@ fn serves(rt: HostRuntime) -> Result<(), Fail> {
 fn dials(rt: HostRuntime) -> Result<(), Fail> {
     let alloc = rt.alloc();
     let (shared, mut pass) = one_pass(alloc, 1)?;
-    let mut link = link_of(alloc, &[END])?;
+    let mut link = link_of(alloc, &[END], &[])?;
     let rounds = dial_link(&rt, alloc, &shared, &mut pass, &mut link, 1, false);
     assert_eq!(rt; rounds, Ok(0));
     assert!(rt; are_sent(&link, &[TURN]));
