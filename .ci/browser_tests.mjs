@@ -1,9 +1,10 @@
 // Tries the page in headless Chromium, by keys as a person presses them.
 //
-//   node .ci/browser_tests.mjs CHROMIUM [--program PROGRAM] [--picture FILE] [--speed]
+//   node .ci/browser_tests.mjs CHROMIUM [--program PROGRAM] [--only TRY,TRY] [--picture FILE] [--speed]
 //
-// With the built program two pages also talk to its `serve`. With --picture the page is kept as a picture, with --speed what it costs
-// is measured and nothing is tried.
+// With the built program two pages also talk to its `serve`. With --only these tries alone are made. With --picture pages of the try
+// a_link_that_is_lost are kept as pictures: as docs/page.png user 1's, and beside it as docs/page-administrator.png the administrator's.
+// With --speed what the page costs is measured and nothing is tried.
 import assert from 'node:assert/strict';
 import { spawn } from 'node:child_process';
 import { mkdtempSync, readFileSync, readdirSync, rmSync, writeFileSync } from 'node:fs';
@@ -13,9 +14,10 @@ import { extname, join } from 'node:path';
 import { Browser, CONTROL, SHIFT, pause } from './devtools.mjs';
 import { measure } from './page_speed.mjs';
 
-const PATIENCE_MS = 15000; // for what has to come
-const WHOLE_MS = 70000; // for all of it
+const PATIENCE_MS = 60000; // for what has to come, on a machine with much other work
+const WHOLE_MS = 280000; // for all of it
 const STEP_MS = 40;
+const FRAME = '<!doctype html><iframe src="/?site=9"></iframe>';
 const KINDS = { '.html': 'text/html', '.mjs': 'text/javascript', '.css': 'text/css', '.wasm': 'application/wasm' };
 const WEB = new URL('../web/', import.meta.url);
 const DESK = { width: 900, height: 1000 };
@@ -37,12 +39,12 @@ async function until(what, holds) {
 
 // ---- what pages and programs are
 
-// The folder web/, to be had from this machine alone.
+// The folder web/, to be had from this machine alone, with a page that frames it.
 async function serveFolder() {
   const server = createServer(({ url }, response) => {
     const name = new URL(url, 'http://localhost').pathname.slice(1) || 'index.html';
     try {
-      const bytes = readFileSync(new URL(name, WEB));
+      const bytes = name === 'frame.html' ? FRAME : readFileSync(new URL(name, WEB));
       response.writeHead(200, { 'content-type': KINDS[extname(name)] ?? 'application/octet-stream' }).end(bytes);
     } catch {
       response.writeHead(404).end();
@@ -82,9 +84,9 @@ class Sheet {
     await this.isOpen();
   }
 
-  // The text of an element.
+  // The text of an element, but for the signs around what somebody wrote.
   said(id) {
-    return this.page.value(`document.getElementById(${JSON.stringify(id)})?.textContent ?? ''`);
+    return this.page.value(`(document.getElementById(${JSON.stringify(id)})?.textContent ?? '').replace(/[\\u2068\\u2069]/g, '')`);
   }
 
   // The text in the text area.
@@ -113,6 +115,11 @@ class Sheet {
     await this.focus('text');
     await this.page.key('End', CONTROL, ['moveToEndOfDocument']);
     await this.page.type(text);
+  }
+
+  // Whether an expression holds in the page.
+  async holds(expression) {
+    assert.equal(await this.page.value(`Boolean(${expression})`), true, expression);
   }
 
   // Presses a button by the keyboard.
@@ -181,6 +188,19 @@ async function begin(administrator, user, text) {
   await user.has(text);
 }
 
+// The least contrast of the text area's edge, where nothing may be written, to what lies on both sides of it.
+const CONTRAST = `(() => {
+  text.readOnly = true;
+  const { borderTopColor, backgroundColor, opacity } = getComputedStyle(text);
+  const ground = getComputedStyle(document.body).backgroundColor;
+  text.readOnly = false;
+  const parts = (color) => color.match(/[0-9.]+/g).slice(0, 3).map(Number);
+  const over = (color) => parts(color).map((it, i) => opacity * it + (1 - opacity) * parts(ground)[i]);
+  const light = (all) => all.map((it) => (it / 255 <= 0.04045 ? it / 3294.6 : ((it / 255 + 0.055) / 1.055) ** 2.4)).reduce((sum, it, i) => sum + it * [0.2126, 0.7152, 0.0722][i], 0);
+  const contrast = (a, b) => (Math.max(light(a), light(b)) + 0.05) / (Math.min(light(a), light(b)) + 0.05);
+  return Math.min(contrast(over(borderTopColor), over(backgroundColor)), contrast(over(borderTopColor), parts(ground)));
+})()`;
+
 // ---- what is tried
 
 // Where the carets of a user go by what the administrator does: the text, the carets, what he selects, what he types there, and the
@@ -232,6 +252,7 @@ const tries = {
     await administrator.has(MARKUP);
     await administrator.press('#rule-form button[value="-"]');
     await user.says('undone', /^User 1: [0-9]+ letters written[^]*Version [0-9]+ of the rules denies it, [^]*“User 1 may not insert, delete or change in the whole text\.”/);
+    await user.says('status', /^[0-9]+ edits? (was|were) undone\./);
     await user.has('');
     for (const { page } of [administrator, user]) {
       assert.deepEqual([await page.value('document.querySelectorAll("img, script:not([src])").length'), page.asked], [0, []]);
@@ -248,10 +269,80 @@ const tries = {
     await user.select(6, 7);
     await user.page.type('5');
     await user.says('status', /^This is not allowed\. Version [0-9]+ of the rules denies it, .*Nobody may insert, delete or change in paragraph 1 \(“Rent: 600\.”\)\./);
-    await user.append('!');
-    await administrator.has('Rent: 600.\nFood: 20.!');
+    await user.append('!?');
+    await administrator.has('Rent: 600.\nFood: 20.!?');
     await administrator.press('#validate-all');
     await administrator.says('status', /^[0-9]+ edits? (is|are) confirmed\.$/);
+    await administrator.says('versions', /[0-9]+ edits are confirmed, up to version [0-9]+\.$/);
+    await administrator.holds('document.getElementById("versions").lastElementChild.value < Number(/[0-9]+(?= of the rules)/.exec(who.textContent)[0])');
+  },
+
+  // Who stands at a rule or in a list with the keyboard stays there when there is another version of the rules.
+  async staying_with_the_keyboard({ administrator, user }) {
+    await begin(administrator, user, '');
+    await user.append('a');
+    await administrator.has('a');
+    await administrator.page.value('globalThis.rule = document.querySelector("#rules button"), rule.focus(), validate.click()');
+    await administrator.says('status', /^Version [0-9]+: The edit/);
+    await administrator.holds('document.activeElement === rule');
+    await administrator.page.value('document.querySelector("#rule-form button[value=\'-\']").click()');
+    await user.says('rules', /^User 1 may not/);
+    await administrator.holds('document.activeElement.getAttribute("aria-label") === "Remove rule 2"');
+    await administrator.press('#rules button');
+    await user.says('rules', /^(?!User 1 may not)/);
+    await administrator.holds('document.activeElement.matches("#rules li:first-child button")');
+  },
+
+  // What the administrator wrote in another browser makes a page that lacks it stale, for good, and it changes no rules.
+  async a_page_that_is_stale({ administrator }, world) {
+    const frames = await administrator.page.value("import('./store.mjs').then(({ Store }) => Store.open(0)).then((it) => it.read()).then((it) => [...it])");
+    const other = await Sheet.open(world, await world.browser.profile(), 0);
+    await other.holds('!powers.disabled && !validates.checked');
+    await other.append('mine');
+    await other.page.value(`new BroadcastChannel('roastcliff').postMessage(Uint8Array.from(${JSON.stringify(frames)}))`);
+    for (let times = 0; times < 2; times++) {
+      await other.says('status', /^This person wrote before/);
+      await other.holds('powers.disabled && text.readOnly && validate.matches(":disabled") && !document.querySelector("#rules button")');
+      await until('it is kept', () => other.page.value("import('./store.mjs').then(({ Store }) => Store.open(0)).then((it) => it.isMarked())"));
+      await other.load();
+    }
+    await other.close();
+  },
+
+  // A browser that keeps nothing more lets nothing more be changed.
+  async a_store_that_takes_no_more({ administrator }) {
+    await administrator.page.value("import('./store.mjs').then(({ Store }) => (Store.prototype.append = () => Promise.reject(new Error('no room'))))");
+    await administrator.append('x');
+    await administrator.says('status', /^This browser keeps nothing more \(no room\)/);
+    await administrator.holds('powers.disabled && text.readOnly && !document.querySelector("#rules button")');
+    await administrator.load();
+    await administrator.holds('!powers.disabled && document.querySelector("#rules button")');
+  },
+
+  // Both names of this machine are one origin to the page, it isn't shown within another, and its title says whose it is.
+  async where_it_is({ user }, world) {
+    await user.holds('document.title === "Roastcliff: user 1"');
+    const other = await Sheet.open(world, await world.browser.profile(), 7);
+    await other.load(other.address().replace('localhost', '127.0.0.1'));
+    await until('it is at localhost', () => other.page.value('location.href').then((it) => it === other.address()));
+    await other.says('who', /^This page is user 7\./);
+    await other.page.go(`${world.address}frame.html`);
+    await until('it says why it is not open', () => other.page.value('document.querySelector("iframe")?.contentDocument.getElementById("status")?.textContent.startsWith("This page is shown within another one")'));
+    await other.close();
+  },
+
+  // An address that the page may not dial is told, and a page that comes back as it was left dials again.
+  async dialling({ user }) {
+    await user.page.value('address.value = "ws://example.org/", document.querySelector("#link-form button").click()');
+    await user.says('link-status', /with encryption alone/);
+    await user.page.value('address.value = "ws://127.0.0.1:1/", document.querySelector("#link-form button").click()');
+    await user.says('link-status', /^There is no link\. You can go on/);
+    await user.page.value('dispatchEvent(new PageTransitionEvent("pagehide", { persisted: true }))');
+    await user.says('link-status', /^There is no link\.$/);
+    await user.page.value('dispatchEvent(new PageTransitionEvent("pageshow", { persisted: true }))');
+    await user.says('link-status', /^There is no link\. You can go on/);
+    await user.press('#unlink');
+    await user.says('link-status', /^There is no link\.$/);
   },
 
   async coming_back({ administrator, user }) {
@@ -283,8 +374,10 @@ const tries = {
     const ground = () => page.value('getComputedStyle(document.body).backgroundColor');
     const light = await ground();
     const inThe = (value) => page.call('Emulation.setEmulatedMedia', { features: [{ name: 'prefers-color-scheme', value }] });
+    assert.ok((await page.value(CONTRAST)) >= 3);
     await inThe('dark');
     assert.notEqual(await ground(), light);
+    assert.ok((await page.value(CONTRAST)) >= 3);
     await inThe('light');
     await page.resize(DESK);
   },
@@ -332,6 +425,7 @@ async function lost(administrator, user, world) {
   for (const it of sheets) await it.says('link-status', /^There is no link\. You can go on/);
   await administrator.press('#validate-all');
   await administrator.press('#rule-form button[value="-"]');
+  if (world.picture) await show(world.picture.replace(/(\.png)?$/, '-administrator.png'), administrator, 2, 1100);
   await administrator.append(' Yes.');
   await user.append(' And bread.');
   await user.has('Tea at four. Milk? And bread.');
@@ -340,7 +434,7 @@ async function lost(administrator, user, world) {
   await user.says('undone', /^User 1: 11 letters written \(“ And bread\.”\)\. Version [0-9]+ of the rules denies it/);
   await user.append('No');
   await user.says('status', /^This is not allowed\. Version [0-9]+ of the rules denies it/);
-  if (world.picture) await show(world, user);
+  if (world.picture) await show(world.picture, user, 4, 870);
   for (const it of sheets) await it.press('#unlink');
   assert.equal(await second.ended, 0);
   assert.match(second.report, /\nshow Tea at four\. Milk\? Yes\.\nheld 0\n/);
@@ -350,12 +444,12 @@ async function lost(administrator, user, world) {
   }
 }
 
-// Keeps the page of a user to whom something was denied as a picture.
-async function show(world, user) {
-  await user.page.value('text.rows = 4');
-  await user.page.resize({ width: 720, height: 870 });
-  await user.page.value('scrollTo(0, 0)');
-  writeFileSync(world.picture, await user.page.picture());
+// Keeps a page as a picture, with so many lines of text.
+async function show(file, sheet, rows, height) {
+  await sheet.page.value(`text.rows = ${rows}`);
+  await sheet.page.resize({ width: 720, height });
+  await sheet.page.value('scrollTo(0, 0)');
+  writeFileSync(file, await sheet.page.picture());
 }
 
 // Runs the tries that are asked for, one after another on the same two pages.
@@ -400,7 +494,7 @@ async function main() {
   const world = await opened(await serveFolder());
   process.once('exit', () => world.programs.forEach((it) => it.stop()));
   const isSpeed = process.argv.includes('--speed');
-  const late = pause(isSpeed ? 10 * WHOLE_MS : WHOLE_MS).then(() => null);
+  const late = pause(isSpeed ? 3 * WHOLE_MS : WHOLE_MS).then(() => null);
   let status = 1;
   try {
     status = await Promise.race([isSpeed ? measure(world) : runAll(world), late]);

@@ -4,7 +4,7 @@ import { mkdtempSync, rmSync } from 'node:fs';
 import { tmpdir } from 'node:os';
 import { join } from 'node:path';
 
-const CALL_MS = 20000; // a call that isn't answered by then has failed
+const CALL_MS = 60000; // a call that isn't answered by then has failed
 const END_MS = 3000;
 const FLAGS = [
   '--headless=new',
@@ -216,8 +216,8 @@ export class Page {
     return this.call('Input.insertText', { text });
   }
 
-  async picture(isWhole = false) {
-    const { data } = await this.call('Page.captureScreenshot', { format: 'png', captureBeyondViewport: isWhole });
+  async picture() {
+    const { data } = await this.call('Page.captureScreenshot', { format: 'png' });
     return Buffer.from(data, 'base64');
   }
 

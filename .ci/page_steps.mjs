@@ -1,8 +1,9 @@
 // As examples/library/two_peers.c, by the module: the same lines give the same answers, and at the end each peer comes back. With a
-// number N it writes N made lines.
+// number N it writes N made lines. With `replay` and a file it writes the lines there as a script of `replay`, but for those that are
+// no steps, and then the answers that are due to it.
 //
-//   node --experimental-wasm-memory64 .ci/page_steps.mjs < LINES          node .ci/page_steps.mjs N
-import { readFileSync } from 'node:fs';
+//   node --experimental-wasm-memory64 .ci/page_steps.mjs [replay SCRIPT] < LINES          node .ci/page_steps.mjs N
+import { readFileSync, writeFileSync } from 'node:fs';
 import { DONE, Module, Peer } from '../web/peer.mjs';
 
 const PIECES = ['a', 'é', '\\n', '𝟝', 'two\\swords'];
@@ -50,15 +51,23 @@ function back(peer) {
   return new Peer(peer.module, peer.site, Buffer.concat(frames));
 }
 
-function answered(lines, peers, put) {
+// A site's step as a line of a script.
+function scriptLine(site, step) {
+  const [kind, ...words] = step.split(' ');
+  if (kind === 'edit' || kind === 'admin') return `${site} ${words.join(' ')}`;
+  return kind === 'look' || kind === 'show' ? [kind, site, ...words].join(' ') : `${site} ${step}`;
+}
+
+// Plays lines. `tell` is given each call as a line of a script, what it told, and the number of the message that it issued, or 0.
+function play(lines, peers, tell) {
   const waiting = [[], []];
-  const tell = ({ code, answer }) => put(`${code} ${code === DONE ? answer : ''}`);
+  let issued = 0;
   const receiveAll = (site) => {
-    for (const frame of waiting[site].splice(0)) {
-      tell(peers[site].receive(frame));
+    for (const { number, frame } of waiting[site].splice(0)) {
+      tell(`give ${number} ${site}`, peers[site].receive(frame), 0);
       for (let answer = ''; answer !== 'quiet'; ) {
         const told = peers[site].step('settle');
-        tell(told);
+        tell(`settle ${site}`, told, 0);
         answer = told.answer;
       }
     }
@@ -70,22 +79,47 @@ function answered(lines, peers, put) {
     }
     const site = line[0] === '1' ? 1 : 0;
     const told = peers[site].step(line.slice(2));
-    tell(told);
-    if (told.frame.length && !line.startsWith('look', 2)) waiting[1 - site].push(told.frame);
+    const isIssued = told.frame.length && !line.startsWith('look', 2);
+    if (isIssued) waiting[1 - site].push({ number: ++issued, frame: told.frame });
+    tell(scriptLine(site, line.slice(2)), told, isIssued ? issued : 0);
   }
-  for (const peer of peers) put(`0 ${Buffer.from(back(peer).text()).toString().replace(/\n$/, '')}`);
 }
 
+function answered(lines, peers) {
+  const out = [];
+  play(lines, peers, (line, { code, answer }) => out.push(`${code} ${code === DONE ? answer : ''}`));
+  for (const peer of peers) out.push(`0 ${Buffer.from(back(peer).text()).toString().replace(/\n$/, '')}`);
+  return out;
+}
+
+function replayed(lines, peers) {
+  const [script, answers] = [['peers 2'], []];
+  play(lines, peers, (line, { code, answer }, number) => {
+    if (code !== DONE) return;
+    script.push(line);
+    answers.push(number ? answer.replace(' ', ` ${number} `) : answer);
+  });
+  return { script, answers };
+}
+
+const written = (lines) => [...lines, ''].join('\n');
+
 async function main() {
-  if (process.argv[2]) {
-    process.stdout.write([...madeLines(Number(process.argv[2])), ''].join('\n'));
+  const [mode, file] = process.argv.slice(2);
+  if (mode && mode !== 'replay') {
+    process.stdout.write(written(madeLines(Number(mode))));
     return;
   }
   const module = await Module.load(readFileSync(new URL('../web/editor.wasm', import.meta.url)));
   const lines = readFileSync(0, 'utf8').split('\n').slice(0, -1);
-  const out = [];
-  answered(lines, [0, 1].map((site) => new Peer(module, site)), (line) => out.push(line));
-  process.stdout.write([...out, ''].join('\n'));
+  const peers = [0, 1].map((site) => new Peer(module, site));
+  if (!mode) {
+    process.stdout.write(written(answered(lines, peers)));
+    return;
+  }
+  const { script, answers } = replayed(lines, peers);
+  writeFileSync(file, written(script));
+  process.stdout.write(written(answers));
 }
 
 await main();

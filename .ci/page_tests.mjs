@@ -18,6 +18,8 @@ import { split } from '../web/frames.mjs';
 import { having, lacking } from '../web/having.mjs';
 import { Keeper } from '../web/keeper.mjs';
 import { Pieces } from '../web/pieces.mjs';
+import { MOST_TO_CONFIRM } from '../web/policy.mjs';
+import { Store } from '../web/store.mjs';
 import { spelled, unspelled } from '../web/lines.mjs';
 import * as words from '../web/words.mjs';
 
@@ -63,10 +65,81 @@ class Area extends EventTarget {
 // What a browser's store does, in memory.
 class Rows {
   bytes = Buffer.alloc(0);
+  isStale = false;
 
   async append(row) {
     this.bytes = Buffer.concat([this.bytes, row]);
   }
+
+  async mark() {
+    this.isStale = true;
+  }
+}
+
+// Time that passes only when it is told to, for what an action begins.
+async function timed(action) {
+  const old = { setTimeout, clearTimeout, now: Date.now };
+  const timers = new Map();
+  let [time, count] = [Date.now(), 0];
+  globalThis.setTimeout = (run, wait) => (timers.set(++count, { run, at: time + wait }), count);
+  globalThis.clearTimeout = (it) => timers.delete(it);
+  Date.now = () => time;
+  const pass = (wait) => {
+    const end = time + wait;
+    for (;;) {
+      const [number, next] = [...timers].sort((a, b) => a[1].at - b[1].at)[0] ?? [];
+      if (!next || next.at > end) break;
+      timers.delete(number);
+      time = Math.max(time, next.at);
+      next.run();
+    }
+    time = end;
+  };
+  try {
+    await action(pass);
+  } finally {
+    [globalThis.setTimeout, globalThis.clearTimeout, Date.now] = [old.setTimeout, old.clearTimeout, old.now];
+  }
+}
+
+// A socket that does nothing by itself.
+class Wire extends EventTarget {
+  readyState = 0;
+  sent = 0;
+
+  send() {
+    this.sent++;
+  }
+
+  close() {
+    this.readyState = 3;
+  }
+
+  open() {
+    this.readyState = 1;
+    this.dispatchEvent(new Event('open'));
+  }
+
+  cut() {
+    this.readyState = 3;
+    this.dispatchEvent(new Event('close'));
+  }
+
+  bring(bytes) {
+    this.dispatchEvent(Object.assign(new Event('message'), { data: Uint8Array.from(bytes).buffer }));
+  }
+}
+
+const TURN = [0, 0, 0, 2, 1, 5];
+
+// The administrator's link over wires, the last of which is the one that was dialled last, and what is said of it.
+function wired() {
+  const { copy } = opened(0);
+  const wires = [];
+  const said = [];
+  const dial = () => wires[wires.push(new Wire()) - 1];
+  const link = new Link(copy, { run: (it) => it(), told: (it) => it !== said.at(-1) && said.push(it), validates: () => false, dial });
+  return { link, wires, said };
 }
 
 function opened(site, bytes) {
@@ -152,6 +225,7 @@ const tries = {
       ['𝟝', '𝟝𝟞', 0, { start: 2, end: 2, text: '𝟞' }],
       ['𝟝', '𝟞', Infinity, { start: 0, end: 2, text: '𝟞' }],
       ['\u{1f600}', '\u{20600}', Infinity, { start: 0, end: 2, text: '\u{20600}' }],
+      ['teh cat', 'the cat', 0, { start: 1, end: 3, text: 'he' }], // what was corrected isn't in front of the caret
     ];
     for (const [from, to, behind, wanted] of rows) assert.deepEqual(difference(from, to, behind), wanted);
   },
@@ -159,15 +233,19 @@ const tries = {
   replacements() {
     const pieces = piecesOf('Tea ', 'at 𝟝our', '.');
     const rows = [
-      ['Tea at five.', { at: 1, removed: 1, added: ['at ', 'five'], isSplit: true }],
-      ['Tea at 𝟝our!', { at: 2, removed: 1, added: ['!'], isSplit: false }],
-      ['Tea Xat 𝟝our.', { at: 1, removed: 0, added: ['X'], isSplit: false }],
-      ['TeaX at 𝟝our.', { at: 0, removed: 1, added: ['Tea', 'X', ' '], isSplit: true }],
-      ['Tea at 𝟝our.\nX\n', { at: 3, removed: 0, added: ['\n', 'X', '\n'], isSplit: false }],
-      ['Tur.', { at: 0, removed: 2, added: ['T', 'ur'], isSplit: true }],
-      ['.', { at: 0, removed: 2, added: [], isSplit: false }],
+      ['Tea at five.', 1, 1, ['at ', 'five'], true, false],
+      ['Tea at 𝟝our!', 2, 1, ['!'], false, false],
+      ['Tea Xat 𝟝our.', 1, 0, ['X'], false, false],
+      ['TeaX at 𝟝our.', 0, 1, ['Tea', 'X', ' '], true, true],
+      ['Tea at 𝟝our.\nX\n', 3, 0, ['\n', 'X', '\n'], false, false],
+      ['Tur.', 0, 2, ['T', 'ur'], true, true],
+      ['.', 0, 2, [], false, false],
     ];
-    for (const [to, wanted] of rows) assert.deepEqual(replacement(pieces, difference(pieces.text, to)), wanted);
+    for (const [to, at, removed, added, isFrontSplit, isBackSplit] of rows) {
+      assert.deepEqual(replacement(pieces, difference(pieces.text, to)), { at, removed, added, isFrontSplit, isBackSplit });
+    }
+    const { removed, added } = replacement(pieces, { start: 2, end: 2, text: '' });
+    assert.deepEqual([removed, added], [0, []]);
     assert.deepEqual(cut('a'.repeat(600)).map((it) => it.length), [255, 255, 90]);
     assert.deepEqual(cut('é'.repeat(200)).map((it) => it.length), [127, 73]);
   },
@@ -204,6 +282,100 @@ const tries = {
     user.area.dispatchEvent(new Event('compositionend'));
     exchange(administrator, user);
     assert.equal(administrator.area.value, 'か');
+  },
+
+  // A composition that is given up, and a letter that is typed over itself, take no piece apart.
+  nothing_typed() {
+    const [administrator] = administratorAndUser('Tea at four.');
+    const { area, copy } = administrator;
+    const before = copy.journal.count;
+    area.dispatchEvent(new Event('compositionstart'));
+    area.type(4, 4, 'k');
+    area.type(4, 5, '');
+    area.dispatchEvent(new Event('compositionend'));
+    area.type(4, 5, 'a');
+    assert.equal(copy.journal.count, before);
+    assert.equal(copy.pieces.count, 1);
+  },
+
+  // While a word is composed it goes out behind a second without a key, and what waits comes in behind three.
+  async pausing_within_a_composition() {
+    const [administrator, user] = administratorAndUser('Tea');
+    await timed((pass) => {
+      const before = user.copy.journal.count;
+      user.area.dispatchEvent(new Event('compositionstart'));
+      user.area.type(3, 3, 's');
+      administrator.area.type(0, 0, 'A ');
+      user.editor.run(() => user.copy.receive(framesOf(administrator).at(-1)));
+      pass(900);
+      assert.equal(user.copy.journal.count, before);
+      user.area.type(4, 4, '!');
+      pass(900);
+      assert.equal(user.copy.journal.count, before);
+      pass(200);
+      assert.equal(user.copy.pieces.text, 'Teas!');
+      assert.equal(user.area.value, 'Teas!');
+      pass(2000);
+      assert.equal(user.area.value, 'A Teas!');
+      user.area.type(7, 7, '?');
+      user.area.dispatchEvent(new Event('compositionend'));
+      assert.equal(user.copy.pieces.text, 'A Teas!?');
+      user.area.dispatchEvent(new Event('compositionstart'));
+      user.area.type(8, 8, '?');
+      user.editor.close();
+      pass(1000);
+      assert.equal(user.area.value, 'A Teas!?');
+    });
+  },
+
+  // What waits is run in short parts, and in the order in which it came.
+  async a_burst() {
+    const { editor } = opened(0);
+    let [changes, next] = [0, 0];
+    editor.changed = () => changes++;
+    const busy = () => {
+      for (const end = performance.now() + 2; performance.now() < end; );
+    };
+    for (let i = 0; i < 40; i++) editor.run(() => [busy(), assert.equal(next++, i)]);
+    await until('all is run', () => next === 40);
+    assert.ok(changes > 1);
+    editor.run(() => assert.fail('told'));
+    editor.run(() => (next = 0));
+    editor.plan = () => {};
+    assert.throws(() => editor.drain(), /told/);
+    editor.drain();
+    assert.deepEqual([next, editor.waiting.length], [0, 0]);
+    delete editor.plan;
+    const begun = performance.now();
+    for (let i = 0; i < 300000; i++) editor.run(() => next++);
+    await until('many are run', () => next === 300000);
+    assert.ok(performance.now() - begun < 8000, `${performance.now() - begun} ms`);
+  },
+
+  // U+FEFF at a text's beginning is a letter like others.
+  a_mark_of_byte_order() {
+    const [{ copy }] = administratorAndUser('\ufeffTea');
+    const again = opened(0, copy.journal.slice(0, copy.journal.count));
+    again.area.type(4, 4, '!');
+    again.area.type(4, 5, '?');
+    assert.equal(again.area.value, '\ufeffTea?');
+    assert.equal(Buffer.from(again.copy.peer.text()).toString(), '\ufeffTea?');
+  },
+
+  // Where many pieces go they aren't followed one by one.
+  many_at_once() {
+    const [administrator, user] = administratorAndUser();
+    const { area, copy } = administrator;
+    for (let i = 0; i < 150; i++) copy.step(`edit insert ${i} x`);
+    administrator.editor.show();
+    let asked = 0;
+    copy.peer.count = () => assert.fail('a piece is followed');
+    copy.peer.sizes = () => (asked++, Object.getPrototypeOf(copy.peer).sizes.call(copy.peer));
+    area.type(1, 149, '');
+    assert.equal(asked, 1);
+    delete copy.peer.count;
+    exchange(administrator, user);
+    assert.equal(user.area.value, 'xx');
   },
 
   odd_letters() {
@@ -278,6 +450,56 @@ const tries = {
     }
   },
 
+  // Where a piece may not be taken apart nothing is lost, and nothing stands there twice. `before` are rules that forbid it.
+  a_piece_that_must_stay() {
+    const text = 'Rent: 600 a month';
+    const rows = [
+      [['addauth 0 - 1 i 0'], 3, 3],
+      [['addauth 0 - 1 d 0'], 3, 3],
+      [['addobj 1 by 0', 'addauth 0 - 1 d 1'], 4, 4],
+      [['addobj 1 by 1', 'addauth 0 - 1 i 1'], 4, 4],
+      [['addobj 1 elems 1.0', 'addauth 0 - all d 1'], 4, 4],
+      [['addobj 1 span 1.0 1.0', 'addauth 0 - all id 1'], 4, 4],
+      [['addgroup 3', 'addmember 3 1', 'addauth 0 - @3 d 0'], 5, 5],
+    ];
+    for (const [before, version, by] of rows) {
+      const [administrator, user] = administratorAndUser(text);
+      before.forEach((it) => assert.match(administrator.copy.step(`admin ${it}`), /^entry/));
+      exchange(administrator, user);
+      for (const change of [[3, 3, 'x'], [3, 4, ''], [6, 9, '700']]) {
+        user.area.type(...change);
+        assert.equal(user.area.value, text, before);
+        assert.equal(user.refusals.at(-1), `denied ${version} by ${by}`);
+      }
+    }
+  },
+
+  // Of two pieces in which a selection begins and ends the second may have to stay.
+  a_second_piece_that_must_stay() {
+    const [administrator, user] = administratorAndUser('three four');
+    user.area.type(0, 0, 'one two');
+    exchange(administrator, user);
+    administrator.copy.step('admin addobj 1 by 0');
+    administrator.copy.step('admin addauth 0 - 1 d 1');
+    exchange(administrator, user);
+    user.area.type(3, 12, '-');
+    assert.equal(user.area.value, 'one-three four');
+    assert.deepEqual(user.refusals, ['denied 4 by 4']);
+  },
+
+  // In the middle of a paragraph of many pieces, in which nothing may be deleted, no part is left either.
+  a_paragraph_that_must_stay() {
+    const [administrator, user] = administratorAndUser();
+    for (const it of ['one ', 'two three', ' four']) administrator.area.type(administrator.area.value.length, administrator.area.value.length, it);
+    const ends = administrator.editor.paragraph().join(' ');
+    administrator.copy.step(`admin addobj 1 span ${ends}`);
+    administrator.copy.step('admin addauth 0 - 1 d 1');
+    exchange(administrator, user);
+    user.area.type(6, 7, 'x');
+    assert.equal(user.area.value, 'one two three four');
+    assert.deepEqual(user.refusals, ['denied 4 by 4']);
+  },
+
   undone() {
     const [administrator, user] = administratorAndUser('Tea.');
     user.area.type(4, 4, ' Now.');
@@ -287,7 +509,7 @@ const tries = {
     const again = opened(1, user.copy.journal.slice(0, user.copy.journal.count));
     for (const { copy } of [administrator, user, again]) {
       assert.deepEqual(copy.undone.rows.map((it) => words.undone(it, copy.policy)), [
-        'User 1: 5 letters written (“ Now.”). Version 3 of the rules denies it, by the rule that version 3 made: “User 1 may not insert, delete or change in the whole text.”',
+        'User 1: 5 letters written (“\u2068 Now.\u2069”). Version 3 of the rules denies it, by the rule that version 3 made: “User 1 may not insert, delete or change in the whole text.”',
       ]);
     }
   },
@@ -308,7 +530,7 @@ const tries = {
     exchange(administrator, user);
     user.area.type(5, 6, '');
     assert.equal(user.area.value, 'one\ntwo\n\nthree');
-    assert.match(words.refusal(user.refusals[0], user.copy.policy), /Nobody may insert, delete or change in paragraph 1 \(“two”\)\./);
+    assert.match(words.refusal(user.refusals[0], user.copy.policy), /Nobody may insert, delete or change in paragraph 1 \(“\u2068two\u2069”\)\./);
     user.area.type(0, 1, 'O');
     assert.equal(user.area.value, 'One\ntwo\n\nthree');
   },
@@ -359,6 +581,149 @@ const tries = {
     await keeper.keep();
     assert.deepEqual(failures, ['no room']);
     assert.ok(!keeper.isDone && !new Session(copy).hasNews); // what isn't kept isn't sent
+  },
+
+  // Rows of a store whose quota is used up are read, and stay.
+  async a_store_that_is_full() {
+    const rows = Array.from({ length: 100 }, (_, i) => Uint8Array.of(i));
+    const store = new Store({
+      transaction(names, mode) {
+        const made = { objectStore: () => ({ getAll: () => request(rows), clear() {}, add() {} }), error: new Error('quota') };
+        made.commit = () => queueMicrotask(() => made.onabort());
+        return made;
+      },
+    });
+    const request = (result) => {
+      const made = { result };
+      queueMicrotask(() => made.onsuccess());
+      return made;
+    };
+    assert.deepEqual([...(await store.read())], rows.map((it) => it[0]));
+    await assert.rejects(store.append(Uint8Array.of(1)), /quota/);
+  },
+
+  // Confirming ends where versions have to be left for rules.
+  confirming() {
+    const [administrator, user] = administratorAndUser();
+    const { copy } = administrator;
+    while (copy.policy.version < MOST_TO_CONFIRM - 2) copy.step(`admin ${copy.policy.users.has(2) ? 'deluser' : 'adduser'} 2`);
+    for (const it of 'abc') user.area.type(0, 0, it);
+    exchange(administrator, user);
+    copy.validateAll();
+    assert.equal(copy.policy.version, MOST_TO_CONFIRM);
+    copy.validateAll();
+    assert.equal(copy.policy.version, MOST_TO_CONFIRM);
+    assert.equal(copy.tentative.size, 1);
+    assert.match(copy.step('validatenext'), /^entry/);
+    const shown = words.versions(copy.entries, copy.policy, 3);
+    assert.deepEqual(shown.map((it) => it.version), [MOST_TO_CONFIRM - 3, MOST_TO_CONFIRM - 2, MOST_TO_CONFIRM - 1]);
+    assert.equal(shown[2].text, `3 edits are confirmed, up to version ${MOST_TO_CONFIRM + 1}.`);
+    assert.deepEqual(words.versions(copy.entries.slice(0, 2), copy.policy, 3).map((it) => it.text), ['User 1 may take part.', 'User 1 may insert, delete or change in the whole text.']);
+  },
+
+  // A link that opens and is cut waits longer each time, until the program says something.
+  async a_link_that_breaks() {
+    const { link, wires, said } = wired();
+    await timed((pass) => {
+      link.open('ws://127.0.0.1:7000/');
+      for (const wait of [1, 2, 4, 8, 16, 30, 30]) {
+        const { length } = wires;
+        wires.at(-1).open();
+        wires.at(-1).cut();
+        pass(wait * 1000 - 1);
+        assert.equal(wires.length, length);
+        pass(1);
+        assert.equal(wires.length, length + 1, `dialled again after ${wait} s`);
+      }
+      const last = said.at(-1);
+      assert.equal(last, 'There is no link. You can go on; it is dialled again.');
+      wires.at(-1).cut();
+      pass(30000);
+      assert.equal(said.at(-1), last); // no seconds that change
+      wires.at(-1).open();
+      wires.at(-1).bring(TURN);
+      assert.equal(said.at(-1), 'Linked.');
+      wires.at(-1).cut();
+      const { length } = wires;
+      pass(1000);
+      assert.equal(wires.length, length + 1);
+      link.close();
+    });
+  },
+
+  // A link that dies without a word is dialled again, but one whose program waits for other links isn't.
+  async a_link_that_dies() {
+    const { link, wires, said } = wired();
+    await timed((pass) => {
+      link.open('ws://localhost:7000/');
+      wires[0].open();
+      pass(600000);
+      assert.deepEqual([wires.length, said.at(-1)], [1, 'Linked. The program has not answered yet.']);
+      wires[0].bring(TURN);
+      pass(900);
+      assert.equal(wires[0].sent, 1);
+      pass(200);
+      assert.equal(wires[0].sent, 2); // a turn, so that one is due
+      pass(29000);
+      assert.deepEqual([wires.length, said.at(-1)], [1, 'Linked.']);
+      wires[0].bring(TURN);
+      link.copy.step('edit insert 0 a');
+      link.copy.kept = 1;
+      link.plan();
+      pass(30050);
+      assert.equal(wires[0].sent, 4); // an item and a turn
+      pass(50);
+      assert.deepEqual([wires.length, said.at(-1)], [1, 'Linked.']);
+      pass(2000);
+      assert.equal(wires.length, 2);
+      assert.match(said.at(-1), /^There is no link/);
+      link.close();
+    });
+  },
+
+  addresses() {
+    const { link, wires, said } = wired();
+    const rows = [
+      ['', /^Type the address/],
+      [' ', /^Type the address/],
+      ['7000', /^This is no address of a link/],
+      ['http://127.0.0.1:7000/', /^This is no address of a link/],
+      ['ws://127.0.0.1:70000/', /^This is no address of a link/],
+      ['ws://example.org/', /with encryption alone/],
+      ['ws://[::1]:7000/', /with encryption alone/],
+    ];
+    for (const [address, pattern] of rows) {
+      link.open(address);
+      assert.match(said.at(-1), pattern, address);
+    }
+    assert.equal(wires.length, 0);
+    for (const it of ['ws://127.0.0.1:7000/', 'ws://localhost:1/a', 'wss://example.org/']) link.open(it);
+    assert.equal(wires.length, 3);
+    link.close();
+  },
+
+  // Where memory is wanting halfway the pieces are asked for anew.
+  pieces_that_are_not_followed() {
+    const { area, copy } = opened(0);
+    area.type(0, 0, 'a');
+    const { peer } = copy;
+    peer.count = () => {
+      throw new NoMemory();
+    };
+    assert.throws(() => copy.insert(1, 'b'), NoMemory);
+    delete peer.count;
+    assert.equal(copy.pieces.text, 'ab');
+  },
+
+  // What others wrote turns nothing around it.
+  letters_that_turn() {
+    const [administrator, user] = administratorAndUser();
+    user.area.type(0, 0, '\u202e\u2069abc');
+    administrator.copy.step('admin addauth 0 - 1 idu 0');
+    exchange(administrator, user);
+    const { copy } = administrator;
+    assert.match(words.undone(copy.undone.rows[0], copy.policy), /\(“\u2068abc\u2069”\)/);
+    assert.equal(words.undoing(1), '1 edit was undone. “What was undone, and why” below has more.');
   },
 
   async sessions() {
@@ -440,13 +805,14 @@ const tries = {
     assert.equal(editor.area.value, 'x'.repeat(count));
   },
 
-  a_site_that_wrote_before() {
+  async a_site_that_wrote_before() {
     const [administrator, user] = administratorAndUser();
     user.area.type(0, 0, 'a');
     exchange(administrator, user);
     const again = opened(1);
     again.editor.during(() => framesOf(administrator).forEach((it) => again.copy.receive(it)));
     assert.ok(again.copy.isStale && again.area.readOnly);
+    await until('it is kept that it did', () => again.store.isStale && again.keeper.isDone);
     const changed = opened(1);
     framesOf(administrator).slice(0, 2).forEach((it) => changed.copy.receive(it));
     changed.copy.step('edit insert 0 b');

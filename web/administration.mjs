@@ -1,4 +1,5 @@
-// The administrator's buttons: each is one operation of the policy, but for the protection of a paragraph, which is two.
+// The administrator's buttons: each is one operation of the policy, but for the protection of a paragraph, which is two, and for
+// confirming all edits, which is one for each.
 import { of, say } from './elements.mjs';
 import * as words from './words.mjs';
 
@@ -10,6 +11,24 @@ export class Administration {
     this.refused = refused;
     of('administration').hidden = false;
     this.listen();
+    this.show();
+  }
+
+  // Whether rules can be changed here: they can't where others have rules of this person that aren't here, or where nothing is kept.
+  get isOpen() {
+    return !this.copy.isStale && !this.editor.isClosed;
+  }
+
+  // Whether what comes over the link is confirmed at once.
+  get validates() {
+    return this.isOpen && of('validates').checked;
+  }
+
+  show() {
+    const { isReserved } = this.copy;
+    of('powers').disabled = !this.isOpen;
+    for (const it of ['validates', 'validate-all']) of(it).disabled = isReserved;
+    say('confirming', words.confirming(isReserved));
   }
 
   listen() {
@@ -28,6 +47,7 @@ export class Administration {
 
   // Makes a step of the rules, and says in words what came of it.
   make(step) {
+    if (!this.isOpen) return false;
     const answer = this.editor.during(() => this.copy.step(step));
     const isMade = answer.startsWith('entry ');
     if (isMade) this.tell(Number(answer.split(' ').at(-1)));
@@ -54,10 +74,12 @@ export class Administration {
   }
 
   validateAll() {
+    if (!this.isOpen) return;
     const before = this.copy.policy.version;
     this.editor.during(() => this.copy.validateAll());
     const count = this.copy.policy.version - before;
-    say('status', count ? `${words.edits(count)} ${count === 1 ? 'is' : 'are'} confirmed.` : 'Nothing waits to be confirmed.');
+    const more = this.copy.isReserved ? ` ${words.confirming(true)}` : '';
+    say('status', (count ? `${words.edits(count)} ${count === 1 ? 'is' : 'are'} confirmed.` : 'Nothing waits to be confirmed.') + more);
   }
 
   // The paragraphs of the selection become an object, and then nobody may change it.

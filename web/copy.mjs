@@ -3,7 +3,7 @@ import { BAD, DONE, NoMemory, Peer, UNTOLD } from './peer.mjs';
 import { Frames, isEntry, requestOf, split } from './frames.mjs';
 import { readMessage, spelled, undoneBy } from './lines.mjs';
 import { Pieces } from './pieces.mjs';
-import { Policy } from './policy.mjs';
+import { MOST_TO_CONFIRM, Policy } from './policy.mjs';
 import { Undone } from './undone.mjs';
 
 // A frame of no message: the bytes are at fault, and whoever sent them.
@@ -69,9 +69,28 @@ export class Copy {
     return this.step(`edit delete ${place}`);
   }
 
-  // Whether some rule lets this person insert somewhere.
-  get mayInsert() {
-    return this.site === 0 || this.policy.mayInsert(this.site);
+  // Has the pieces asked for anew when they are asked for next.
+  forgetPieces() {
+    this.shown = null;
+  }
+
+  // Whether the rules let this person delete the piece at a place, as far as this page reads them.
+  mayDelete(place) {
+    return this.policy.allows(this.site, 'd', (extent) => this.covers(extent, place));
+  }
+
+  // Whether an extent has the piece at a place.
+  covers({ kind, words }, place) {
+    if (kind === 'all') return true;
+    if (kind === 'span') return this.firstOf(words[0]) <= place && place < (this.peer.shownUpTo(words[1]) ?? 0);
+    const name = this.peer.nameAt(place);
+    return kind === 'by' ? name.endsWith(`.${words[0]}`) : words[0].split(',').includes(name);
+  }
+
+  // The place of the first piece that shows from an element on.
+  firstOf(name) {
+    const upTo = this.peer.shownUpTo(name) ?? 0;
+    return upTo && this.peer.nameAt(upTo - 1) === name ? upTo - 1 : upTo;
   }
 
   // Receives a message, and settles what is due by then.
@@ -96,9 +115,14 @@ export class Copy {
     return message.kind === 'entry' ? this.site === 0 : message.user === this.site;
   }
 
-  // Confirms all that waits for it.
+  // Whether the versions that are left are left for rules.
+  get isReserved() {
+    return this.policy.version >= MOST_TO_CONFIRM;
+  }
+
+  // Confirms all that waits for it, as long as there are versions for it.
   validateAll() {
-    while (this.step('validatenext').startsWith('entry '));
+    while (!this.isReserved && this.step('validatenext').startsWith('entry '));
   }
 
   // The journal's item at a place, as a message; null where it is shorter.
@@ -107,8 +131,18 @@ export class Copy {
     return answer.startsWith(ITEM) ? { message: readMessage(answer.slice(ITEM.length)), frame } : null;
   }
 
-  // Takes in what the journal has since a step that had this answer: an item, if any.
+  // Takes in what the journal has since a step that had this answer: an item, if any. Where that ends halfway the pieces are asked for
+  // anew.
   takeIn(answer) {
+    try {
+      this.takeItems(answer);
+    } catch (error) {
+      this.forgetPieces();
+      throw error;
+    }
+  }
+
+  takeItems(answer) {
     for (let it = this.item(this.journal.count); it; it = this.item(this.journal.count)) {
       const place = this.journal.count;
       this.journal.append(it.frame);
@@ -127,9 +161,7 @@ export class Copy {
   // The first letters of what shows from one element to another.
   excerpt(first, last) {
     const { peer, pieces } = this;
-    const upTo = peer.shownUpTo(first) ?? 0;
-    const from = upTo && peer.nameAt(upTo - 1) === first ? upTo - 1 : upTo;
-    const letters = Array.from(pieces.text.slice(pieces.startOf(from), pieces.startOf(peer.shownUpTo(last) ?? 0)));
+    const letters = Array.from(pieces.text.slice(pieces.startOf(this.firstOf(first)), pieces.startOf(peer.shownUpTo(last) ?? 0)));
     return letters.length > EXCERPT ? `${letters.slice(0, EXCERPT).join('')}…` : letters.join('');
   }
 
@@ -147,7 +179,7 @@ export class Copy {
     const denial = this.denialOf({ user: null, name }, place);
     if (!denial) return;
     this.undone.put(this.item(place).message, denial);
-    this.shown = null;
+    this.forgetPieces();
   }
 
   takeRequest(request, place) {
@@ -172,6 +204,6 @@ export class Copy {
     const came = this.peer.count() - shown.count;
     if (edit.kind === 'insert' && came === 1) shown.splice(this.peer.shownUpTo(name) - 1, 0, [edit.piece]);
     else if (edit.kind === 'delete' && came === -1) shown.splice(this.peer.shownUpTo(edit.name), 1, []);
-    else if (came !== 0 || edit.kind === 'update') this.shown = null;
+    else if (came !== 0 || edit.kind === 'update') this.forgetPieces();
   }
 }

@@ -6,9 +6,8 @@ const encoder = new TextEncoder();
 const isHigh = (unit) => (unit & 0xfc00) === 0xd800;
 const isLow = (unit) => (unit & 0xfc00) === 0xdc00;
 
-// In units of UTF-16: `text` replaces what stands from `start` to `end`. No more than `behind` units are taken for alike at the
-// end, so that among equal letters the place of the caret decides.
-export function difference(from, to, behind = Infinity) {
+// In units of UTF-16: `text` replaces what stands from `start` to `end`. No more than `behind` units are taken for alike at the end.
+function differenceUpTo(from, to, behind) {
   const most = Math.min(from.length, to.length);
   let back = 0;
   while (back < Math.min(most, behind) && from.charCodeAt(from.length - 1 - back) === to.charCodeAt(to.length - 1 - back)) back++;
@@ -17,6 +16,17 @@ export function difference(from, to, behind = Infinity) {
   while (front < most - back && from.charCodeAt(front) === to.charCodeAt(front)) front++;
   if (front && isHigh(from.charCodeAt(front - 1))) front--;
   return { start: front, end: from.length - back, text: to.slice(front, to.length - back) };
+}
+
+const sizeOf = ({ start, end, text }) => end - start + text.length;
+
+// The difference of two texts. Among equal letters the place of the caret decides, which stands so many units in front of the end:
+// unless what was written isn't in front of it, where another difference is smaller.
+export function difference(from, to, behind = Infinity) {
+  const atCaret = differenceUpTo(from, to, behind);
+  if (behind === Infinity || sizeOf(atCaret) < 2) return atCaret;
+  const least = differenceUpTo(from, to, Infinity);
+  return sizeOf(least) < sizeOf(atCaret) ? least : atCaret;
 }
 
 // The pieces that a text is written in: a line end is one of its own, so that paragraphs begin and end with pieces, and what stands
@@ -37,15 +47,15 @@ export function cut(text) {
   return pieces;
 }
 
-// What a difference does to pieces: `removed` ones from the place `at` are replaced by `added`, among these what stays of the pieces
-// in which it begins and ends.
+// What a difference does to pieces: `removed` ones from the place `at` are replaced by `added`. The first of these is what stays of the
+// piece in which it begins where `isFrontSplit`, and the last what stays of the one in which it ends where `isBackSplit`.
 export function replacement(pieces, { start, end, text }) {
   const first = pieces.behind(start);
   const isWithin = first.start < start;
-  if (start === end && !isWithin) return { at: first.place, removed: 0, added: cut(text), isSplit: false };
+  if (start === end && (!isWithin || !text)) return { at: first.place, removed: 0, added: cut(text), isFrontSplit: false, isBackSplit: false };
   const last = pieces.behind(Math.max(start, end - 1));
   const front = pieces.text.slice(first.start, start);
   const back = pieces.text.slice(end, last.end);
   const added = [front, ...cut(text), back].filter(Boolean);
-  return { at: first.place, removed: last.place + 1 - first.place, added, isSplit: Boolean(front || back) };
+  return { at: first.place, removed: last.place + 1 - first.place, added, isFrontSplit: front !== '', isBackSplit: back !== '' };
 }

@@ -1,5 +1,5 @@
 // Keeps what the journal has in the browser's store, one write after another, so soon that what shows needn't wait for it: what comes
-// during a write goes with the next.
+// during a write goes with the next. It also keeps that the site is stale.
 
 const soon = () => new Promise((done) => setTimeout(done, 0));
 
@@ -10,13 +10,14 @@ export class Keeper {
     this.store = store;
     this.kept = kept;
     this.failed = failed;
+    this.isMarked = copy.isStale; // the store says that the site is stale
     this.isWriting = false;
     this.hasFailed = false;
   }
 
   // Whether all that the journal has is kept.
   get isDone() {
-    return this.copy.kept === this.copy.journal.count;
+    return this.copy.kept === this.copy.journal.count && this.isMarked === this.copy.isStale;
   }
 
   async keep() {
@@ -35,7 +36,12 @@ export class Keeper {
 
   async write() {
     const { copy } = this;
+    if (copy.isStale && !this.isMarked) {
+      await this.store.mark();
+      this.isMarked = true;
+    }
     const { count } = copy.journal;
+    if (count === copy.kept) return;
     await this.store.append(copy.journal.slice(copy.kept, count));
     copy.kept = count;
     this.kept();

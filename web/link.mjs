@@ -1,4 +1,5 @@
 // A link to a program that serves: a session over a WebSocket, round by round while it is open, dialled again where it is cut.
+import { addressFault } from './address.mjs';
 import { BadFrame } from './copy.mjs';
 import { Session } from './session.mjs';
 
@@ -7,6 +8,8 @@ const NEWS_MS = 100; // where there is
 const FIRST_WAIT_MS = 1000;
 const LONGEST_WAIT_MS = 30000;
 const LAST_TURN_MS = 5000; // to wait for the other side's turn where the link is ended
+const DUE_MS = 30000; // a link on which nothing came for so long while the other side's turn was due has died
+const ITEM_MS = 20; // and for so much longer for each item that the other side was given to take
 const WENT = 1000;
 const BROKE_PROTOCOL = 4002;
 const OPEN = 1;
@@ -24,19 +27,25 @@ export class Link {
     this.socket = null;
     this.timer = null;
     this.isSoon = false; // the timer's wait is the short one
+    this.due = null; // the timer of the turn that is due
+    this.hasBegun = false; // something came on this link: a program that serves waits for all its links before it says anything
+    this.untaken = 0; // messages that came on it and wait to be taken
   }
 
   // Dials this address, and again whenever the link is cut, until `close`.
   open(address) {
     this.close();
+    const fault = addressFault(address);
+    if (fault) return this.told(fault);
     this.address = address;
     this.wait = FIRST_WAIT_MS;
+    this.told('Dialling.');
     this.connect();
   }
 
   // Dials no more, and ends the session: where it is the other side's turn, behind it.
   close() {
-    this.stopTimer();
+    this.stopTimers();
     this.address = null;
     const { socket, session } = this;
     this.socket = null;
@@ -57,24 +66,48 @@ export class Link {
     }
     socket.binaryType = 'arraybuffer';
     this.socket = socket;
+    this.hasBegun = false;
+    this.untaken = 0;
     const session = new Session(this.copy, (bytes) => socket.send(bytes), this.validates);
     this.session = session;
-    this.told('Dialling.');
     const ours = (action) => (event) => this.socket === socket && action(event);
     socket.addEventListener('open', ours(() => this.opened()));
+    socket.addEventListener('message', ours(() => this.came()));
     socket.addEventListener('message', ({ data }) => this.run(() => this.take(data, socket, session)));
     // A socket that never opened tells of an error, and not everywhere of a close too.
     for (const end of ['error', 'close']) socket.addEventListener(end, ours(() => this.lost()));
   }
 
   opened() {
-    this.wait = FIRST_WAIT_MS;
-    this.told('Linked.');
+    this.told('Linked. The program has not answered yet.');
     this.round();
+  }
+
+  // A message came, and waits to be taken.
+  came() {
+    this.hasBegun = true;
+    this.untaken++;
+    this.awaitTurn();
+  }
+
+  // Waits for the turn that is due, as long as messages come. A timer that is late, as where the machine slept, tells nothing of the
+  // link.
+  awaitTurn(wait = DUE_MS) {
+    clearTimeout(this.due);
+    const end = Date.now() + wait;
+    this.due = setTimeout(() => this.ifDead(Date.now() - end), wait);
+  }
+
+  ifDead(late) {
+    if (!this.session.isListening) return;
+    if (this.untaken || late > DUE_MS) return this.awaitTurn();
+    this.socket.close();
+    this.lost();
   }
 
   // Takes a message. The first that is none ends the session, and so does want of memory: dialled again, all comes again.
   take(data, socket, session) {
+    if (this.socket === socket) this.untaken--;
     if (session.isOver) return;
     try {
       if (!(data instanceof ArrayBuffer)) throw new BadFrame();
@@ -86,7 +119,19 @@ export class Link {
       throw error;
     }
     if (session.isOver) socket.close(WENT);
-    else if (!session.isListening) this.plan();
+    else if (!session.isListening && this.socket === socket) this.tookTurn();
+  }
+
+  // The program's turn came, so the link works.
+  tookTurn() {
+    this.wait = FIRST_WAIT_MS;
+    this.told('Linked.');
+    this.plan();
+  }
+
+  stopTimers() {
+    this.stopTimer();
+    clearTimeout(this.due);
   }
 
   stopTimer() {
@@ -98,7 +143,12 @@ export class Link {
   round() {
     this.stopTimer();
     const { socket, session } = this;
-    this.run(() => this.socket === socket && socket.readyState === OPEN && session.begin());
+    this.run(() => {
+      if (this.socket !== socket || socket.readyState !== OPEN) return;
+      const before = session.mark;
+      session.begin();
+      if (this.hasBegun) this.awaitTurn(DUE_MS + ITEM_MS * (session.mark - before));
+    });
   }
 
   // Plans the next round, sooner where this side has news.
@@ -112,10 +162,11 @@ export class Link {
     this.timer = setTimeout(() => this.socket === socket && this.round(), isSoon ? NEWS_MS : ROUND_MS);
   }
 
+  // What is said stays the same until a link stands again, so that who hears the page isn't told at each try.
   lost() {
-    this.stopTimer();
+    this.stopTimers();
     this.socket = null;
-    this.told(`There is no link. You can go on; it is dialled again in ${Math.round(this.wait / 1000)} s.`);
+    this.told('There is no link. You can go on; it is dialled again.');
     this.timer = setTimeout(() => this.connect(), this.wait);
     this.wait = Math.min(2 * this.wait, LONGEST_WAIT_MS);
   }

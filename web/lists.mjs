@@ -5,26 +5,31 @@ import * as words from './words.mjs';
 const MOST_SHOWN = 200;
 
 export class Lists {
-  // `remove` is given the place of a rule that is to go; null where this person may not.
-  constructor(copy, remove) {
+  // `administration` takes rules away; null where this person isn't the administrator.
+  constructor(copy, administration) {
     this.copy = copy;
-    this.remove = remove;
-    this.version = -1; // that is shown
-    this.undone = 0; // so many edits were undone in what is shown
+    this.administration = administration;
+    this.shown = new Map(); // what each list was made of
   }
 
-  // The lists are made anew only where they changed, so that who stands in one with the keyboard stays there.
+  // Whether a list is to be made anew, of this.
+  isNew(id, ...words) {
+    const said = JSON.stringify(words);
+    const isNew = this.shown.get(id) !== said;
+    this.shown.set(id, said);
+    return isNew;
+  }
+
   show() {
     const { policy, undone } = this.copy;
+    const mayRemove = this.administration?.isOpen ?? false;
     this.showWho();
-    if (policy.version !== this.version) {
-      this.showRules();
+    if (this.isNew('all', policy.version, mayRemove)) {
+      this.showRules(mayRemove);
       this.showObjects();
       this.showVersions();
     }
-    if (undone.count !== this.undone) this.showUndone();
-    this.version = policy.version;
-    this.undone = undone.count;
+    if (this.isNew('undone', undone.count)) this.showUndone();
   }
 
   showWho() {
@@ -33,32 +38,57 @@ export class Lists {
     say('who', `This page is ${words.person(site)}.${here} Version ${policy.version} of the rules.`);
   }
 
-  showRules() {
+  // The rules are made anew only where they changed.
+  showRules(mayRemove) {
     const { policy } = this.copy;
     say('people', `People: ${[...policy.users].sort((a, b) => a - b).map(words.person).join(', ')}.`);
-    const buttons = (place) => (this.remove ? [button('Remove', `Remove rule ${place + 1}`, () => this.remove(place))] : []);
-    of('rules').replaceChildren(...policy.authorizations.map((it, place) => item(words.rule(it, policy), ...buttons(place))));
+    const rules = policy.authorizations.map((it) => [it.version, words.rule(it, policy)]);
+    if (!this.isNew('rules', mayRemove, rules)) return;
+    const buttons = (place) => (mayRemove ? [button('Remove', `Remove rule ${place + 1}`, () => this.administration.removeRule(place))] : []);
+    const items = rules.map(([version, text], place) => {
+      const made = item(text, ...buttons(place));
+      made.dataset.version = version;
+      return made;
+    });
+    this.stayingInRules(() => of('rules').replaceChildren(...items));
   }
 
-  // Where a rule may apply; the choice stays where it can.
+  // Who stands at a rule with the keyboard stands at the same rule afterwards, where it is gone at the next one, and where there is none
+  // at the heading.
+  stayingInRules(action) {
+    const stood = document.activeElement?.closest('#rules li');
+    const place = [...of('rules').children].indexOf(stood);
+    action();
+    if (!stood) return;
+    const items = [...of('rules').children];
+    const now = items.find((it) => it.dataset.version === stood.dataset.version) ?? items[place] ?? items.at(-1);
+    (now?.querySelector('button') ?? of('rules-title')).focus();
+  }
+
+  // Where a rule may apply, made anew only where that changed; the choice stays where it can.
   showObjects() {
     const { policy } = this.copy;
+    const objects = [...policy.objects.keys()].map((number) => [words.object(number, policy), String(number)]);
+    if (!this.isNew('object', objects)) return;
     const chosen = Number(of('object').value);
-    const options = [...policy.objects.keys()].map((number) => new Option(words.object(number, policy), String(number)));
-    of('object').replaceChildren(...options);
+    of('object').replaceChildren(...objects.map((it) => new Option(...it)));
     if (policy.objects.has(chosen)) of('object').value = String(chosen);
   }
 
   showUndone() {
     const { undone, policy } = this.copy;
     of('nothing-undone').hidden = undone.count > 0;
+    of('undone').start = undone.rows.length;
     of('undone').replaceChildren(...undone.rows.slice(-MOST_SHOWN).toReversed().map((it) => item(words.undone(it, policy))));
   }
 
   showVersions() {
     const { entries, policy } = this.copy;
-    const shown = entries.slice(-MOST_SHOWN);
-    of('versions').start = entries.length - shown.length + 1;
-    of('versions').replaceChildren(...shown.map((it) => item(words.change(it, policy))));
+    const items = words.versions(entries, policy, MOST_SHOWN).map(({ version, text }) => {
+      const made = item(text);
+      made.value = version;
+      return made;
+    });
+    of('versions').replaceChildren(...items);
   }
 }

@@ -8,9 +8,11 @@ import * as words from './words.mjs';
 
 const LAST_SITE = 65535;
 const LAST_PORT = 65535;
-const LOCK_PATIENCE_MS = 2000; // a page that is loaded again waits for itself to be gone
+const OTHER_NAMES = ['127.0.0.1', '[::1]'];
+const LOCK_PATIENCE_MS = 4000; // a page that is loaded again waits for itself to be gone
 
 const DAMAGED = 'What this browser kept for this person is no journal, so the page cannot come back from it. Nothing of it was changed.';
+const FRAMED = 'This page is shown within another one, which could have you press what you do not see. Open it by itself.';
 const SURE = 'Start over? What was kept is deleted. If others have what was written here, take another number instead: a fresh page gives old names to new edits.';
 
 function numberIn(name, last) {
@@ -40,8 +42,12 @@ function offer(store, bytes, site) {
   of('download-damaged').addEventListener('click', () => download(bytes, `site-${site}.damaged`));
   of('start-over').addEventListener('click', async () => {
     if (!confirm(SURE)) return;
-    await store.clear();
-    location.reload();
+    try {
+      await store.clear();
+      location.reload();
+    } catch (error) {
+      say('status', `It was not deleted: ${error.message}`);
+    }
   });
 }
 
@@ -57,8 +63,9 @@ async function open(site) {
     if (!(error instanceof NoJournal)) throw error;
     return offer(store, bytes, site);
   }
+  copy.isStale = await store.isMarked();
   const page = new Page(copy, store);
-  if (bytes.length) say('status', 'This page is back with what this browser kept.');
+  if (bytes.length && !copy.isStale) say('status', 'This page is back with what this browser kept.');
   const port = numberIn('link', LAST_PORT);
   if (!port) return;
   of('address').value = `ws://127.0.0.1:${port}/`;
@@ -73,15 +80,29 @@ async function alone(site, action) {
       action().catch(fail);
       await new Promise(() => {}); // the lock is held as long as the page is there
     });
-  } catch {
+  } catch (error) {
+    if (error !== signal.reason) throw error;
     throw new Error(`Another page of this browser is ${words.person(site)} already. Close it, or take another number.`);
   }
 }
 
+// A browser takes other names of this machine for other origins, each with pages and a store of its own, so that one person could
+// have two pages. So the page goes to one of them.
+function goesToLocalhost() {
+  if (!OTHER_NAMES.includes(location.hostname)) return false;
+  const address = new URL(location.href);
+  address.hostname = 'localhost';
+  location.replace(address);
+  return true;
+}
+
 async function start() {
+  if (top !== self) throw new Error(FRAMED);
+  if (goesToLocalhost()) return;
   const site = numberIn('site', LAST_SITE);
   if (site === null) throw new Error('Whose page is this? Put ?site=1 behind the address, with the number of a person; 0 is the administrator.');
   if (!navigator.locks) throw new Error('Open this page from localhost or over https: it cannot tell here whether the person has another page.');
+  document.title = `Roastcliff: ${words.person(site)}`;
   await alone(site, () => open(site));
 }
 

@@ -1,7 +1,7 @@
 // A text and where its pieces end, in units of UTF-16 as a text area counts them. A piece has at most 255 bytes, so its size fits a byte.
 
 const FIRST_ROOM = 256;
-const decoder = new TextDecoder();
+const decoder = new TextDecoder('utf-8', { ignoreBOM: true }); // U+FEFF is a letter like others
 
 // How many units of UTF-16 these bytes of UTF-8 make.
 function unitsOf(bytes, from, to) {

@@ -1,5 +1,8 @@
 // The policy that a row of entries makes, for reading alone: the peer decides by its own.
 
+export const MOST_VERSIONS = 16383; // of a text's rules
+export const MOST_TO_CONFIRM = 12000; // up to this one edits are confirmed; the others are left for rules
+
 function setOf(word) {
   if (word === 'all') return { kind: 'all' };
   if (word.startsWith('@')) return { kind: 'groups', numbers: word.slice(1).split(',').map(Number) };
@@ -51,13 +54,15 @@ export class Policy {
     this.made.set(authorization.version, authorization);
   }
 
-  // Whether some authorization lets a user insert somewhere, whatever else is forbidden.
-  mayInsert(user) {
+  // Whether a user has a right, as `i`, to an element of which `covers` tells whether an extent has it.
+  allows(user, right, covers) {
     const isFor = ({ kind, numbers }) => {
       if (kind === 'all') return true;
       return kind === 'users' ? numbers.includes(user) : numbers.some((it) => this.groups.get(it)?.has(user));
     };
-    return this.users.has(user) && this.authorizations.some((it) => it.allows && it.rights.includes('i') && isFor(it.users));
+    const isIn = (number) => this.objects.has(number) && covers(this.objects.get(number));
+    const isFirst = ({ users, rights, objects }) => isFor(users) && rights.includes(right) && objects.some(isIn);
+    return user === 0 || (this.users.has(user) && (this.authorizations.find(isFirst)?.allows ?? false));
   }
 
   // A number that is no object's and never was.

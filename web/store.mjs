@@ -1,6 +1,10 @@
-// Where a browser keeps the frames of a site's journal: rows of bytes in a database of their own, in the order in which they came.
+// Where a browser keeps the frames of a site's journal: rows of bytes in a database of their own, in the order in which they came, and
+// a mark where the site is stale.
 
 const FRAMES = 'frames';
+const MARKS = 'marks';
+const STALE = 'stale';
+const VERSION = 2; // of the database: the first had no marks
 const MOST_ROWS = 64; // of so many one is made
 
 function result(request) {
@@ -24,8 +28,11 @@ export class Store {
   // The browser is asked to clear it only when the person does.
   static async open(site) {
     navigator.storage?.persist?.().catch(() => {});
-    const request = indexedDB.open(`roastcliff site ${site}`, 1);
-    request.onupgradeneeded = () => request.result.createObjectStore(FRAMES, { autoIncrement: true });
+    const request = indexedDB.open(`roastcliff site ${site}`, VERSION);
+    request.onupgradeneeded = ({ oldVersion }) => {
+      if (!oldVersion) request.result.createObjectStore(FRAMES, { autoIncrement: true });
+      request.result.createObjectStore(MARKS);
+    };
     return new Store(await result(request));
   }
 
@@ -33,11 +40,11 @@ export class Store {
     this.database = database;
   }
 
-  // All that was appended.
+  // All that was appended. Where there is no room to make one row of many these stay.
   async read() {
     const rows = await result(this.database.transaction(FRAMES).objectStore(FRAMES).getAll());
     const all = joined(rows);
-    if (rows.length > MOST_ROWS) await this.change((frames) => [frames.clear(), frames.add(all)]);
+    if (rows.length > MOST_ROWS) await this.change((frames) => [frames.clear(), frames.add(all)]).catch(() => {});
     return all;
   }
 
@@ -46,16 +53,25 @@ export class Store {
   }
 
   clear() {
-    return this.change((frames) => frames.clear());
+    return this.change((frames, marks) => [frames.clear(), marks.clear()]);
   }
 
-  // Changes the rows all at once; it is done when they are on the disk.
+  // Marks the site as stale, until all is cleared.
+  mark() {
+    return this.change((frames, marks) => marks.put(true, STALE));
+  }
+
+  async isMarked() {
+    return Boolean(await result(this.database.transaction(MARKS).objectStore(MARKS).get(STALE)));
+  }
+
+  // Changes rows and marks all at once; it is done when they are on the disk.
   change(action) {
-    const transaction = this.database.transaction(FRAMES, 'readwrite', { durability: 'strict' });
+    const transaction = this.database.transaction([FRAMES, MARKS], 'readwrite', { durability: 'strict' });
     return new Promise((done, failed) => {
       transaction.oncomplete = () => done();
       transaction.onabort = () => failed(transaction.error ?? new Error('the browser gave it up'));
-      action(transaction.objectStore(FRAMES));
+      action(transaction.objectStore(FRAMES), transaction.objectStore(MARKS));
       transaction.commit();
     });
   }

@@ -1,5 +1,6 @@
 // What is told to a person, in words.
 import { deniedBy } from './lines.mjs';
+import { MOST_TO_CONFIRM, MOST_VERSIONS } from './policy.mjs';
 
 const RIGHTS = { i: 'insert', d: 'delete', u: 'change' };
 
@@ -33,13 +34,18 @@ function people({ kind, numbers }) {
   return listed(numbers.map(person));
 }
 
+// Letters that somebody wrote, in a sentence of ours: whichever way they run, and without signs that would turn what follows them.
+function cited(letters) {
+  return `“\u2068${letters.replace(/[\u202a-\u202e\u2066-\u2069]/g, '')}\u2069”`;
+}
+
 export function object(number, policy) {
   const extent = policy.named.get(number);
   if (!extent) return `part ${number}, which is not there`;
   if (extent.kind === 'all') return 'the whole text';
   if (extent.kind === 'by') return `what ${person(Number(extent.words[0]))} wrote`;
   if (extent.kind === 'elems') return `part ${number} (single letters)`;
-  return `paragraph ${number}${extent.said ? ` (“${extent.said}”)` : ''}`;
+  return `paragraph ${number}${extent.said ? ` (${cited(extent.said)})` : ''}`;
 }
 
 function rights(letters) {
@@ -98,6 +104,26 @@ const CHANGES = {
   validate: ([name]) => `The edit ${name} is confirmed.`,
 };
 
+const isConfirmation = ({ op: [kind] }) => kind === 'validate';
+
+// The last lines of a list of entries, at most so many, each with the version that it begins with: one for each entry, but one alone for
+// edits that were confirmed one after another.
+export function versions(entries, policy, most) {
+  const lines = [];
+  for (let end = entries.length; end > 0 && lines.length < most; ) {
+    let start = end - 1;
+    while (start > 0 && isConfirmation(entries[start]) && isConfirmation(entries[start - 1])) start--;
+    lines.unshift({ version: entries[start].version, text: changes(entries.slice(start, end), policy) });
+    end = start;
+  }
+  return lines;
+}
+
+function changes(entries, policy) {
+  const [first, last] = [entries[0], entries.at(-1)];
+  return first === last ? change(first, policy) : `${edits(entries.length)} are confirmed, up to version ${last.version}.`;
+}
+
 // What an entry changes.
 export function change({ version, op: [kind, ...words] }, policy) {
   if (kind === 'addauth') return rule(policy.made.get(version), policy);
@@ -120,11 +146,25 @@ const SHOWN_LETTERS = 60;
 export function undone({ user, denial, counts, letters }, policy) {
   const said = Object.entries(counts).filter(([, count]) => count).map(([kind, count]) => EDITS[kind](count));
   const more = letters.length > SHOWN_LETTERS ? '…' : '';
-  const what = letters.length ? ` (“${letters.slice(0, SHOWN_LETTERS).join('')}${more}”)` : '';
+  const what = letters.length ? ` (${cited(letters.slice(0, SHOWN_LETTERS).join('') + more)})` : '';
   return `${capital(person(user))}: ${listed(said)}${what}. ${reason(denial, policy)}`;
 }
 
 // How many edits were confirmed or undone.
 export function edits(count) {
   return counted(count, 'edit');
+}
+
+// That so many edits were undone.
+export function undoing(count) {
+  return `${edits(count)} ${count === 1 ? 'was' : 'were'} undone. “What was undone, and why” below has more.`;
+}
+
+const [SOME, ALL] = [MOST_TO_CONFIRM, MOST_VERSIONS].map((it) => it.toLocaleString('en'));
+const COST = `Each letter that is confirmed takes a version of the rules. There are ${ALL}; behind ${SOME} they are left for rules.`;
+const RESERVED = `${SOME} of the ${ALL} versions of the rules are used, and the others are left for rules. So only “Confirm the next edit” confirms any more.`;
+
+// What confirming costs, or that there is no more of it.
+export function confirming(isReserved) {
+  return isReserved ? RESERVED : COST;
 }
