@@ -81,7 +81,11 @@ fn end_of(alloc: Global, last: &str, undone: u32, shown: usize) -> Result<String
 #[test]
 fn undoes_many(rt: HostRuntime) -> Result<(), Fail> {
     let alloc = rt.alloc();
-    for (last, undone, shown) in [("deluser 1", 5_000, 0), ("adduser 2", 0, 5_000)] {
+    for (last, undone, shown) in [
+        ("deluser 1", 5_000, 0),
+        ("addauth 0 - all i 0", 5_000, 0),
+        ("adduser 2", 0, 5_000),
+    ] {
         let input = inserts_and(alloc, 5_000, last)?;
         let (status, written) = run(&rt, alloc, 2, input.as_bytes(), &FreeGate)?;
         assert_eq!(rt; status, Status::Done);
