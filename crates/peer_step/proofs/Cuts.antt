@@ -1,9 +1,9 @@
 -- Joined bytes that are cut give the pieces again.
-use Rattle.std.proofs.Common.{◌≡◌, ℕ, zero, suc, ◌+◌, ◌-◌, ◌≤◌, true, ◌&&◌, List, [], ◌∷◌, ◌++◌, length, take, drop, None, Some, refl, sym, ap, subst, ◌∙◌, arith}
+use Rattle.std.proofs.Common.{◌≡◌, ℕ, zero, suc, ◌≤◌, true, ◌&&◌, List, [], ◌∷◌, ◌++◌, length, take, drop, Some, refl, ap, ◌∙◌, arith}
 use Rattle.std.specs.Prelude.{slice_get, option_map}
 use Rattle.std.specs.List.{concat, sum}
 use Rattle.std.proofs.Math.Seq.{take-length}
-use Rattle.std.proofs.lemmas.List.{take-append-le, drop-append-le, take-append-drop, length-drop, length-append, length-take-le, drop-drop}
+use Rattle.std.proofs.lemmas.List.{take-append-le, drop-append-le, take-append-drop, length-drop, length-append, length-take-le}
 use Rattle.std.proofs.lemmas.List.Folds.{list_all-append}
 use Rattle.std.proofs.lemmas.List.Sums.{sum_by-cons, sum_by-append}
 use Rattle.coop_request.specs.Piece.{is_piece}
@@ -46,17 +46,6 @@ pub length_cut : (sizes bytes : List ℕ) → length (cut sizes bytes) ≡ lengt
 length_cut [] bytes = refl
 length_cut (size ∷ sizes) bytes = ap suc (length_cut sizes (drop size bytes))
 
--- the piece at a place, by the bytes in front of it
-pub cut_at : (sizes bytes : List ℕ) (i size : ℕ) → slice_get sizes i ≡ Some size → slice_get (cut sizes bytes) i ≡ Some (take size (drop (sum (take i sizes)) bytes))
-cut_at [] bytes i size at = absurd (cc)
-cut_at (s ∷ sizes) bytes zero size at =
-    let is : s ≡ size = cc in
-    subst (λ (n : ℕ). slice_get (cut (s ∷ sizes) bytes) zero ≡ Some (take n bytes)) is refl
-cut_at (s ∷ sizes) bytes (suc i) size at =
-    let front = sum_by-cons (λ x. x) s (take i sizes) in
-    cut_at sizes (drop s bytes) i size at
-    ∙ ap (λ (l : List ℕ). Some (take size l)) (drop-drop (sum (take i sizes)) s bytes ∙ ap (λ (n : ℕ). drop n bytes) (sym front))
-
 -- its number of bytes is the size there
 pub size_at : (sizes bytes : List ℕ) (i : ℕ) → sum sizes ≡ length bytes → option_map (λ (p : List ℕ). length p) (slice_get (cut sizes bytes) i) ≡ slice_get sizes i
 size_at [] bytes i whole = refl
@@ -67,32 +56,3 @@ size_at (s ∷ sizes) bytes (suc i) whole =
     let first = sum_by-cons (λ x. x) s sizes in
     let n = length-drop s bytes in
     size_at sizes (drop s bytes) i (omega (arith, n, first, whole))
-
--- the bytes in front of a piece and its own are within the whole
-pub size_within : (sizes : List ℕ) (i size : ℕ) → slice_get sizes i ≡ Some size → sum (take i sizes) + size ≤ sum sizes
-size_within [] i size at = absurd (cc)
-size_within (s ∷ sizes) zero size at =
-    let is : s ≡ size = cc in
-    let first = sum_by-cons (λ x. x) s sizes in
-    omega (arith, is, first)
-size_within (s ∷ sizes) (suc i) size at =
-    let rest = size_within sizes i size at in
-    let first = sum_by-cons (λ x. x) s sizes in
-    let front = sum_by-cons (λ x. x) s (take i sizes) in
-    omega (arith, rest, first, front)
-
--- no piece where there is no size
-pub no_piece : (sizes bytes : List ℕ) (i : ℕ) → slice_get sizes i ≡ None → slice_get (cut sizes bytes) i ≡ None
-no_piece [] bytes i none = refl
-no_piece (s ∷ sizes) bytes zero none = absurd (cc)
-no_piece (s ∷ sizes) bytes (suc i) none = no_piece sizes (drop s bytes) i none
-
--- the part of all bytes that is a piece
-pub part_is : (sizes bytes all : List ℕ) (i size from : ℕ) → slice_get sizes i ≡ Some size → from ≡ sum (take i sizes) → all ≡ bytes
-    → Some (take (from + size - from) (drop from all)) ≡ slice_get (cut sizes bytes) i
-part_is sizes bytes all i size from at from_is all_is =
-    let n : from + size - from ≡ size = omega arith in
-    ap (λ (k : ℕ). Some (take k (drop from all))) n
-    ∙ ap (λ (k : ℕ). Some (take size (drop k all))) from_is
-    ∙ ap (λ (l : List ℕ). Some (take size (drop (sum (take i sizes)) l))) all_is
-    ∙ sym (cut_at sizes bytes i size at)

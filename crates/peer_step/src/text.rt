@@ -1,7 +1,6 @@
 //! Texts.
-ghost use Rattle.std.specs.Prelude.{◌≡◌, ◌<◌, ◌≤◌, ◌^◌, ◌++◌, [], ◌∷◌, length, take, sum, slice_get, option_map, string_bytes, IfOk, OnOk, OnErr, IsTrue};
+ghost use Rattle.std.specs.Prelude.{◌≡◌, ◌<◌, ◌++◌, [], ◌∷◌, length, slice_get, option_map, string_bytes, IfOk, OnOk, OnErr, IsTrue};
 ghost use Rattle.std.specs.List.{concat};
-ghost use Rattle.std.specs.Option.{option_copied};
 ghost use Rattle.std.specs.Str.{is_utf8};
 
 use coop_request::Piece;
@@ -65,17 +64,6 @@ impl Text {
         size_at(&self.sizes, place)
     }
 
-    /// The bytes of the piece at a place, from 0; none past the last. Takes a step for each piece in front of it, and
-    /// no memory: to see all, go over the sizes beside `as_str`.
-    pub fn piece(&self, place: usize) -> Option<&[u8]>
-        ensures { option_copied result ≡ slice_get self.now place }
-    {
-        let size = size_at(&self.sizes, place)? as usize;
-        let bytes = self.joined.as_str().as_bytes();
-        let from = bytes_before(&self.sizes, place);
-        Some(&bytes[from..from + size])
-    }
-
     /// The bytes of its pieces, in order. Takes no memory, and the same time whatever the length.
     pub fn as_str(&self) -> &str
         ensures { result.now ≡ concat self.now }
@@ -124,17 +112,4 @@ fn size_at(sizes: &[u8], place: usize) -> Option<u8>
     ensures { result ≡ slice_get sizes.now place }
 {
     sizes.get(place).copied()
-}
-
-// The sum of the sizes in front of a place.
-fn bytes_before(sizes: &[u8], place: usize) -> usize
-    requires within { place ≤ length sizes.now }
-    requires few { sum sizes.now < 2 ^ 64 }
-    ensures { result ≡ sum (take place sizes.now) }
-{
-    let mut from = 0;
-    for i in 0..place {
-        from += sizes[i] as usize;
-    }
-    from
 }

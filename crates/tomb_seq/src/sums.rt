@@ -11,7 +11,7 @@ use std::marker::Model;
 /// How many numbers a group has.
 const GROUP: usize = 32;
 
-/// Numbers, with the sum of each 32 of them, so that a sum of n of them takes n/32 steps, and at most 31.
+/// Numbers, with the sum of each group of them, so that a sum of n of them takes n/32 steps, and at most 31.
 ///
 /// A group stays when numbers go, for those that come later.
 #[derive(Drop)]
@@ -25,10 +25,11 @@ impl Model for Sums {
     ghost use Rattle.std.specs.Prelude.{◌*◌, length};
     ghost use Rattle.std.specs.Vec.{vec_capacity};
     ghost use Rattle.tomb_seq.specs.Sums.{Numbers, AreSums};
+    ghost use Rattle.tomb_seq.specs.declared.sums.TheConstants.{GROUP};
 
     ghost Value = { Numbers };
 
-    ghost view = { λ s. record { parts = s.parts.items; room = 32 * length s.groups.items } };
+    ghost view = { λ s. record { parts = s.parts.items; room = GROUP * length s.groups.items } };
 
     ghost invariant = { λ s. AreSums s.parts.items s.groups.items (vec_capacity s.parts) s.total };
 }
@@ -68,7 +69,7 @@ fn head_len(numbers: &[usize]) -> usize
 
 // Sums each group anew.
 fn regroup(parts: &[usize], groups: &mut [usize])
-    requires cover { length parts.now ≤ 32 * length groups.old }
+    requires cover { length parts.now ≤ GROUP * length groups.old }
     requires fits { sum parts.now < 2 ^ 64 }
     ensures grouped { AreGrouped parts.now groups.new }
     ensures size { length groups.new ≡ length groups.old }

@@ -1,10 +1,9 @@
 //! Marks of elements.
-ghost use Rattle.std.specs.Prelude.{◌≡◌, ◌<◌, length};
-ghost use Rattle.tomb_seq.specs.Runs.{IsThere, slots_of, marked_block};
-ghost use Rattle.tomb_seq.specs.Slots.{names_in, slots_by, with_mark};
+ghost use Rattle.std.specs.Prelude.{◌≡◌};
+ghost use Rattle.tomb_seq.specs.Runs.{IsThere, slots_of};
+ghost use Rattle.tomb_seq.specs.Slots.{with_mark};
 
 use super::Blocks;
-use crate::shows::Shows;
 use crate::spot::Spot;
 use element_name::Name;
 
@@ -27,25 +26,5 @@ impl Blocks {
         let block = &mut self.list[spot.rank];
         block.mark(spot.place, shows);
         self.shows.set(spot.rank, block.shown());
-    }
-
-    // Marks each element of the block of a rank as the test says.
-    fn mark_block<T: Shows>(&mut self, rank: usize, test: &T)
-        requires { rank < length self.old }
-        ensures { self.new ≡ marked_block (T.is_shown test.now) self.old rank }
-    {
-        let _len = &self.len;
-        let block = &mut self.list[rank];
-        block.mark_each(test);
-        self.shows.set(rank, block.shown());
-    }
-
-    /// Marks each element as the test says.
-    pub fn mark_each<T: Shows>(&mut self, test: &T)
-        ensures { slots_of self.new ≡ slots_by (T.is_shown test.now) (names_in (slots_of self.old)) }
-    {
-        for rank in 0..self.list.len() {
-            self.mark_block(rank, test);
-        }
     }
 }

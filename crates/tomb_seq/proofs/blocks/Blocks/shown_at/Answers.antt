@@ -1,7 +1,6 @@
 use Rattle.std.proofs.Common.{◌<◌, ◌∙◌, sym, ap, List, ℕ, length, arith}
 use Rattle.std.specs.Prelude.{slice_get, slice_index, sum}
 use Rattle.std.proofs.lemmas.List.{length-map}
-use Rattle.tomb_seq.specs.declared.slot.Slot.{Slot}
 use Rattle.tomb_seq.specs.Slots.{marked_names}
 use Rattle.tomb_seq.specs.Runs.{Run, slots_of, run_shown}
 use Rattle.tomb_seq.specs.Sums.{sum_before}
