@@ -18,8 +18,8 @@ use Rattle.step_input.specs.Steps.{good_steps, first_bad, input_lines, steps_of,
 use Rattle.keep_form.specs.declared.stopped.Stopped.{Stopped}
 use Rattle.keep_form.specs.declared.stopped.Stopped.TheVariants.{BadLine, TooLong, ReadFault, WriteFault, NoMemory, DiskFault, BadStore, StoreFull}
 use Rattle.keep_form.specs.declared.reader.StepReader.{StepReader}
-use Rattle.keep_form.specs.Reader.{unread, IsLine, FetchStops, MayFollow, StepsRead, StepsEnd, StepsStop}
-use Rattle.keep_form.proofs.StepLines.{good_first, good_number, bad_first, bad_number, step_front, bad_front}
+use Rattle.keep_form.specs.Reader.{unread, EndsAt, IsLine, RefillStops, MayFollow, StepsRead, StepsEnd, StepsStop}
+use Rattle.keep_form.proofs.StepLines.{good_first, good_number, bad_first, bad_number, step_begins, bad_begins}
 
 known_end : (a : Option (List ℕ)) → IsAtEnd a → left_known a ≡ []
 known_end None e = refl
@@ -97,11 +97,11 @@ module _ (left now : Option (List ℕ)) (r : StepReader) (steps : List Step) (so
     size = so_far.size ∙ sym count;
     at_end = λ e. so_far.at_end (sym ended ∙ e);
     lists = λ cut more may. so_far.lists cut more (may_before cut more may)
-        ∙ ap (λ (ls : List (List ℕ)). steps ++ good_steps ls) (front cut more (may_before cut more may))
+        ∙ ap (λ (ls : List (List ℕ)). steps ++ good_steps ls) (begins cut more (may_before cut more may))
         ∙ ap (λ (xs : List Step). steps ++ xs) (good_first (take len (unread r)) (lines_of cut (unread next ++ more)) step said)
         ∙ sym (append_assoc steps (step ∷ []) (good_steps (lines_of cut (unread next ++ more))));
     numbers = λ cut more may. so_far.numbers cut more (may_before cut more may)
-        ∙ ap (first_bad r.number) (front cut more (may_before cut more may))
+        ∙ ap (first_bad r.number) (begins cut more (may_before cut more may))
         ∙ good_number r.number (take len (unread r)) (lines_of cut (unread next ++ more)) step said
         ∙ ap (λ (k : ℕ). first_bad k (lines_of cut (unread next ++ more))) (sym number);
   }
@@ -109,9 +109,9 @@ module _ (left now : Option (List ℕ)) (r : StepReader) (steps : List Step) (so
       may_before : (cut : Bool) (more : List ℕ) → MayFollow next.ended cut more → MayFollow r.ended cut more
       may_before cut more may = subst (λ (b : Bool). MayFollow b cut more) ended may
 
-      front : (cut : Bool) (more : List ℕ) → MayFollow r.ended cut more → lines_of cut (unread r ++ more) ≡ take len (unread r) ∷ lines_of cut (unread next ++ more)
-      front cut more may =
-          step_front (unread r) len r.ended cut more step line.no_lf some may line.stop said
+      begins : (cut : Bool) (more : List ℕ) → MayFollow r.ended cut more → lines_of cut (unread r ++ more) ≡ take len (unread r) ∷ lines_of cut (unread next ++ more)
+      begins cut more may =
+          step_begins (unread r) len r.ended cut more step line.no_lf some may line.stop said
           ∙ ap (λ (l : List ℕ). take len (unread r) ∷ lines_of cut (l ++ more)) (sym behind)
 
   -- ---- more is read
@@ -137,22 +137,6 @@ module _ (left now : Option (List ℕ)) (r : StepReader) (steps : List Step) (so
 
       joined : (more : List ℕ) → unread r ++ (chunk ++ more) ≡ unread next ++ more
       joined more = sym (append_assoc (unread r) chunk more) ∙ ap (λ (l : List ℕ). l ++ more) (sym held)
-
-  pub read_end : (then : Option (List ℕ)) (next : StepReader) (chunk : List ℕ) → Consumes now then chunk → chunk ≡ [] → IsAtEnd then → r.ended ≡ false
-      → unread next ≡ unread r → next.number ≡ r.number → next.count ≡ r.count → StepsRead left then next steps
-  read_end then next chunk took none end going held number count = record {
-    read = so_far.read;
-    consumed = subst (Consumes left then) (ap (λ (l : List ℕ). so_far.read ++ l) none ∙ append-nil so_far.read) (Consumes-trans left now then so_far.read chunk so_far.consumed took);
-    size = so_far.size ∙ sym count;
-    at_end = λ e. end;
-    lists = λ cut more may. so_far.lists cut more (any cut more) ∙ ap (λ (l : List ℕ). steps ++ good_steps (lines_of cut (l ++ more))) (sym held);
-    numbers = λ cut more may. so_far.numbers cut more (any cut more)
-        ∙ ap (λ (l : List ℕ). first_bad r.number (lines_of cut (l ++ more))) (sym held)
-        ∙ ap (λ (k : ℕ). first_bad k (lines_of cut (unread next ++ more))) (sym number);
-  }
-    where
-      any : (cut : Bool) (more : List ℕ) → MayFollow r.ended cut more
-      any cut more = subst (λ (b : Bool). MayFollow b cut more) (sym going) tt
 
   -- ---- reading ends
 
@@ -204,7 +188,7 @@ module _ (left now : Option (List ℕ)) (r : StepReader) (steps : List Step) (so
   }
     where
       first : (line : List ℕ) × (others : List (List ℕ)) × (lines_of (is_cut input) (unread r ++ later) ≡ line ∷ others) × (step_line line ≡ None)
-      first = bad_front (unread r) len r.ended (is_cut input) later line.no_lf some follows line.stop said
+      first = bad_begins (unread r) len r.ended (is_cut input) later line.no_lf some follows line.stop said
 
       all : steps_of input ≡ steps ++ []
       all = steps_are ∙ ap (λ (ls : List (List ℕ)). steps ++ good_steps ls) first.2 ∙ ap (λ (xs : List Step). steps ++ xs) (bad_first first.0 first.1 first.3)
@@ -302,7 +286,7 @@ kept_read left now then r steps so_far going kept = record {
 }
 
 stops : (left now then : Option (List ℕ)) (r : StepReader) (steps : List Step) → StepsRead left now r steps → r.ended ≡ false → NoLf (unread r) → length (unread r) ≤ MAX_LINE
-    → (stopped : Stopped) → FetchStops stopped r.count now then → StepsStop left then steps stopped
+    → (stopped : Stopped) → RefillStops stopped r.count now then → StepsStop left then steps stopped
 stops left now then r steps so_far going no_lf few TooLong h = cut_off left now r steps so_far going no_lf few then h.1.0 h.1.1 h.1.2 h.0
 stops left now then r steps so_far going no_lf few ReadFault h = failed left then r steps (kept_read left now then r steps so_far going h) going no_lf few
 stops left now then r steps so_far going no_lf few NoMemory h = no_room left now r steps so_far going no_lf few then h.0 h.1 h.2
@@ -343,15 +327,15 @@ whole_line r rest same none either = record {
 pub ended_there : (r : StepReader) (len : ℕ) → IsLine r len → length (unread r) ≤ 0 → r.ended ≡ true
 ended_there r len line none = by line.stop
   where
-    by : ((len < length (unread r)) × (get_or (unread r) len 0 ≡ LINE_END)) ⊎ ((len ≡ length (unread r)) × ((r.ended ≡ true) ⊎ (MAX_LINE < len))) → r.ended ≡ true
+    by : EndsAt (unread r) r.ended len → r.ended ≡ true
     by (inl h) = let lt : len < length (unread r) = h.0 in absurd (omega (arith, lt))
     by (inr (all, inl e)) = e
     by (inr (all, inr long)) = absurd (omega (arith, all, long))
 
 -- reading stops where no line end is left
-pub fetch_stops : (left now then : Option (List ℕ)) (r : StepReader) (steps : List Step) (rest : List ℕ) → StepsRead left now r steps → r.ended ≡ false → rest ≡ unread r
-    → ((k : ℕ) → k < length rest → get_or rest k 0 ≢ LINE_END) → length rest ≤ MAX_LINE → (stopped : Stopped) → FetchStops stopped r.count now then → StepsStop left then steps stopped
-fetch_stops left now then r steps rest so_far going same none few stopped h =
+pub refill_stops : (left now then : Option (List ℕ)) (r : StepReader) (steps : List Step) (rest : List ℕ) → StepsRead left now r steps → r.ended ≡ false → rest ≡ unread r
+    → ((k : ℕ) → k < length rest → get_or rest k 0 ≢ LINE_END) → length rest ≤ MAX_LINE → (stopped : Stopped) → RefillStops stopped r.count now then → StepsStop left then steps stopped
+refill_stops left now then r steps rest so_far going same none few stopped h =
     let size : length rest ≡ length (unread r) = ap length same in
     stops left now then r steps so_far going (no_lf_in r rest same none) (omega (arith, size)) stopped h
 

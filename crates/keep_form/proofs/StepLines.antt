@@ -16,7 +16,7 @@ use Rattle.line_engine.proofs.LineRuns.{first_line, lines_line, lines_end_rest, 
 use Rattle.peer_step.specs.declared.step.Step.{Step}
 use Rattle.step_read.specs.Step.{step_line}
 use Rattle.step_input.specs.Steps.{good_steps, first_bad}
-use Rattle.keep_form.specs.Reader.{MayFollow}
+use Rattle.keep_form.specs.Reader.{EndsAt, MayFollow}
 
 -- ---- by the first line
 
@@ -72,9 +72,9 @@ stays (line ∷ lines) = by (turn_of_line says_step true line) (short (nat_le (l
     by (Some t) h others = ap (λ (w : Bool). world_after_lines says_step w lines) h ∙ others
 
 -- a rest that is too long begins a line that says no step, however it goes on
-pub long_front : (cut : Bool) (rest more : List ℕ) → NoLf rest → MAX_LINE < length rest
+pub long_begins : (cut : Bool) (rest more : List ℕ) → NoLf rest → MAX_LINE < length rest
     → (line : List ℕ) × (others : List (List ℕ)) × (lines_of cut (rest ++ more) ≡ line ∷ others) × (step_line line ≡ None)
-long_front cut rest more no_lf long =
+long_begins cut rest more no_lf long =
     by (lines_of cut (rest ++ more)) (run_long says_step no_lines cut 0 false rest more no_lf long) (world_long says_step no_lines cut false rest more no_lf long)
   where
     not_bad : (b : Bool) → output_of_lines says_step no_lines b 0 false [] ≡ bad_line 0 → ⊥
@@ -99,13 +99,13 @@ long_front cut rest more no_lf long =
 -- ---- the first line of bytes that aren't passed
 
 -- it comes before the lines of what stands behind it, or is too long
-line_front : (xs : List ℕ) (len : ℕ) (ended cut : Bool) (more : List ℕ) → NoLf (take len xs) → 0 < length xs → MayFollow ended cut more
-    → ((len < length xs) × (get_or xs len 0 ≡ LINE_END)) ⊎ ((len ≡ length xs) × ((ended ≡ true) ⊎ (MAX_LINE < len)))
+line_begins : (xs : List ℕ) (len : ℕ) (ended cut : Bool) (more : List ℕ) → NoLf (take len xs) → 0 < length xs → MayFollow ended cut more
+    → EndsAt xs ended len
     → (lines_of cut (xs ++ more) ≡ take len xs ∷ lines_of cut (drop (len + 1) xs ++ more)) ⊎ ((len ≡ length xs) × (MAX_LINE < len))
-line_front xs len ended cut more no_lf some may (inl h) =
+line_begins xs len ended cut more no_lf some may (inl h) =
     inl (ap (lines_of cut) (first_line xs more len h.0 h.1) ∙ lines_line cut (take len xs) (drop (len + 1) xs ++ more) no_lf)
-line_front xs len false cut more no_lf some may (inr (all, inl e)) = absurd cc
-line_front xs len true cut more no_lf some may (inr (all, inl e)) =
+line_begins xs len false cut more no_lf some may (inr (all, inl e)) = absurd cc
+line_begins xs len true cut more no_lf some may (inr (all, inl e)) =
     let whole : take len xs ≡ xs = take_all len xs (omega arith) in
     let none : drop (len + 1) xs ≡ [] = drop_all (len + 1) xs (omega arith) in
     let here : lines_of false (xs ++ []) ≡ take len xs ∷ lines_of false (drop (len + 1) xs ++ []) =
@@ -113,34 +113,34 @@ line_front xs len true cut more no_lf some may (inr (all, inl e)) =
     ∙ ap (λ (l : List ℕ). l ∷ []) (sym whole) ∙ ap (λ (l : List ℕ). take len xs ∷ lines_of false (l ++ [])) (sym none) in
     inl (subst (λ (b : Bool). lines_of b (xs ++ more) ≡ take len xs ∷ lines_of b (drop (len + 1) xs ++ more)) (sym may.0)
     (subst (λ (m : List ℕ). lines_of false (xs ++ m) ≡ take len xs ∷ lines_of false (drop (len + 1) xs ++ m)) (sym may.1) here))
-line_front xs len ended cut more no_lf some may (inr (all, inr long)) = inr (all, long)
+line_begins xs len ended cut more no_lf some may (inr (all, inr long)) = inr (all, long)
 
 -- where it says a step, it comes before the others
-pub step_front : (xs : List ℕ) (len : ℕ) (ended cut : Bool) (more : List ℕ) (step : Step) → NoLf (take len xs) → 0 < length xs → MayFollow ended cut more
-    → ((len < length xs) × (get_or xs len 0 ≡ LINE_END)) ⊎ ((len ≡ length xs) × ((ended ≡ true) ⊎ (MAX_LINE < len)))
+pub step_begins : (xs : List ℕ) (len : ℕ) (ended cut : Bool) (more : List ℕ) (step : Step) → NoLf (take len xs) → 0 < length xs → MayFollow ended cut more
+    → EndsAt xs ended len
     → step_line (take len xs) ≡ Some step
     → lines_of cut (xs ++ more) ≡ take len xs ∷ lines_of cut (drop (len + 1) xs ++ more)
-step_front xs len ended cut more step no_lf some may stop said = by (line_front xs len ended cut more no_lf some may stop)
+step_begins xs len ended cut more step no_lf some may stop said = by (line_begins xs len ended cut more no_lf some may stop)
   where
     by : (lines_of cut (xs ++ more) ≡ take len xs ∷ lines_of cut (drop (len + 1) xs ++ more)) ⊎ ((len ≡ length xs) × (MAX_LINE < len))
         → lines_of cut (xs ++ more) ≡ take len xs ∷ lines_of cut (drop (len + 1) xs ++ more)
-    by (inl front) = front
+    by (inl first) = first
     by (inr (all, long)) =
         let whole : take len xs ≡ xs = take_all len xs (omega arith) in
         let size : MAX_LINE < length (take len xs) = omega (arith, ap length whole) in
         absurd (let is : Some step ≡ None = sym said ∙ long_none (take len xs) size in cc)
 
 -- where it says none, the first line says none
-pub bad_front : (xs : List ℕ) (len : ℕ) (ended cut : Bool) (more : List ℕ) → NoLf (take len xs) → 0 < length xs → MayFollow ended cut more
-    → ((len < length xs) × (get_or xs len 0 ≡ LINE_END)) ⊎ ((len ≡ length xs) × ((ended ≡ true) ⊎ (MAX_LINE < len)))
+pub bad_begins : (xs : List ℕ) (len : ℕ) (ended cut : Bool) (more : List ℕ) → NoLf (take len xs) → 0 < length xs → MayFollow ended cut more
+    → EndsAt xs ended len
     → step_line (take len xs) ≡ None
     → (line : List ℕ) × (others : List (List ℕ)) × (lines_of cut (xs ++ more) ≡ line ∷ others) × (step_line line ≡ None)
-bad_front xs len ended cut more no_lf some may stop said = by (line_front xs len ended cut more no_lf some may stop)
+bad_begins xs len ended cut more no_lf some may stop said = by (line_begins xs len ended cut more no_lf some may stop)
   where
     by : (lines_of cut (xs ++ more) ≡ take len xs ∷ lines_of cut (drop (len + 1) xs ++ more)) ⊎ ((len ≡ length xs) × (MAX_LINE < len))
         → (line : List ℕ) × (others : List (List ℕ)) × (lines_of cut (xs ++ more) ≡ line ∷ others) × (step_line line ≡ None)
-    by (inl front) = (take len xs, lines_of cut (drop (len + 1) xs ++ more), front, said)
+    by (inl first) = (take len xs, lines_of cut (drop (len + 1) xs ++ more), first, said)
     by (inr (all, long)) =
         let whole : take len xs ≡ xs = take_all len xs (omega arith) in
         let size : MAX_LINE < length xs = omega arith in
-        long_front cut xs more (subst NoLf whole no_lf) size
+        long_begins cut xs more (subst NoLf whole no_lf) size

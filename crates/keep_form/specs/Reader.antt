@@ -22,22 +22,26 @@ unread r = drop r.at r.held.items
 abbrev pub to_pass : StepReader → ℕ
 to_pass r = (MAX_INPUT - r.count) + length (unread r)
 
--- the next line has this length: it ends there by a line end, by the end of the source, or is too long
+-- the first line of these bytes ends at this length: by a line end, at the end of their source, or as it is too long
+abbrev pub EndsAt : List ℕ → Bool → ℕ → Type 0
+EndsAt bytes ended len = ((len < length bytes) × (slice_index bytes len ≡ LINE_END)) ⊎ ((len ≡ length bytes) × ((ended ≡ true) ⊎ (MAX_LINE < len)))
+
+-- the next line has this length
 pub record IsLine (r : StepReader) (len : ℕ) : Type 0 where
   pub within : len ≤ length (unread r)
   pub no_lf : NoLf (take len (unread r))
-  pub stop : ((len < length (unread r)) × (slice_index (unread r) len ≡ LINE_END)) ⊎ ((len ≡ length (unread r)) × ((r.ended ≡ true) ⊎ (MAX_LINE < len)))
+  pub stop : EndsAt (unread r) r.ended len
 
 -- so many bytes of a source were read, and then one more came than counts, or it failed, or there was no memory for what came
-abbrev pub FetchStops : Stopped → ℕ → Option (List ℕ) → Option (List ℕ) → Type 0
-FetchStops TooLong count old new = (count ≡ MAX_INPUT) × ((chunk : List ℕ) × Consumes old new chunk × (length chunk ≡ 1))
-FetchStops ReadFault count old new = Keeps old new
-FetchStops NoMemory count old new = (chunk : List ℕ) × Consumes old new chunk × (count + length chunk ≤ MAX_INPUT + 1)
-FetchStops (BadLine number) count old new = ⊥
-FetchStops WriteFault count old new = ⊥
-FetchStops DiskFault count old new = ⊥
-FetchStops (BadStore offset) count old new = ⊥
-FetchStops StoreFull count old new = ⊥
+abbrev pub RefillStops : Stopped → ℕ → Option (List ℕ) → Option (List ℕ) → Type 0
+RefillStops TooLong count old new = (count ≡ MAX_INPUT) × ((chunk : List ℕ) × Consumes old new chunk × (length chunk ≡ 1))
+RefillStops ReadFault count old new = Keeps old new
+RefillStops NoMemory count old new = (chunk : List ℕ) × Consumes old new chunk × (count + length chunk ≤ MAX_INPUT + 1)
+RefillStops (BadLine number) count old new = ⊥
+RefillStops WriteFault count old new = ⊥
+RefillStops DiskFault count old new = ⊥
+RefillStops (BadStore offset) count old new = ⊥
+RefillStops StoreFull count old new = ⊥
 
 -- these bytes may follow in an input that is cut behind them or not: behind the end of a source none do
 abbrev pub MayFollow : Bool → Bool → List ℕ → Type 0

@@ -1,68 +1,18 @@
 //! The steps of a source's lines, one by one.
-ghost use Rattle.std.specs.Prelude.{◌≡◌, ◌≢◌, ℕ, ◌+◌, ◌<◌, ◌≤◌, List, [], ◌∷◌, ◌++◌, length, take, drop, slice_index, false, IfOk, IfErr, OnOk, OnErr, IfSome, IfNone, IsNone};
+ghost use Rattle.std.specs.Prelude.{◌≡◌, ℕ, ◌+◌, ◌<◌, ◌≤◌, List, [], ◌∷◌, ◌++◌, length, take, drop, false, IfOk, IfErr, OnOk, IfSome, IsNone};
 ghost use Rattle.std.specs.declared.option.Option.{Option};
-ghost use Rattle.std.specs.Io.KnownBytes.{Consumes, IsAtEnd, Keeps};
-ghost use Rattle.edit_io.specs.Causes.{HasCause};
 ghost use Rattle.line_engine.specs.declared.limits.TheConstants.{MAX_CHUNK, MAX_INPUT};
 ghost use Rattle.keep_form.specs.Stopping.{ReadCause};
 
 use crate::stopped::Stopped;
-use edit_io::{Failed, Source};
+use edit_io::Source;
 use element_name::NoMemory;
-use line_engine::{LINE_END, LineFail, MAX_CHUNK, MAX_INPUT, MAX_LINE};
-use memchr::memchr;
+use line_engine::{
+    LineFail, MAX_CHUNK, MAX_INPUT, MAX_LINE, drop_prefix, fetch, find_line_end, wanted,
+};
 use peer_step::Step;
 use std::alloc::Global;
 use step_read::step_line;
-
-// Where the first line end is.
-fn find_line_end(bytes: &[u8]) -> Option<usize>
-    ensures within { IfSome result (λ i. i < length bytes.now) }
-    ensures found { IfSome result (λ i. slice_index bytes.now i ≡ LINE_END) }
-    ensures first { IfSome result (λ i. (k : ℕ) → k < i → slice_index bytes.now k ≢ LINE_END) }
-    ensures none { IfNone result ((k : ℕ) → k < length bytes.now → slice_index bytes.now k ≢ LINE_END) }
-{
-    memchr(LINE_END, bytes)
-}
-
-// How many bytes to ask for when so many were read: one more where all were read that count.
-fn wanted(count: usize) -> usize
-    requires { count ≤ MAX_INPUT }
-    ensures some { 0 < result }
-    ensures chunk { result ≤ MAX_CHUNK }
-    ensures within { count < MAX_INPUT → count + result ≤ MAX_INPUT }
-    ensures most { count + result ≤ MAX_INPUT + 1 }
-{
-    if count == MAX_INPUT {
-        1
-    } else {
-        (MAX_INPUT - count).min(MAX_CHUNK)
-    }
-}
-
-// Reads the next bytes to the start of the buffer.
-fn read_chunk<S: Source>(source: &mut S, buf: &mut [u8], want: usize) -> Result<usize, Failed>
-    requires some { 0 < want }
-    requires room { want ≤ length buf.old }
-    ensures bound { IfOk result (λ n. n ≤ want) }
-    ensures given { IfOk result (λ n. length (take n buf.new) ≡ n) }
-    ensures bytes { IfOk result (λ n. Consumes (S.left source.old) (S.left source.new) (take n buf.new)) }
-    ensures end { IfOk result (λ n. n ≡ 0 → IsAtEnd (S.left source.new)) }
-    ensures err { OnErr result (Keeps (S.left source.old) (S.left source.new)) }
-    ensures cause { HasCause (S.faults source.old) (S.faults source.new) result }
-{
-    source.read(&mut buf[..want])
-}
-
-// Drops the bytes before a place.
-fn drop_prefix(bytes: &mut Vec<u8>, at: usize)
-    requires { at ≤ length bytes.old.items }
-    ensures { bytes.new.items ≡ drop at bytes.old.items }
-{
-    let rest = bytes.len() - at;
-    bytes.copy_within(at.., 0);
-    bytes.truncate(rest);
-}
 
 /// The step lines of a source, of which one after another is read.
 #[derive(Drop)]
@@ -84,7 +34,7 @@ pub(crate) struct StepReader {
 }
 
 impl StepReader {
-    ghost use Rattle.keep_form.specs.Reader.{unread, to_pass, IsLine, FetchStops, StepsRead, StepsEnd, StepsStop};
+    ghost use Rattle.keep_form.specs.Reader.{unread, to_pass, IsLine, RefillStops, StepsRead, StepsEnd, StepsStop};
     ghost use Rattle.step_input.specs.declared.reading.InputEnd.{InputEnd};
 
     /// A reader of a source that wasn't read yet.
@@ -121,16 +71,16 @@ impl StepReader {
     }
 
     // Reads the next bytes, or finds that there are none.
-    fn fetch<S: Source>(&mut self, source: &mut S) -> Result<(), Stopped>
+    fn refill<S: Source>(&mut self, source: &mut S) -> Result<(), Stopped>
         requires { self.old.ended ≡ false }
         ensures read { OnOk result ((left : Option (List ℕ)) (steps : List Step) → StepsRead left (S.left source.old) self.old steps → StepsRead left (S.left source.new) self.new steps) }
         ensures budget { OnOk result (to_pass self.new ≡ to_pass self.old) }
         ensures more { OnOk result (self.new.ended ≡ false → self.old.count < self.new.count) }
-        ensures stops { IfErr result (λ stopped. FetchStops stopped self.old.count (S.left source.old) (S.left source.new)) }
+        ensures stops { IfErr result (λ stopped. RefillStops stopped self.old.count (S.left source.old) (S.left source.new)) }
         ensures cause { ReadCause (S.faults source.old) (S.faults source.new) result }
     {
         let want = wanted(self.count);
-        let Ok(n) = read_chunk(source, &mut self.buf, want) else {
+        let Ok(n) = fetch(source, &mut self.buf, want) else {
             return Err(Stopped::ReadFault);
         };
         if n == 0 {
@@ -161,7 +111,7 @@ impl StepReader {
             if self.ended || len > MAX_LINE {
                 return Ok(len);
             }
-            self.fetch(source)?;
+            self.refill(source)?;
         }
     }
 

@@ -7,7 +7,7 @@ use memchr::memchr;
 pub const LINE_END: u8 = b'\n';
 
 /// Where the first line end is.
-pub(crate) fn find_lf(bytes: &[u8]) -> Option<usize>
+pub fn find_line_end(bytes: &[u8]) -> Option<usize>
     ensures within { IfSome result (λ i. i < length bytes.now) }
     ensures found { IfSome result (λ i. slice_index bytes.now i ≡ LINE_END) }
     ensures first { IfSome result (λ i. (k : ℕ) → k < i → slice_index bytes.now k ≢ LINE_END) }

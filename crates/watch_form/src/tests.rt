@@ -145,8 +145,9 @@ fn watches(rt: HostRuntime) -> Result<(), Fail> {
             written: b"",
             ..ONE_LINE
         },
+        // The report takes two writes, and a page one more.
         Row {
-            write_fails: 7,
+            write_fails: 3,
             status: Status::WriteFault,
             written: b"run 3\n0 show => show\n0 edit insert 0 a => done 1.0 0\n0 show => show a\nshow a\nheld 0\n",
             ..ONE_LINE

@@ -1,7 +1,7 @@
 use Rattle.std.proofs.Common.{inl, inr}
 use Rattle.std.proofs.lemmas.Result.{err_from_is_err_and}
 use Rattle.line_engine.proofs.Bytes.{rest_is}
-use Rattle.keep_form.proofs.Reading.{found_line, whole_line, fetch_stops}
+use Rattle.keep_form.proofs.Reading.{found_line, whole_line, refill_stops}
 use Rattle.keep_form.proofs.reader.StepReader.line_len.Goals as goal
 use Rattle.keep_form.proofs.reader.StepReader.line_len.Goals.{then-self-via-then-self, then-self-via-else-self+then-len-gt-MAX_LINE}
 
@@ -19,9 +19,9 @@ returns-then-self-clause-line g c =
       | then-self-via-else-self+then-len-gt-MAX_LINE w ↦ inr w.if-len-gt-MAX_LINE.true
     ])
 
-pub returns-in_err-fetch-clause-stops : goal.returns-in_err-fetch-clause-stops
-returns-in_err-fetch-clause-stops g c =
+pub returns-in_err-refill-clause-stops : goal.returns-in_err-refill-clause-stops
+returns-in_err-refill-clause-stops g c =
     let p = err_from_is_err_and c.from_residual.result c.from_residual.ensures.1 in
     let r = c.chunks.self in
-    rw (p.1, p.2) (λ left steps so_far. fetch_stops left (g.S.Source.left c.chunks.source) (g.S.Source.left c.fetch.new.source) r steps _ (c.chunks.invariant.read left steps so_far) c.if-self.false
-    (rest_is c.deref.result.now r.held.items r.at c.deref.ensures.value) c.in_default.ensures.none c.if-len-gt-MAX_LINE.false c.in_err-fetch.field-0.0 c.in_err-fetch.ensures.stops)
+    rw (p.1, p.2) (λ left steps so_far. refill_stops left (g.S.Source.left c.chunks.source) (g.S.Source.left c.refill.new.source) r steps _ (c.chunks.invariant.read left steps so_far) c.if-self.false
+    (rest_is c.deref.result.now r.held.items r.at c.deref.ensures.value) c.in_default.ensures.none c.if-len-gt-MAX_LINE.false c.in_err-refill.field-0.0 c.in_err-refill.ensures.stops)
