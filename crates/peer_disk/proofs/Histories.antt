@@ -1,13 +1,13 @@
 -- One more call joins a history.
-use Rattle.std.proofs.Common.{◌≡◌, ◌⊎◌, inl, inr, ℕ, ◌+◌, ◌<◌, ◌≤◌, List, [], ◌∷◌, ◌++◌, length, take, refl, sym, ap, ◌∙◌, true, false, subst, arith, length-append, Result, Err, Bool}
+use Rattle.std.proofs.Common.{◌≡◌, ◌⊎◌, inl, inr, ℕ, ◌+◌, ◌<◌, ◌≤◌, List, [], ◌∷◌, ◌++◌, length, refl, sym, ap, ◌∙◌, true, false, subst, arith, length-append, Err, Bool}
 use Rattle.std.proofs.lemmas.Bool.{cases_lt}
 use Rattle.std.proofs.lemmas.List.{take_all, take-append-le}
 use Rattle.peer_disk.specs.declared.mem_disk.DiskCall.{DiskCall}
 use Rattle.edit_io.specs.declared.fail.Failed.{Failed}
-use Rattle.edit_io.specs.Causes.{HasCause, next_count}
+use Rattle.edit_io.specs.Causes.{HasCause}
 use Rattle.peer_disk.specs.declared.mem_disk.DiskWrite.{DiskWrite}
 use Rattle.peer_disk.specs.declared.mem_disk.DiskCall.TheVariants.{Wrote, Synced}
-use Rattle.peer_disk.specs.Disk.{Torn, LeavesAfter, Only, Elapses, overwritten}
+use Rattle.peer_disk.specs.Disk.{Torn, LeavesAfter, Elapses}
 use Rattle.peer_disk.specs.History.{bytes_after, bytes_after_all, leaves_after, leaves_after_all, may_leave_of, left_since_of, Medium, called}
 use Rattle.peer_disk.specs.HistoryLaws.{bytes_stay}
 
@@ -27,9 +27,6 @@ may_leave-push first calls call left now = leaves-push first (λ old. old ≡ fi
 
 abbrev Time : List ℕ → List DiskCall → List DiskCall → Type 0
 Time first calls now = Elapses (length calls) (length now) (left_since_of first calls) (left_since_of first now) (may_leave_of first now)
-
-pub elapses_same : (first : List ℕ) (calls : List DiskCall) → Time first calls calls
-elapses_same first calls = record { later = omega arith; nothing_else = λ time left le since. inl since; keeps = λ time left le past. past }
 
 pub elapses_push : (first : List ℕ) (calls : List DiskCall) (call : DiskCall) → Time first calls (calls ++ call ∷ [])
 elapses_push first calls call = record {

@@ -1,7 +1,7 @@
 -- What a disk in memory owes as a disk, whatever its history.
 use Rattle.std.proofs.Common.{◌≡◌, ◌⊎◌, inl, inr, ℕ, min, ◌+◌, ◌-◌, ◌≤◌, ◌<◌, List, [], ◌∷◌, ◌++◌, length, take, drop, refl, sym, ◌∙◌, ap, subst, arith, append_assoc, length-append, length-drop}
 use Rattle.std.proofs.lemmas.Bool.{cases_lt}
-use Rattle.std.proofs.lemmas.List.{take_at, take_all, drop_at, drop_all, length-take, length-take-le, take-take}
+use Rattle.std.proofs.lemmas.List.{take_at, take_all, drop_at, drop_all, length-take, take-take}
 use Rattle.peer_disk.specs.declared.mem_disk.DiskCall.{DiskCall}
 use Rattle.peer_disk.specs.declared.mem_disk.DiskCall.TheVariants.{Wrote, Synced}
 use Rattle.peer_disk.specs.Disk.{overwritten, Torn}
@@ -19,11 +19,11 @@ torn_overwritten file from bytes = record {
     head_size : length (take from file) ≡ min from (length file)
     head_size = length-take from file
 
-    front_size : length (take from file ++ bytes) ≡ min from (length file) + length bytes
-    front_size = length-append (take from file) bytes ∙ ap (λ n. n + length bytes) head_size
+    prefix_size : length (take from file ++ bytes) ≡ min from (length file) + length bytes
+    prefix_size = length-append (take from file) bytes ∙ ap (λ n. n + length bytes) head_size
 
     long : length (take from file ++ bytes ++ drop (from + length bytes) file) ≡ min from (length file) + length bytes + (length file - (from + length bytes))
-    long = omega (arith, length-append (take from file ++ bytes) (drop (from + length bytes) file), front_size, length-drop (from + length bytes) file)
+    long = omega (arith, length-append (take from file ++ bytes) (drop (from + length bytes) file), prefix_size, length-drop (from + length bytes) file)
 
     regrouped : take from file ++ bytes ++ drop (from + length bytes) file ≡ take from file ++ (bytes ++ drop (from + length bytes) file)
     regrouped = append_assoc (take from file) bytes (drop (from + length bytes) file)
@@ -45,7 +45,7 @@ torn_overwritten file from bytes = record {
         ∙ sym (drop_all (from + length bytes) file (omega arith))
     after (inr within) =
         ap (drop (from + length bytes)) (take_all (length file) (take from file ++ bytes ++ drop (from + length bytes) file) (omega (arith, long)))
-        ∙ drop_at (take from file ++ bytes) (drop (from + length bytes) file) (from + length bytes) (omega (arith, front_size))
+        ∙ drop_at (take from file ++ bytes) (drop (from + length bytes) file) (from + length bytes) (omega (arith, prefix_size))
 
 -- what a read gives after a call is among what a crash may leave after it
 stays_after : (file : List ℕ) (before : List ℕ → Type 0) (call : DiskCall) → before file → leaves_after file before call (bytes_after file call)

@@ -1,8 +1,8 @@
 -- Where gates stand, in a disk that tells its file.
-use Rattle.std.proofs.Common.{◌≡◌, ℕ, ◌+◌, ◌-◌, ◌≤◌, ◌<◌, min, List, [], ◌∷◌, ◌++◌, length, take, drop, refl, sym, ◌∙◌, ap, subst, arith, length-append, length-drop, Option, None, Some, option_map, IfSome, IsSomeAnd, Result, Ok, Err}
+use Rattle.std.proofs.Common.{◌≡◌, ℕ, ◌+◌, ◌-◌, ◌≤◌, ◌<◌, List, [], ◌++◌, length, take, drop, ap, arith, length-append, length-drop, Option, None, Some, option_map, IfSome, Result, Ok, Err}
 use Rattle.std.proofs.lemmas.List.{length-take}
 use Rattle.edit_io.specs.declared.fail.Failed.{Failed}
-use Rattle.peer_disk.specs.Disk.{overwritten, Torn, Writes}
+use Rattle.peer_disk.specs.Disk.{overwritten, Writes}
 use Rattle.record_file.specs.Records.{IsNoShorter}
 
 overwritten_size : (file : List ℕ) (from : ℕ) (bytes : List ℕ) → from ≤ length file → length (overwritten file from bytes) ≡ from + length bytes + (length file - (from + length bytes))

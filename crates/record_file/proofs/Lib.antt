@@ -1,7 +1,8 @@
+pub mod Appending
 mod Behind
 mod Bodies
+mod Chunks
+mod Crashes
 mod Gates
-mod Loading
-mod Pieces
-mod Readings
+pub mod Readings
 mod Torn

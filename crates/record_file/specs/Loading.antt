@@ -1,5 +1,5 @@
 -- What reading a file of records gives.
-use Rattle.std.specs.Prelude.{ℕ, List, Vec}
+use Rattle.std.specs.Prelude.{ℕ, List}
 use Rattle.record_file.specs.declared.walk.Ending.{Ending}
 use Rattle.record_file.specs.declared.walk.Ending.TheVariants.{Closed, Broken}
 use Rattle.record_file.specs.declared.walk.Loaded.{Loaded}

@@ -2,15 +2,20 @@
 use Rattle.std.specs.Prelude.{◌≡◌, ◌⊎◌, ⊤, ℕ, ◌+◌, ◌-◌, ◌<◌, ◌^◌, List, [], ◌∷◌, ◌++◌, length, take, drop, map, All, Option, Some, Vec, IfSome, IsSomeAnd, ◌≤◌}
 use Rattle.std.specs.Int.{w16, to_be_bytes, from_be_bytes}
 use Rattle.peer_disk.specs.Disk.{Torn, Only}
+use Rattle.record_file.specs.declared.layout.TheConstants.{FIRST_BYTE, FIRST_GATE, OPEN, CLOSED, BESIDE_BODY}
 use mathlib.Core.Logic.{◌≢◌}
 
--- the file's first bytes: a 1 and the site
+-- the file's first bytes: the site behind one that is the same in each
 abbrev pub file_head : ℕ → List ℕ
-file_head site = 1 ∷ to_be_bytes w16 site
+file_head site = FIRST_BYTE ∷ to_be_bytes w16 site
+
+-- a file begins as one of this site
+abbrev pub HasHead : ℕ → List ℕ → Type 0
+HasHead site file = take FIRST_GATE file ≡ file_head site
 
 -- a record: an open gate, the length of its body, and the body
 abbrev pub record_of : List ℕ → List ℕ
-record_of body = 1 ∷ to_be_bytes w16 (length body) ++ body
+record_of body = OPEN ∷ to_be_bytes w16 (length body) ++ body
 
 -- the records of these bodies
 abbrev pub records : List (List ℕ) → List ℕ
@@ -19,15 +24,15 @@ records (body ∷ bodies) = record_of body ++ records bodies
 
 -- the place of the gate behind the records of these bodies
 abbrev pub gate_place : List (List ℕ) → ℕ
-gate_place bodies = 3 + length (records bodies)
+gate_place bodies = FIRST_GATE + length (records bodies)
 
 -- what is written behind a gate for a body: its length, the body, and the next gate, closed
 abbrev pub behind_gate_of : List ℕ → List ℕ
-behind_gate_of body = to_be_bytes w16 (length body) ++ body ++ 0 ∷ []
+behind_gate_of body = to_be_bytes w16 (length body) ++ body ++ CLOSED ∷ []
 
 -- the body in it: all but the length and the gate
 abbrev pub body_behind : List ℕ → List ℕ
-body_behind bytes = take (length bytes - 3) (drop 2 bytes)
+body_behind bytes = take (length bytes - BESIDE_BODY) (drop 2 bytes)
 
 -- a body's length goes into two bytes
 abbrev pub FitsRecord : List ℕ → Type 0
@@ -41,21 +46,21 @@ IsBehindGate bytes = FitsRecord (body_behind bytes) × (bytes ≡ behind_gate_of
 pub record HasBodies (site : ℕ) (bodies : List (List ℕ)) (file : List ℕ) : Type 0 where
   pub gate : ℕ
   pub rest : List ℕ
-  pub closed : gate ≢ 1
+  pub closed : gate ≢ OPEN
   pub short : All FitsRecord bodies
   pub bytes : file ≡ file_head site ++ records bodies ++ gate ∷ rest
 
--- no gate stands at the front of these bytes, or an open one whose record isn't whole
+-- these bytes begin with no gate, or with an open one whose record isn't whole
 abbrev pub IsNoRecord : List ℕ → Type 0
 IsNoRecord [] = ⊤
-IsNoRecord (gate ∷ []) = gate ≡ 1
-IsNoRecord (gate ∷ high ∷ []) = gate ≡ 1
-IsNoRecord (gate ∷ high ∷ low ∷ rest) = (gate ≡ 1) × (length rest < from_be_bytes w16 (high ∷ low ∷ []))
+IsNoRecord (gate ∷ []) = gate ≡ OPEN
+IsNoRecord (gate ∷ high ∷ []) = gate ≡ OPEN
+IsNoRecord (gate ∷ high ∷ low ∷ rest) = (gate ≡ OPEN) × (length rest < from_be_bytes w16 (high ∷ low ∷ []))
 
--- a gate stands at the front of these bytes, and isn't open
+-- these bytes begin with a gate that isn't open
 abbrev pub IsClosedGate : List ℕ → Type 0
 IsClosedGate [] = ⊥
-IsClosedGate (gate ∷ rest) = gate ≢ 1
+IsClosedGate (gate ∷ rest) = gate ≢ OPEN
 
 -- a file of this site has these bodies, and behind their records no gate, or an open one whose record isn't whole
 pub record BreaksAfter (site : ℕ) (bodies : List (List ℕ)) (file : List ℕ) : Type 0 where

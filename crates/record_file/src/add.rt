@@ -4,13 +4,11 @@ ghost use Rattle.edit_io.specs.Causes.{Rose};
 ghost use Rattle.peer_disk.specs.Disk.{LeavesOnly};
 ghost use Rattle.record_file.specs.Records.{Keeps, IsBeforeOrAfter};
 
+use crate::layout::{BESIDE_BODY, OPEN};
 use crate::record::Record;
 use crate::synced::write_synced;
 use edit_io::Failed;
 use peer_disk::Disk;
-
-// An open gate.
-const OPEN: u8 = 1;
 
 /// Adds a record to a file whose last gate stands at this place, and gives the place of the gate behind it.
 ///
@@ -29,7 +27,7 @@ pub fn put<D: Disk>(disk: &mut D, place: u64, body: &Record) -> Result<u64, Fail
         → LeavesOnly D.moment D.left_since disk.old disk.new (IsBeforeOrAfter site bodies body.now) }
 
     // A gate stands there for the next one, and stays where it was otherwise.
-    ensures next { IfOk result (λ next. next ≡ place + 3 + length body.now) }
+    ensures next { IfOk result (λ next. next ≡ place + BESIDE_BODY + length body.now) }
     ensures next_gate { IfOk result (λ next. IfSome (D.seen disk.new) (λ file. next < length file)) }
     ensures gate { IfSome (D.seen disk.new) (λ file. place < length file) }
 
@@ -39,5 +37,5 @@ pub fn put<D: Disk>(disk: &mut D, place: u64, body: &Record) -> Result<u64, Fail
 {
     write_synced(disk, place + 1, body.behind())?;
     write_synced(disk, place, &[OPEN])?;
-    Ok(place + 3 + body.body_len())
+    Ok(place + BESIDE_BODY + body.body_len())
 }

@@ -9,6 +9,7 @@
 mod add;
 mod fault;
 pub mod laws;
+mod layout;
 mod make;
 mod record;
 mod synced;
@@ -17,6 +18,7 @@ mod whole;
 
 pub use add::put;
 pub use fault::LoadFault;
+pub use layout::{BESIDE_BODY, FIRST_GATE};
 pub use make::create;
 pub use record::Record;
 pub use walk::{Ending, Loaded};

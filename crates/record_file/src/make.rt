@@ -4,19 +4,17 @@ ghost use Rattle.edit_io.specs.Causes.{Rose};
 ghost use Rattle.peer_disk.specs.Disk.{Only, LeavesOnly};
 ghost use Rattle.record_file.specs.Records.{file_head, Keeps, HasNoneIfAny};
 
+use crate::layout::{CLOSED, FIRST_BYTE, FIRST_GATE};
 use crate::synced::write_synced;
 use edit_io::Failed;
 use peer_disk::Disk;
 
-/// The place of the gate of a file with no bodies.
-const FIRST_GATE: u64 = 3;
-
 // A file of this site with no bodies.
 fn new_file(site: u16) -> [u8; 4]
-    ensures { result ≡ file_head site ++ 0 ∷ [] }
+    ensures { result ≡ file_head site ++ CLOSED ∷ [] }
 {
     let [high, low] = site.to_be_bytes();
-    [1, high, low, 0]
+    [FIRST_BYTE, high, low, CLOSED]
 }
 
 /// Makes a file of this site with no bodies on an empty disk, and gives the place of its gate.

@@ -3,6 +3,7 @@ ghost use Rattle.std.specs.Prelude.{◌≡◌, ◌++◌, ◌∷◌, [], IfOk, le
 ghost use Rattle.std.specs.Int.{w16, to_be_bytes};
 ghost use Rattle.record_file.specs.Records.{FitsRecord, behind_gate_of};
 
+use crate::layout::{BESIDE_BODY, CLOSED};
 use std::alloc::{AllocError, Global};
 use std::marker::Model;
 
@@ -33,7 +34,7 @@ fn behind_gate(alloc: Global, body: &[u8]) -> Result<Vec<u8>, AllocError>
     let mut bytes = Vec::new(alloc);
     bytes.extend_from_slice(&(body.len() as u16).to_be_bytes())?;
     bytes.extend_from_slice(body)?;
-    bytes.push(0)?;
+    bytes.push(CLOSED)?;
     Ok(bytes)
 }
 
@@ -61,6 +62,6 @@ impl Record {
     pub(crate) fn body_len(&self) -> u64
         ensures { result ≡ length self.now }
     {
-        self.behind.len() as u64 - 3
+        self.behind.len() as u64 - BESIDE_BODY
     }
 }

@@ -3,6 +3,7 @@ ghost use Rattle.std.specs.Prelude.{◌<◌, ◌^◌, ◌≡◌, ◌⊎◌, ◌+
 ghost use Rattle.record_file.specs.Records.{record_of, records, FitsRecord, IsClosedGate, IsNoRecord, bytes_of_each};
 ghost use Rattle.record_file.specs.Loading.{EndsWith};
 
+use crate::layout::OPEN;
 use std::alloc::{AllocError, Global};
 
 /// How a file of records ends.
@@ -23,13 +24,13 @@ pub struct Loaded {
     pub ending: Ending,
 }
 
-// The body of the record at the front, and the bytes behind it; none where no whole record with an open gate
-// stands there.
+// The body of the record that these bytes begin with, and the bytes behind it; none where they begin with no
+// whole record with an open gate.
 fn first_record(bytes: &[u8]) -> Option<(&[u8], &[u8])>
     ensures some { IfSome result (λ split. (bytes.now ≡ record_of split.0.now ++ split.1.now) × FitsRecord split.0.now) }
     ensures none { IfNone result (IsClosedGate bytes.now ⊎ IsNoRecord bytes.now) }
 {
-    let [1, high, low, rest @ ..] = bytes else {
+    let [OPEN, high, low, rest @ ..] = bytes else {
         return None;
     };
     let len = u16::from_be_bytes([*high, *low]) as usize;
@@ -42,13 +43,13 @@ fn ending_of(bytes: &[u8]) -> Ending
     ensures { EndsWith result bytes.now }
 {
     match bytes {
-        [gate, ..] if *gate != 1 => Ending::Closed,
+        [gate, ..] if *gate != OPEN => Ending::Closed,
         _ => Ending::Broken,
     }
 }
 
-/// The bodies of the records from the front of these bytes on, up to the first gate that isn't open or whose
-/// record isn't whole, and what stands there.
+/// The bodies of the records that these bytes begin with, up to the first gate that isn't open or whose record
+/// isn't whole, and what stands there.
 ///
 /// It takes time and memory in the bytes.
 pub(crate) fn parse(alloc: Global, bytes: &[u8]) -> Result<Loaded, AllocError>

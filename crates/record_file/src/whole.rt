@@ -2,24 +2,25 @@
 ghost use Rattle.std.specs.Prelude.{◌≡◌, ◌<◌, ◌≤◌, ◌^◌, ℕ, List, [], IfOk, IfSome, OnOk, IsErrOf, take, length};
 ghost use Rattle.edit_io.specs.Causes.{Rose};
 ghost use Rattle.peer_disk.specs.Disk.{Only, LeavesOnly};
-ghost use Rattle.record_file.specs.Records.{file_head, gate_place, bytes_of_each};
+ghost use Rattle.record_file.specs.Records.{file_head, HasHead, gate_place, bytes_of_each};
 ghost use Rattle.record_file.specs.Loading.{Loads};
 
 use crate::fault::LoadFault;
+use crate::layout::FIRST_BYTE;
 use crate::walk::{Loaded, parse};
 use peer_disk::Disk;
 use std::alloc::{AllocError, Global};
 
 /// So many bytes are read at once.
-const PIECE: usize = 1 << 16;
+const CHUNK: usize = 1 << 16;
 
 // Reads all bytes of the file, as many at once as the buffer has room for.
-fn read_pieces<D: Disk>(
+fn read_chunks<D: Disk>(
     disk: &mut D,
-    piece: &mut [u8],
+    chunk: &mut [u8],
     bytes: &mut Vec<u8>,
 ) -> Result<(), LoadFault>
-    requires room { 0 < length piece.old }
+    requires room { 0 < length chunk.old }
     requires empty { bytes.old.items ≡ [] }
     ensures bytes { OnOk result (IfSome (D.seen disk.old) (λ file. bytes.new.items ≡ file)) }
     ensures seen { D.seen disk.new ≡ D.seen disk.old }
@@ -29,12 +30,12 @@ fn read_pieces<D: Disk>(
     ensures faults { D.faults disk.old ≤ D.faults disk.new }
     ensures no_head { IsErrOf result LoadFault.NoHead → ⊥ }
 {
-    'pieces: loop {
-        let count = disk.read(bytes.len() as u64, piece)?;
+    'chunks: loop {
+        let count = disk.read(bytes.len() as u64, chunk)?;
         if count == 0 {
             return Ok(());
         }
-        bytes.extend_from_slice(&piece[..count])?;
+        bytes.extend_from_slice(&chunk[..count])?;
     }
 }
 
@@ -57,9 +58,9 @@ fn read_whole<D: Disk>(alloc: Global, disk: &mut D) -> Result<Vec<u8>, LoadFault
     ensures faults { D.faults disk.old ≤ D.faults disk.new }
     ensures no_head { IsErrOf result LoadFault.NoHead → ⊥ }
 {
-    let mut piece = buffer(alloc, PIECE)?;
+    let mut chunk = buffer(alloc, CHUNK)?;
     let mut bytes = Vec::new(alloc);
-    read_pieces(disk, &mut piece, &mut bytes)?;
+    read_chunks(disk, &mut chunk, &mut bytes)?;
     Ok(bytes)
 }
 
@@ -68,7 +69,7 @@ fn head_of(site: u16) -> [u8; 3]
     ensures { result ≡ file_head site }
 {
     let [high, low] = site.to_be_bytes();
-    [1, high, low]
+    [FIRST_BYTE, high, low]
 }
 
 /// Reads the bodies of a file of this site that a crash may have left. It changes nothing on the disk.
@@ -77,7 +78,7 @@ fn head_of(site: u16) -> [u8; 3]
 /// length of the file.
 pub fn load<D: Disk>(alloc: Global, disk: &mut D, site: u16) -> Result<Loaded, LoadFault>
     ensures bodies { IfOk result (λ loaded. IfSome (D.seen disk.old) (Loads site loaded)) }
-    ensures no_head { IsErrOf result LoadFault.NoHead → IfSome (D.seen disk.old) (λ file. take 3 file ≡ file_head site → ⊥) }
+    ensures no_head { IsErrOf result LoadFault.NoHead → IfSome (D.seen disk.old) (λ file. ¬ HasHead site file) }
     ensures seen { D.seen disk.new ≡ D.seen disk.old }
 
     // The gate behind the last body stands at a place that a number of 64 bits holds.

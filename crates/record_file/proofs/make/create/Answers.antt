@@ -1,5 +1,5 @@
-use Rattle.std.proofs.Common.{◌≡◌, List, ℕ, [], ◌∷◌, ◌++◌, length, ◌∙◌, ap, subst, option_map}
-use Rattle.peer_disk.specs.Disk.{overwritten, LeavesOnly}
+use Rattle.std.proofs.Common.{List, ℕ, length, ◌∙◌, ap, subst, option_map}
+use Rattle.peer_disk.specs.Disk.{overwritten}
 use Rattle.peer_disk.proofs.Moments.{weakened}
 use Rattle.record_file.specs.Records.{HasNoneIfAny, TornSince}
 use Rattle.record_file.proofs.Bodies.{new_leaves, new_kept, at_start}

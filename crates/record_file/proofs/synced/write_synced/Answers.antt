@@ -1,37 +1,25 @@
 use Rattle.std.proofs.Common.{ℕ, List, length, sym, ◌∙◌, subst, Option, IfSome}
-use Rattle.peer_disk.specs.Disk.{LeavesOnly, Only}
-use Rattle.peer_disk.proofs.Moments.{started, goes_on}
-use Rattle.peer_disk.proofs.Tearing.{torn_same}
-use Rattle.record_file.specs.Records.{TornSince, IsNoShorter}
+use Rattle.peer_disk.specs.Disk.{Only}
+use Rattle.record_file.specs.Records.{IsNoShorter}
+use Rattle.record_file.proofs.Crashes.{while_written, while_synced}
 use Rattle.record_file.proofs.Torn.{written_ok}
 use Rattle.record_file.proofs.Gates.{no_shorter}
 use Rattle.record_file.proofs.synced.write_synced.Goals as goal
 
 pub returns-in_err-write_at-clause-any_moment : goal.returns-in_err-write_at-clause-any_moment
 returns-in_err-write_at-clause-any_moment g c =
-    let old = c.args.disk.now in
-    let n = length c.args.bytes.now in
-    let P : List ℕ → Type 0 = TornSince (g.D.Disk.may_leave old) c.args.from n in
-    let at_start = started g.D.Disk.moment g.D.Disk.left_since old P (λ left since. (left, g.met.D.Disk.only_now old left since, torn_same c.args.from n left)) in
-    goes_on g.D.Disk.moment g.D.Disk.left_since old old c.write_at.new.self P _ at_start c.write_at.ensures.time c.write_at.ensures.crash
+    while_written g.D.Disk.moment g.D.Disk.left_since g.D.Disk.may_leave c.args.disk.now c.write_at.new.self c.args.from (length c.args.bytes.now) (g.met.D.Disk.only_now c.args.disk.now)
+    c.write_at.ensures.time c.write_at.ensures.crash
 
 pub returns-in_err-sync-clause-any_moment : goal.returns-in_err-sync-clause-any_moment
 returns-in_err-sync-clause-any_moment g c =
-    let old = c.args.disk.now in
-    let n = length c.args.bytes.now in
-    let P : List ℕ → Type 0 = TornSince (g.D.Disk.may_leave old) c.args.from n in
-    let at_start = started g.D.Disk.moment g.D.Disk.left_since old P (λ left since. (left, g.met.D.Disk.only_now old left since, torn_same c.args.from n left)) in
-    let wrote = goes_on g.D.Disk.moment g.D.Disk.left_since old old c.write_at.new.self P _ at_start c.write_at.ensures.time c.write_at.ensures.crash in
-    goes_on g.D.Disk.moment g.D.Disk.left_since old c.write_at.new.self c.sync.new.self P _ wrote c.sync.ensures.time (λ left now. c.write_at.ensures.crash left (c.sync.ensures.crash left now))
+    while_synced g.D.Disk.moment g.D.Disk.left_since g.D.Disk.may_leave c.args.disk.now c.write_at.new.self c.args.from (length c.args.bytes.now) (g.met.D.Disk.only_now c.args.disk.now)
+    c.write_at.ensures.time c.write_at.ensures.crash c.sync.new.self c.sync.ensures.time c.sync.ensures.crash
 
 pub returns-clause-any_moment : goal.returns-clause-any_moment
 returns-clause-any_moment g c =
-    let old = c.args.disk.now in
-    let n = length c.args.bytes.now in
-    let P : List ℕ → Type 0 = TornSince (g.D.Disk.may_leave old) c.args.from n in
-    let at_start = started g.D.Disk.moment g.D.Disk.left_since old P (λ left since. (left, g.met.D.Disk.only_now old left since, torn_same c.args.from n left)) in
-    let wrote = goes_on g.D.Disk.moment g.D.Disk.left_since old old c.write_at.new.self P _ at_start c.write_at.ensures.time c.write_at.ensures.crash in
-    goes_on g.D.Disk.moment g.D.Disk.left_since old c.write_at.new.self c.sync.new.self P _ wrote c.sync.ensures.time (λ left now. c.write_at.ensures.crash left (c.sync.ensures.crash left now))
+    while_synced g.D.Disk.moment g.D.Disk.left_since g.D.Disk.may_leave c.args.disk.now c.write_at.new.self c.args.from (length c.args.bytes.now) (g.met.D.Disk.only_now c.args.disk.now)
+    c.write_at.ensures.time c.write_at.ensures.crash c.sync.new.self c.sync.ensures.time c.sync.ensures.crash
 
 pub returns-in_err-write_at-clause-no_shorter : goal.returns-in_err-write_at-clause-no_shorter
 returns-in_err-write_at-clause-no_shorter g c =

@@ -1,8 +1,7 @@
 use Rattle.std.proofs.Common.{◌≡◌, List, ℕ, [], ◌∷◌, ◌++◌, sym, ap, ◌∙◌, subst, append_assoc, All, rules}
 use Rattle.std.proofs.lemmas.List.Elements.{All-push}
 use Rattle.record_file.specs.Records.{record_of, records, FitsRecord, bytes_of_each}
-use Rattle.record_file.proofs.Bodies.{records-push}
-use Rattle.record_file.proofs.Loading.{each-push}
+use Rattle.record_file.proofs.Appending.{records-push, each-append}
 use Rattle.record_file.proofs.walk.parse.Goals as goal
 
 pub loop-body-preserved : goal.loop-body-preserved
@@ -13,7 +12,7 @@ loop-body-preserved c =
     let some = c.in-Some.ensures.some in
     let copied : c.in_ok-to_vec.field-0.items ≡ body = search rules in
     let now_is : bytes_of_each c.push.new.self.items ≡ bodies ++ body ∷ []
-    = ap bytes_of_each c.in_ok-push.ensures.items ∙ each-push c.loop-body.bodies.items c.in_ok-to_vec.field-0 ∙ ap (λ (b : List ℕ). bodies ++ b ∷ []) copied in
+    = ap bytes_of_each c.in_ok-push.ensures.items ∙ each-append c.loop-body.bodies.items (c.in_ok-to_vec.field-0 ∷ []) ∙ ap (λ (b : List ℕ). bodies ++ b ∷ []) copied in
     let read : c.args.bytes.now ≡ records (bodies ++ body ∷ []) ++ after
     = c.loop-body.invariant.read ∙ ap (λ (l : List ℕ). records bodies ++ l) some.0 ∙ sym (append_assoc (records bodies) (record_of body) after) ∙ ap (λ (l : List ℕ). l ++ after) (sym (records-push bodies body)) in
     record {

@@ -1,10 +1,5 @@
-use Rattle.std.proofs.Common.{◌≡◌, ℕ, List, length, take, drop, sym, ◌∙◌, ap, subst, Option, IfSome, refl}
-use Rattle.std.specs.Cmp.Lexicographic.{same_text, other_text}
-use Rattle.peer_disk.specs.Disk.{LeavesOnly, Only}
+use Rattle.std.proofs.Common.{ℕ, List}
 use Rattle.peer_disk.proofs.Moments.{started, goes_on, weakened, chained}
-use Rattle.record_file.specs.Records.{file_head}
-use Rattle.record_file.specs.Loading.{Loads}
-use Rattle.record_file.proofs.Loading.{loads_told, no_head_told, only_stays, with_head}
 use Rattle.record_file.proofs.whole.load.Goals as goal
 
 pub returns-in_err-sync-clause-any_moment : goal.returns-in_err-sync-clause-any_moment

@@ -1,4 +1,4 @@
-use Rattle.std.proofs.Common.{◌≡◌, [], ◌∷◌, ◌++◌, sym, ◌∙◌, ap}
+use Rattle.std.proofs.Common.{sym, ◌∙◌, ap}
 use Rattle.peer_disk.specs.declared.mem_disk.DiskCall.TheVariants.{Synced}
 use Rattle.peer_disk.specs.History.{bytes_after_all}
 use Rattle.peer_disk.proofs.Histories.{bytes_after_all-push}

@@ -1,4 +1,4 @@
-use Rattle.std.proofs.Common.{◌≡◌, List, ℕ, ap, Some}
+use Rattle.std.proofs.Common.{ap, Some}
 use Rattle.peer_disk.specs.declared.mem_disk.DiskCall.TheVariants.{Synced}
 use Rattle.peer_disk.proofs.Histories.{counted, later_than, has_after, leaves_then, time_then, sync_keeps}
 use Rattle.peer_disk.proofs.mem_disk.MemDiskDisk.sync.Goals as goal

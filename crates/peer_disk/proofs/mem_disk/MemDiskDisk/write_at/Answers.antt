@@ -1,4 +1,4 @@
-use Rattle.std.proofs.Common.{◌≡◌, List, ℕ, ◌∙◌, length}
+use Rattle.std.proofs.Common.{◌∙◌}
 use Rattle.peer_disk.specs.declared.mem_disk.DiskCall.TheVariants.{Wrote}
 use Rattle.peer_disk.specs.Disk.{overwritten}
 use Rattle.peer_disk.specs.History.{bytes_after_all}
