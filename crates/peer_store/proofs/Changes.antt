@@ -1,27 +1,21 @@
 -- A step changes a peer exactly where it changes a count of messages.
-use Rattle.std.proofs.Common.{◌≡◌, ℕ, suc, ◌+◌, ◌≤◌, ◌<◌, Bool, true, false, not, ◌||◌, ◌==◌, List, [], ◌∷◌, ◌++◌, length, refl, ◌∙◌, ap, arith, length-append, ⊎_elim}
+use Rattle.std.proofs.Common.{◌≡◌, ℕ, suc, ◌≤◌, ◌<◌, Bool, true, false, not, ◌||◌, ◌==◌, List, [], ◌∷◌, ◌++◌, length, refl, ◌∙◌, ap, arith, length-append, ⊎_elim}
 use Rattle.std.specs.Prelude.{remove}
 use Rattle.std.specs.List.{position_or_len}
-use Rattle.std.specs.Prelude.{nat_lt, nat_le, unwrap_or}
-use Rattle.std.specs.declared.option.Option.{Option}
-use Rattle.std.proofs.lemmas.Bool.{cases_lt, eqb-true, eq-eqb, true≢false, false≢true, and_cases, not-true, ltb-false, leb-false, le-leb}
+use Rattle.std.proofs.lemmas.Bool.{cases_lt, eqb-true, eq-eqb, true≢false, false≢true}
 use Rattle.std.proofs.lemmas.List.{append-nil, drop_all, take_all}
 use Rattle.std.proofs.lemmas.List.Edits.{length-remove}
-use Rattle.element_name.specs.Cases.{when, first_of}
-use Rattle.element_name.specs.declared.limits.TheConstants.{MAX_VERSION}
-use Rattle.policy_book.specs.Entry.{is_entry_version}
 use Rattle.edit_message.specs.declared.message.Message.{Message}
 use Rattle.edit_message.specs.declared.message.Message.TheVariants.{Coop, Admin}
 use Rattle.peer_step.specs.declared.step.Step.{Step}
 use Rattle.peer_step.specs.declared.step.Step.TheVariants.{Edit, Administer, Receive, Settle, ValidateNext, Look, Show}
 use Rattle.peer_step.specs.declared.answer.Answer.{Answer}
-use Rattle.peer_step.specs.declared.answer.Answer.TheVariants.{Done, NotAdministrator, LogFull}
+use Rattle.peer_step.specs.declared.answer.Answer.TheVariants.{Done}
 use Rattle.peer_step.specs.declared.answer.Answer.TheVariants.{Issued, Held}
 use Rattle.peer_step.specs.declared.answer.Answer.TheVariants.{Taken, Advanced, Dropped, Settled}
-use Rattle.peer_core.specs.Peer.{Peer, front, is_due}
-use Rattle.peer_core.specs.Answers.{answer_of, is_full_log, rows_of_operation, answer_issued, next_entry}
+use Rattle.peer_core.specs.Peer.{Peer, is_due}
+use Rattle.peer_core.specs.Answers.{answer_of}
 use Rattle.peer_core.specs.After.{let_go, changed_by, peer_after}
-use Rattle.step_body.specs.Body.{has_no_body}
 use Rattle.peer_store.specs.Steps.{differs_in_counts, changes, is_look}
 
 -- neither of two tests fails
@@ -77,35 +71,6 @@ unchanged p step quiet =
 -- a step that leaves the peer changes no count
 pub quiet_where_same : (p : Peer) (step : Step) → peer_after p step ≡ p → changes p step ≡ false
 quiet_where_same p step same = ap (differs_in_counts p) same ∙ no_difference p
-
--- ---- steps without a body
-
--- of rows that begin so, one of a full log's holds
-full_row : (b f : Bool) (rows : List (Option Answer)) (other : Answer) (p : Peer) (step : Step) → f ≡ true
-    → changed_by p step (unwrap_or (first_of (when b NotAdministrator ∷ when f LogFull ∷ rows)) other) ≡ p
-full_row true f rows other p step full = refl
-full_row false true rows other p step full = refl
-full_row false false rows other p step full = absurd (false≢true full)
-
--- a version past the greatest is made by none, and the log is full
-full_log : (p : Peer) → not (is_entry_version (front p + 1)) ≡ true → is_full_log p ≡ true
-full_log p none =
-    let past = and_cases (nat_lt 0 (front p + 1)) (nat_le (front p + 1) MAX_VERSION) (not-true (is_entry_version (front p + 1)) none) in
-    let above : MAX_VERSION < front p + 1 = ⊎_elim
-    (λ (first : nat_lt 0 (front p + 1) ≡ false). absurd (omega (arith, ltb-false 0 (front p + 1) first)))
-    (λ (second : nat_le (front p + 1) MAX_VERSION ≡ false). leb-false (front p + 1) MAX_VERSION second)
-    past in
-    le-leb MAX_VERSION (front p) (omega (arith, above))
-
-pub no_body_no_change : (p : Peer) (step : Step) → has_no_body (front p + 1) step ≡ true → changes p step ≡ false
-no_body_no_change p (Edit edit) none = absurd (false≢true none)
-no_body_no_change p (Administer op) none = quiet_where_same p (Administer op)
-    (full_row (not (p.site == 0)) (is_full_log p) (rows_of_operation p op) (answer_issued p (next_entry p op)) p (Administer op) (full_log p none))
-no_body_no_change p (Receive m) none = absurd (false≢true none)
-no_body_no_change p Settle none = absurd (false≢true none)
-no_body_no_change p ValidateNext none = absurd (false≢true none)
-no_body_no_change p (Look from) none = no_difference p
-no_body_no_change p Show none = no_difference p
 
 pub looks_change_nothing : (p : Peer) (step : Step) → is_look step ≡ true → changes p step ≡ false
 looks_change_nothing p (Edit edit) look = absurd (false≢true look)

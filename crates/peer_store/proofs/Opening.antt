@@ -1,11 +1,11 @@
 -- A store that is opened, by what was read of its file.
-use Rattle.std.proofs.Common.{◌≡◌, inl, inr, ℕ, ◌<◌, List, [], ◌∷◌, ◌++◌, length, take, refl, sym, ◌∙◌, ap, subst, arith, append_assoc, length-append, All, Option, Some, None, IfSome, IsSome}
+use Rattle.std.proofs.Common.{◌≡◌, inl, inr, ℕ, ◌<◌, List, [], ◌∷◌, ◌++◌, length, refl, sym, ◌∙◌, ap, subst, arith, length-append, All, Option, Some, None, IfSome, IsSome}
 use Rattle.std.proofs.lemmas.List.Elements.{All-take, All-tail}
 use Rattle.std.proofs.lemmas.List.{take_at}
 use Rattle.peer_disk.specs.Disk.{Only}
 use Rattle.record_file.specs.declared.walk.Ending.{Ending}
 use Rattle.record_file.specs.declared.walk.Ending.TheVariants.{Closed, Broken}
-use Rattle.record_file.specs.Records.{file_head, record_of, records, gate_place, bytes_of_each, FitsRecord, HasBodies, BreaksAfter}
+use Rattle.record_file.specs.Records.{HasHead, file_head, record_of, records, gate_place, bytes_of_each, FitsRecord, HasBodies, BreaksAfter}
 use Rattle.record_file.specs.declared.walk.Loaded.{Loaded}
 use Rattle.record_file.specs.declared.fault.LoadFault.{LoadFault}
 use Rattle.record_file.specs.declared.fault.LoadFault.TheVariants as loads
@@ -18,7 +18,7 @@ use Rattle.peer_step.specs.declared.step.Step.{Step}
 use Rattle.peer_core.specs.Peer.{Peer, fresh_peer}
 use Rattle.peer_store.specs.Store.{Saved, IsSaved, HasGate, BreaksOffAt, IsNoStoreFrom}
 use Rattle.peer_store.specs.Replay.{IsReplay, StopsBefore, IsStoppedBy, IsRefusedBy}
-use Rattle.peer_store.proofs.Replays.{records-append}
+use Rattle.peer_store.proofs.Replays.{behind_made}
 
 -- the gate behind the bodies of a file stands in it
 gate_in_file : (site : ℕ) (bodies : List (List ℕ)) (file : List ℕ) → HasBodies site bodies file → gate_place bodies < length file
@@ -68,15 +68,6 @@ breaks_here site offset bodies (Some file) peer broken replay offset_is = inr (r
   stops = inl broken.broken;
 })
 
--- of bytes that begin with these bodies, those behind the first ones
-behind_made : (site : ℕ) (made others : List (List ℕ)) (body end : List ℕ)
-    → file_head site ++ records (made ++ body ∷ others) ++ end ≡ file_head site ++ records made ++ (record_of body ++ (records others ++ end))
-behind_made site made others body end =
-    ap (λ (l : List ℕ). file_head site ++ l ++ end) (records-append made (body ∷ others))
-    ∙ ap (λ (l : List ℕ). l ++ end) (sym (append_assoc (file_head site) (records made) (record_of body ++ records others)))
-    ∙ append_assoc (file_head site ++ records made) (record_of body ++ records others) end
-    ∙ ap (λ (l : List ℕ). file_head site ++ records made ++ l) (append_assoc (record_of body) (records others) end)
-
 first_short : (made others : List (List ℕ)) (body : List ℕ) → All FitsRecord (made ++ body ∷ others) → All FitsRecord made
 first_short made others body short = subst (All FitsRecord) (take_at made (body ∷ others) (length made) refl) (All-take FitsRecord (length made) (made ++ body ∷ others) short)
 
@@ -105,7 +96,7 @@ stops_here site offset bodies Closed (Some file) ends stop = inr (stops_in site 
 stops_here site offset bodies Broken (Some file) ends stop = inr (stops_in site offset bodies file ends.rest ends.bytes ends.short stop)
 
 -- it begins otherwise
-pub begins_otherwise : (site : ℕ) (seen : Option (List ℕ)) → IfSome seen (λ file. take 3 file ≡ file_head site → ⊥) → IfSome seen (IsNoStoreFrom site 0)
+pub begins_otherwise : (site : ℕ) (seen : Option (List ℕ)) → IfSome seen (λ file. ¬ HasHead site file) → IfSome seen (IsNoStoreFrom site 0)
 begins_otherwise site None other = tt
 begins_otherwise site (Some file) other = inl (refl, other)
 
@@ -134,7 +125,7 @@ no_store_told NoMemory site loaded seen before now read refused = tt
 
 -- a file that couldn't be read
 pub unread : (load : LoadFault) (fault : StoreFault) (site : ℕ) (seen : Option (List ℕ)) (before now : ℕ) → fault ≡ fault_of_load load → (load ≡ loads.DiskFault → Rose before now)
-    → (load ≡ loads.NoHead → IfSome seen (λ file. take 3 file ≡ file_head site → ⊥)) → MayFailOpening fault site seen before now
+    → (load ≡ loads.NoHead → IfSome seen (λ file. ¬ HasHead site file)) → MayFailOpening fault site seen before now
 unread loads.DiskFault fault site seen before now is rose other = subst (λ f. MayFailOpening f site seen before now) (sym is) (rose refl)
 unread loads.NoMemory fault site seen before now is rose other = subst (λ f. MayFailOpening f site seen before now) (sym is) tt
 unread loads.NoHead fault site seen before now is rose other = subst (λ f. MayFailOpening f site seen before now) (sym is) (begins_otherwise site seen (other refl))

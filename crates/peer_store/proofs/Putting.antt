@@ -1,12 +1,12 @@
 -- What a crash may leave of a store, over a call.
-use Rattle.std.proofs.Common.{◌≡◌, ◌⊎◌, inl, inr, ⊎_elim, ℕ, ◌≤◌, Bool, true, false, not, ◌&&◌, List, [], ◌∷◌, ◌++◌, length, refl, sym, ◌∙◌, ap, subst, arith, length-append, Option, Some, None}
+use Rattle.std.proofs.Common.{◌≡◌, ◌⊎◌, inl, inr, ⊎_elim, ℕ, ◌≤◌, Bool, true, false, not, ◌&&◌, List, [], ◌∷◌, ◌++◌, refl, sym, ◌∙◌, ap, subst, Option, Some, None}
 use Rattle.std.specs.Prelude.{nat_lt}
 use Rattle.std.proofs.lemmas.Bool.{and_cases, ltb-false, both_ways, not-false}
 use Rattle.element_name.specs.Cases.{when, first_of}
 use Rattle.std.proofs.lemmas.List.{append-nil}
-use Rattle.peer_disk.specs.Disk.{Only, LeavesOnly}
+use Rattle.peer_disk.specs.Disk.{LeavesOnly}
 use Rattle.peer_disk.proofs.Moments.{started, weakened}
-use Rattle.record_file.specs.Records.{file_head, records, Keeps, IsBeforeOrAfter, HasNoneIfAny}
+use Rattle.record_file.specs.Records.{Keeps, IsBeforeOrAfter, HasNoneIfAny}
 use Rattle.peer_step.specs.declared.step.Step.{Step}
 use Rattle.peer_core.specs.Peer.{Peer}
 use Rattle.peer_core.specs.After.{peer_after}
@@ -18,11 +18,6 @@ use Rattle.peer_store.specs.Steps.{changes, if_changing, is_look}
 use Rattle.peer_store.specs.Store.{IsBodyFor, StandsWithOrWithout, StandsForNoneIfAny, Saved, IsSaved, finds_no_gate}
 use Rattle.peer_store.proofs.Changes.{unchanged, looks_change_nothing}
 use Rattle.peer_store.proofs.Saving.{none_if_any, if_it_stays, leaves_steps, stands_so, saves_more}
-
--- an empty file is no store
-none_in_empty : (site : ℕ) (left : List ℕ) → left ≡ [] → StandsForNoneIfAny site left
-none_in_empty site left empty steps stands =
-    absurd (omega (arith, ap length empty, ap length stands.has.bytes, length-append (file_head site ++ records stands.bodies) (stands.has.gate ∷ stands.has.rest)))
 
 -- a step that changes nothing leaves what is saved
 pub saved_still : (site : ℕ) (steps : List Step) (old now : Saved) (step : Step) (seen : Option (List ℕ)) (may_leave : List ℕ → Type 0) → changes old.peer step ≡ false → now ≡ old → IsSaved site steps old seen may_leave
@@ -48,11 +43,6 @@ module _ {D : Type 0} (moment : D → ℕ) (left_since : D → ℕ → List ℕ 
   body_put old new site steps saved kept step body spells turns leaves =
       weakened moment left_since old new (IsBeforeOrAfter site kept.bodies body) (StandsWithOrWithout site steps (if_changing saved.peer step)) leaves
       (stands_so site steps saved (seen old) (may_leave old) kept step body spells turns)
-
-  -- where nothing was made on an empty disk yet, it leaves no store
-  pub nothing_made : OnlyNow → (disk : D) (site : ℕ) → Only [] (may_leave disk) → LeavesOnly moment left_since disk disk (StandsForNoneIfAny site)
-  nothing_made only_now disk site only =
-      started moment left_since disk (StandsForNoneIfAny site) (λ left since. none_in_empty site left (only left (only_now disk left since)))
 
   -- where a file of no bodies was made, it leaves no store, or one of no steps
   pub file_made : (old new : D) (site : ℕ) → LeavesOnly moment left_since old new (HasNoneIfAny site) → LeavesOnly moment left_since old new (StandsForNoneIfAny site)

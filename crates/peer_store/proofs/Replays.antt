@@ -2,9 +2,10 @@
 use Rattle.std.proofs.Common.{◌≡◌, ℕ, suc, ◌+◌, ◌≤◌, ◌<◌, true, List, [], ◌∷◌, ◌++◌, length, get_or, take, drop, refl, sym, ◌∙◌, ap, subst, arith, append_assoc, length-append, Vec}
 use Rattle.std.specs.Int.{w16, to_be_bytes}
 use Rattle.std.proofs.Math.Seq.{drop-cons}
-use Rattle.std.proofs.lemmas.List.{append-nil, take-append-drop, take_more, take_all}
+use Rattle.std.proofs.lemmas.List.{take-append-drop, take_more, take_all}
 use Rattle.std.proofs.lemmas.List.Sums.{fold_push}
-use Rattle.record_file.specs.Records.{record_of, records, gate_place, bytes_of_each}
+use Rattle.record_file.specs.Records.{file_head, record_of, records, gate_place, bytes_of_each}
+use Rattle.record_file.proofs.Appending.{records-append, records-push, each-append}
 use Rattle.peer_core.specs.Peer.{Peer}
 use Rattle.peer_core.specs.After.{peer_after}
 use Rattle.peer_store.specs.Steps.{changes}
@@ -12,22 +13,23 @@ use Rattle.peer_store.specs.Store.{IsBodyFor, IsNoStep}
 use Rattle.peer_store.specs.Replay.{MakesBody, IsReplay, StopsBefore}
 use Rattle.peer_store.proofs.Saving.{kept_push}
 
-pub records-append : (some others : List (List ℕ)) → records (some ++ others) ≡ records some ++ records others
-records-append [] others = refl
-records-append (body ∷ some) others = ap (λ (l : List ℕ). record_of body ++ l) (records-append some others) ∙ sym (append_assoc (record_of body) (records some) (records others))
-
 -- the place of the gate behind one record more
 pub gate_place-push : (bodies : List (List ℕ)) (body : List ℕ) → gate_place (bodies ++ body ∷ []) ≡ gate_place bodies + (3 + length body)
 gate_place-push bodies body =
-    omega (arith, ap length (records-append bodies (body ∷ [])), length-append (records bodies) (records (body ∷ [])), ap length (append-nil (record_of body)), length-append (to_be_bytes w16 (length body)) body)
+    omega (arith, ap length (records-push bodies body), length-append (records bodies) (record_of body), length-append (to_be_bytes w16 (length body)) body)
 
 -- no gate of the first records stands behind that of all
 pub gate_place-append : (some others : List (List ℕ)) → gate_place some ≤ gate_place (some ++ others)
 gate_place-append some others = omega (arith, ap length (records-append some others), length-append (records some) (records others))
 
-pub each-append : {A : Type 0} (some others : List (Vec ℕ A)) → bytes_of_each (some ++ others) ≡ bytes_of_each some ++ bytes_of_each others
-each-append [] others = refl
-each-append (b ∷ some) others = ap (λ (l : List (List ℕ)). b.items ∷ l) (each-append some others)
+-- of bytes that begin with these bodies, those behind the first ones
+pub behind_made : (site : ℕ) (made others : List (List ℕ)) (body end : List ℕ)
+    → file_head site ++ records (made ++ body ∷ others) ++ end ≡ file_head site ++ records made ++ (record_of body ++ (records others ++ end))
+behind_made site made others body end =
+    ap (λ (l : List ℕ). file_head site ++ l ++ end) (records-append made (body ∷ others))
+    ∙ ap (λ (l : List ℕ). l ++ end) (sym (append_assoc (file_head site) (records made) (record_of body ++ records others)))
+    ∙ append_assoc (file_head site ++ records made) (record_of body ++ records others) end
+    ∙ ap (λ (l : List ℕ). file_head site ++ records made ++ l) (append_assoc (record_of body) (records others) end)
 
 -- bodies before a place, the one there, and those behind it
 pub each_split : {A : Type 0} (buffers : List (Vec ℕ A)) (i : ℕ) (d : Vec ℕ A) → i < length buffers

@@ -1,9 +1,9 @@
 -- What a store is, which steps it stands for, and what a peer that is kept in it is.
-use Rattle.std.specs.Prelude.{◌≡◌, ◌⊎◌, ⊤, ℕ, ◌+◌, ◌<◌, Bool, true, false, not, ◌&&◌, List, [], ◌∷◌, ◌++◌, length, take, All, Option, IfSome, nat_lt}
+use Rattle.std.specs.Prelude.{◌≡◌, ◌⊎◌, ⊤, ℕ, ◌+◌, ◌<◌, Bool, true, false, not, ◌&&◌, List, [], ◌∷◌, ◌++◌, length, All, Option, IfSome, nat_lt}
 use Rattle.peer_step.specs.declared.step.Step.{Step}
 use Rattle.peer_core.specs.Peer.{Peer, fresh_peer, front}
 use Rattle.peer_core.specs.After.{peer_after}
-use Rattle.record_file.specs.Records.{file_head, record_of, records, gate_place, FitsRecord, HasBodies, IsNoRecord, Keeps}
+use Rattle.record_file.specs.Records.{file_head, HasHead, record_of, records, gate_place, FitsRecord, HasBodies, IsNoRecord, Keeps}
 use Rattle.step_body.specs.Body.{IsBody}
 use Rattle.peer_store.specs.declared.limits.TheConstants.{MAX_GATE}
 use Rattle.peer_store.specs.Steps.{replay_of, changes, is_look}
@@ -39,7 +39,7 @@ StandsForNoneIfAny site file = (steps : List Step) → StandsFor site steps file
 abbrev pub IsNoStep : Peer → List ℕ → Type 0
 IsNoStep p body = (step : Step) → IsBodyFor p step body → changes p step ≡ false
 
--- a whole record at the front, of no step that changes the peer
+-- bytes begin with a whole record, of no step that changes the peer
 pub record BeginsWithNoStep (p : Peer) (bytes : List ℕ) : Type 0 where
   pub body : List ℕ
   pub rest : List ℕ
@@ -60,7 +60,7 @@ pub record BreaksOffAt (site offset : ℕ) (file : List ℕ) : Type 0 where
 
 -- a file is no store of this site from this offset on: 0 where it begins otherwise
 abbrev pub IsNoStoreFrom : ℕ → ℕ → List ℕ → Type 0
-IsNoStoreFrom site offset file = ((offset ≡ 0) × (take 3 file ≡ file_head site → ⊥)) ⊎ BreaksOffAt site offset file
+IsNoStoreFrom site offset file = ((offset ≡ 0) × ¬ HasHead site file) ⊎ BreaksOffAt site offset file
 
 -- ---- a peer that is kept
 

@@ -2,6 +2,3 @@
 
 /// The greatest place of a store's last gate at which a step may be put, in bytes.
 pub const MAX_GATE: u64 = 1_073_741_000;
-
-/// The place of a store's first gate.
-pub(crate) const FIRST_GATE: u64 = 3;

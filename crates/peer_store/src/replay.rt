@@ -7,12 +7,11 @@ ghost use Rattle.peer_store.specs.Store.{IsNoStep};
 ghost use Rattle.peer_store.specs.Replay.{MakesBody, IsReplay, IsStoppedBy, IsRefusedBy};
 
 use crate::fault::StoreFault;
-use crate::limits::FIRST_GATE;
 use crate::spelled::next_version;
 use crate::stepped::make_step;
 use element_name::NoMemory;
 use peer_core::Peer;
-use record_file::{Ending, Loaded};
+use record_file::{BESIDE_BODY, Ending, FIRST_GATE, Loaded};
 use std::alloc::Global;
 use step_body::read_body;
 
@@ -40,7 +39,7 @@ fn replay(alloc: Global, peer: &mut Peer, bodies: &[Vec<u8>]) -> Result<u64, Sto
         if !make_body(alloc, peer, body)? {
             return Err(StoreFault::NotAStore(place));
         }
-        place += 3 + body.len() as u64;
+        place += BESIDE_BODY + body.len() as u64;
     }
     Ok(place)
 }
