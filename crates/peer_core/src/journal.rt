@@ -1,5 +1,5 @@
 //! The journal, with what is kept of it.
-ghost use Rattle.std.specs.Prelude.{◌≡◌, ◌<◌, ◌≤◌, [], ◌∷◌, ◌++◌, length, slice_get, option_map, IfOk, OnOk, OnErr};
+ghost use Rattle.std.specs.Prelude.{◌≡◌, ◌<◌, ◌≤◌, [], ◌∷◌, ◌++◌, Some, length, slice_get, option_map, IfOk, OnOk, OnErr};
 ghost use Rattle.std.specs.Option.{option_copied};
 ghost use Rattle.element_name.specs.declared.limits.TheConstants.{MAX_STAMP, MAX_VERSION};
 ghost use Rattle.element_name.specs.Cases.{when};
@@ -7,23 +7,26 @@ ghost use Rattle.element_name.specs.Name.{has_name};
 ghost use Rattle.element_name.specs.Places.{place_in};
 ghost use Rattle.coop_request.specs.declared.request.TheConstants.{MAX_REQUESTS};
 ghost use Rattle.coop_request.specs.History.{elements_of, request_of, text_order, FollowsHistory};
+ghost use Rattle.policy_book.specs.Entry.{Entry};
 ghost use Rattle.edit_message.specs.declared.message.Message.TheVariants.{Coop, Admin};
 ghost use Rattle.edit_message.specs.Message.{find_key, requests_of, entries_of};
 ghost use Rattle.edit_message.specs.Missing.{missing_end};
-ghost use Rattle.admin_log.specs.Log.{entry_fault};
-ghost use Rattle.check_local.specs.Local.{with_version as local_verdict};
+ghost use Rattle.admin_log.specs.Log.{entry_fault, FollowsLog};
+ghost use Rattle.check_local.specs.Local.{with_version};
 ghost use Rattle.check_remote.specs.State.{verdict_at};
 ghost use Rattle.peer_core.specs.Peer.{is_full_journal, state_in, cell_in, shown_in, text_in, missing_in, undone_between};
 ghost use Rattle.peer_core.specs.Kept.{IsGivenState};
 ghost use Rattle.peer_core.specs.Sound.{FollowsJournal, IsWithin};
 ghost use Rattle.peer_core.specs.Local.{greatest_stamp};
 ghost use Rattle.peer_core.specs.Answers.{least_awaiting};
+ghost use Rattle.peer_core.specs.Changes.{AreOfTentative, HaveUndone, next_reach};
 
 use crate::advance::advance;
 use crate::item::{JournalItem, item_of};
 use crate::items::Items;
 use crate::join::{join, judged, validated_state};
 use crate::missing::{missing, missing_end};
+use crate::reached::reached_elements;
 use crate::sweep::Sweep;
 use crate::text::text_of;
 use admin_log::AdminLog;
@@ -34,7 +37,7 @@ use edit_message::{Key, Message, Missing};
 use elem_show::{Cell, ElemTable};
 use element_name::{Name, NoMemory};
 use peer_step::Text;
-use policy_book::{AdminOp, Entry, EntryFault};
+use policy_book::{AdminOp, Entry, EntryFault, Reach};
 use request_state::{State, StateTable, Undone};
 use std::alloc::Global;
 use std::marker::Model;
@@ -209,7 +212,7 @@ impl Journal {
     /// The verdict of the front on a request that may be made, at the place that its element will have.
     pub(crate) fn verdict(&self, request: Request) -> LocalVerdict
         requires { FollowsHistory (requests_of self.now) request }
-        ensures { result ≡ local_verdict (length (entries_of self.now))
+        ensures { result ≡ with_version (length (entries_of self.now))
             (verdict_at (text_order (requests_of self.now ++ request ∷ [])) (entries_of self.now) request (length (entries_of self.now))) }
     {
         check_local(
@@ -238,6 +241,28 @@ impl Journal {
         ensures { IfOk result (λ text. text ≡ text_in (requests_of self.now) (entries_of self.now)) }
     {
         text_of(self.alloc, &self.seq, &self.cells)
+    }
+
+    /// The elements of the Tentative requests that an entry with this operation may undo; none without an operation.
+    pub(crate) fn undoable(&self, op: Option<&AdminOp>) -> Result<Vec<Name>, NoMemory>
+        ensures tentative { IfOk result (λ elements. AreOfTentative (requests_of self.now) (entries_of self.now) elements.items) }
+        ensures undone { IfOk result (λ elements. (e : Entry) → FollowsLog (entries_of self.now) e → option_copied op.entry ≡ Some e.op
+            → HaveUndone (requests_of self.now) (entries_of self.now) (entries_of self.now ++ e ∷ []) elements.items) }
+    {
+        reached_elements(self.alloc, &self.states, &self.reach(op))
+    }
+
+    // Whose requests the next entry may deny, if its operation is legal.
+    fn reach(&self, op: Option<&AdminOp>) -> Reach
+        ensures { result ≡ next_reach (entries_of self.now) (option_copied op.entry) }
+    {
+        let Some(op) = op else {
+            return Reach::Nobody;
+        };
+        if self.log.legal(op).is_some() {
+            return Reach::Nobody;
+        }
+        self.log.policy().narrowed_reach(op)
     }
 
     /// Puts a request last, judging it where its state isn't given, and answers its state.

@@ -1,4 +1,4 @@
-//! Tests of the public calls of the crates that one peer stands on: what no clause says of them.
+//! Tests of the public calls of one peer and of the crates that it stands on: what no clause says of them.
 //!
 //! They stand in a crate of their own, since a crate with tests is proved twice.
 #![tactic(auto)]
@@ -18,4 +18,8 @@ mod of_peer_step;
 #[cfg(test)]
 mod of_request_state;
 #[cfg(test)]
+mod of_text_change;
+#[cfg(test)]
 mod of_tomb_seq;
+#[cfg(test)]
+mod of_wide_step;

@@ -195,7 +195,7 @@ module _ (R : List Request) (L : List Entry) (slots : List Slot) (cells : Table)
   abbrev reached : List Name
   reached = reached_elements (narrowed_reach (policy_of L) e.op) table
 
-  covered : (q : Request) → Has R q → is_tentative (state_in R L q) ≡ true → is_reached (narrowed_reach (policy_of L) e.op) (user_of q) ≡ true → has_name reached (element_of q) ≡ true
+  pub covered : (q : Request) → Has R q → is_tentative (state_in R L q) ≡ true → is_reached (narrowed_reach (policy_of L) e.op) (user_of q) ≡ true → has_name reached (element_of q) ≡ true
   covered q h waits within =
       let k : Kept = kept_by (state_in R L) q in
       let absent : kept_of table start ≡ None = kept.states start ∙ ap (option_map (kept_by (state_in R L))) (no_start [] R known.history) in

@@ -32,7 +32,7 @@ impl Peer {
     }
 
     // The place of the earliest held message that is due.
-    fn first_due(&self) -> Option<u32>
+    pub(super) fn first_due(&self) -> Option<u32>
         ensures { result ≡ position (is_due self.now.journal) self.now.held }
     {
         self.hold.first_due(&DueIn(&self.journal))
