@@ -6,7 +6,7 @@ ghost use Rattle.retro_undo.specs.Sweep.{every_request, MaySweep, IsSwept};
 ghost use Rattle.par_sweep.specs.Judged.{judgement_on};
 ghost use Rattle.par_sweep.specs.Listed.{names_within};
 
-use crate::judging::{Judgement, judge_each};
+use crate::judging::{Judgement, judge_each, share_len};
 use crate::listing::list_reach;
 use crate::setting::carry_out;
 use elem_show::ElemTable;
@@ -16,9 +16,6 @@ use request_state::{StateTable, Undone};
 use retro_undo::sweep_reach;
 use std::alloc::Global;
 use std::thread::Threads;
-
-/// Fewer requests than these are judged on the caller's thread: `rayon` gives no thread to fewer than half of them.
-const FEW: usize = 2_048;
 
 // The judgements on the Tentative requests within the reach; none where these are few, or memory is wanting.
 fn judge_reach<P: Places + Sync, R: Threads + Sync>(
@@ -37,7 +34,7 @@ fn judge_reach<P: Places + Sync, R: Threads + Sync>(
     // Where no request is Tentative there is none to list.
     states.next_tentative(Name::start())?;
     let ids = list_reach(alloc, reach, states).ok()?;
-    if ids.len() < FEW {
+    if ids.len() < 2 * share_len(policy) {
         return None;
     }
     judge_each(rt, alloc, ids.as_slice(), policy, states, places).ok()
