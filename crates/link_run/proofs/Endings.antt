@@ -1,22 +1,21 @@
 -- From what the parts leave to how a whole run ends.
 use Rattle.std.proofs.Common.{◌≡◌, ◌==◌, ℕ, ◌+◌, Bool, List, ◌++◌, Option, Result, Ok, Err, length, refl, sym, ap, ◌∙◌, subst, arith}
-use Rattle.std.specs.Prelude.{slice_get, sum_by}
+use Rattle.std.specs.Prelude.{slice_get, sum_by, IfErr}
 use Rattle.atomic_table.specs.Seated.{TableId}
 use Rattle.edit_io.specs.Door.{IsUnused}
 use Rattle.peer_step.specs.declared.step.Step.{Step}
 use Rattle.peer_core.specs.Peer.{Peer, fresh_peer}
-use Rattle.peer_lock.specs.declared.limits.TheConstants.{MAX_RUN}
 use Rattle.peer_lock.specs.declared.call.Call.{Call}
 use Rattle.peer_lock.specs.declared.view.View.{View}
 use Rattle.peer_lock.specs.KnownPass.{KnownPass}
 use Rattle.peer_lock.specs.Run.{steps_by, peer_after_run}
 use Rattle.peer_lock.specs.Laws.{answers_by}
 use Rattle.peer_lock.specs.Rule.{newcomer, HasNumber}
-use Rattle.peer_lock.specs.Answers.{IsSame, ClosesRun}
+use Rattle.peer_lock.specs.Answers.{IsSame, KnowsFull, ClosesRun}
 use Rattle.session_core.specs.declared.fault.SessionFault.{SessionFault}
 use Rattle.session_core.specs.declared.fault.SessionFault.TheVariants as session_faults
 use Rattle.session_core.specs.Events.{Mode, serving}
-use Rattle.session_core.specs.Session.{side, Session, pass_steps, pass_answers, closed_by, faults_after_session, KnowsFull}
+use Rattle.session_core.specs.Session.{side, Session, pass_steps, pass_answers, closed_by, faults_after_session, FullIsKnown}
 use Rattle.serve_core.specs.declared.job.Job.{Job}
 use Rattle.serve_core.specs.declared.own.OwnEnd.{OwnEnd}
 use Rattle.serve_core.specs.declared.own.OwnEnd.TheVariants.{Done}
@@ -86,11 +85,11 @@ talked_behind got sent faults closes mode site k l a b (Ok n) run session unused
 talked_behind got sent faults closes mode site k l a b (Err fault) run session unused closed failed steps answers full =
     talk_in_run got sent faults closes mode site 0 (pass_steps k) run k l a b (Err fault) session.0 session.1 session.2 unused closed failed refl steps answers full
 
-full_of : (k : KnownPass) (p : Peer) (run : List Call) (ended : Result ℕ SessionFault) → KnowsFull k ended → ClosesRun k.view p run → ended ≡ Err session_faults.RunFull → IsFullRun run
-full_of k p run ended full closes e = let at : k.view.floor ≡ MAX_RUN = subst (λ (r : Result ℕ SessionFault). KnowsFull k r) e full in omega (arith, at, closes.floor)
+full_of : (k : KnownPass) (p : Peer) (run : List Call) (ended : Result ℕ SessionFault) → IfErr ended (FullIsKnown k.view) → ClosesRun k.view p run → ended ≡ Err session_faults.RunFull → IsFullRun run
+full_of k p run ended full closes e = let at : KnowsFull k.view = subst (λ (r : Result ℕ SessionFault). IfErr r (FullIsKnown k.view)) e full refl in omega (arith, at, closes.floor)
 
 pub dialled_in_run : {L : Type 0} (got sent : L → Option (List (List ℕ))) (faults closes : L → ℕ) (mode : Mode) (table : TableId) (site : ℕ) (k l : KnownPass) (a b : L) (ended : Result ℕ SessionFault) (p : Peer) (run : List Call)
-    → Session mode (side k (got a) (sent a)) (side l (got b) (sent b)) ended → KnowsFull l ended
+    → Session mode (side k (got a) (sent a)) (side l (got b) (sent b)) ended → IfErr ended (FullIsKnown l.view)
     → IsUnused (faults a) (closes a) (got a) (sent a)
     → closes b ≡ closes a + closed_by ended → faults b ≡ faults_after_session (faults a) ended
     → IsSolePass table site l → ClosesRun l.view p run

@@ -7,9 +7,10 @@ use Rattle.peer_core.specs.Answers.{answer_of}
 use Rattle.peer_core.specs.After.{peer_after}
 use Rattle.peer_lock.specs.Run.{call, peer_after_run, steps_by}
 use Rattle.peer_lock.specs.Laws.{answers_by, steps_below}
-use Rattle.peer_lock.specs.Answers.{Stepped}
+use Rattle.peer_lock.specs.Answers.{Stepped, ClosesRun}
 use Rattle.peer_step.specs.declared.step.Step.{Step}
 use Rattle.peer_step.specs.declared.answer.Answer.{Answer}
+use Rattle.peer_lock.specs.declared.limits.TheConstants.{MAX_RUN}
 use Rattle.peer_lock.specs.declared.call.Call.{Call}
 use Rattle.peer_lock.specs.declared.view.View.{View}
 use Rattle.peer_lock.proofs.Lists.{steps-append, steps_mine, no_front, no_back}
@@ -66,3 +67,13 @@ all_owned m (e ∷ es) h =
     dite (dec_le m e.caller)
     (λ high. absurd (some_none e.step [] (sym (steps_mine e.caller e refl) ∙ no_front (steps_by e.caller (e ∷ [])) (steps_by e.caller es) (parts e.caller high))))
     (λ low. omega (arith, one_more m e es (omega arith), all_owned m es (λ x le. no_back (steps_by x (e ∷ [])) (steps_by x es) (parts x le))))
+
+-- callers whose steps are the same in both have as many in both
+as_many_below : (m : ℕ) (xs ys : List Call) → ((n : ℕ) → n < m → steps_by n xs ≡ steps_by n ys) → steps_below m xs ≡ steps_below m ys
+as_many_below zero xs ys same = refl
+as_many_below (suc m) xs ys same = omega (arith, as_many_below m xs ys (λ n less. same n (omega arith)), ap (λ (l : List Step). length l) (same m (omega arith)))
+
+-- a run whose last pass has seen fewer steps of all callers than a run may have wasn't full
+pub had_room : (v : View) (p : Peer) (run : List Call) → ClosesRun v p run → steps_below v.made v.seen < MAX_RUN → v.floor < MAX_RUN
+had_room v p run closes few =
+    omega (arith, all_owned v.made run closes.callers, as_many_below v.made run v.seen (λ n less. closes.steps n (closes.numbers n less)), closes.floor, few)

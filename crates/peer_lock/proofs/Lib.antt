@@ -2,6 +2,7 @@ pub mod RunLemmas
 pub mod Lists
 pub mod ByCaller
 pub mod Crossing
+pub mod Passing
 mod Keeps
 mod Ways
 mod Passes

@@ -44,17 +44,21 @@ pub record IsSame (k l : KnownPass) : Type 0 where
 abbrev pub WithoutGate : View → View → Type 0
 WithoutGate v w = (v.hand ≡ false) × (w.hand ≡ false)
 
+-- the pass knows that the run has as many steps as it may
+abbrev pub KnowsFull : View → Type 0
+KnowsFull v = v.floor ≡ MAX_RUN
+
 -- one try: Busy exactly where its one grab was refused, RunFull exactly where the run is full
 abbrev pub AnswersTry : View → Step → Result Answer TryFail → View → Type 0
 AnswersTry v s (Ok a) w = Stepped v s a w × (w.refused ≡ v.refused)
 AnswersTry v s (Err (Busy back)) w = (back ≡ s) × (w.refused ≡ v.refused + 1) × (w.seen ≡ v.seen) × (w.floor ≡ v.floor)
-AnswersTry v s (Err RunFull) w = (w.refused ≡ v.refused) × (w.seen ≡ v.seen) × (w.floor ≡ MAX_RUN)
+AnswersTry v s (Err RunFull) w = (w.refused ≡ v.refused) × (w.seen ≡ v.seen) × KnowsFull w
 AnswersTry v s (Err NoMemory) w = (w.refused ≡ v.refused) × (w.seen ≡ v.seen) × (v.floor ≤ w.floor) × (w.floor < MAX_RUN)
 
 -- tries until one is not Busy
 abbrev pub AnswersStep : View → Step → Result Answer StepFail → View → Type 0
 AnswersStep v s (Ok a) w = Stepped v s a w
-AnswersStep v s (Err fails.RunFull) w = (w.seen ≡ v.seen) × (w.floor ≡ MAX_RUN)
+AnswersStep v s (Err fails.RunFull) w = (w.seen ≡ v.seen) × KnowsFull w
 AnswersStep v s (Err fails.NoMemory) w = (w.seen ≡ v.seen) × (v.floor ≤ w.floor) × (w.floor < MAX_RUN)
 
 -- one load of the count word, which found this

@@ -42,14 +42,12 @@ fn others(
     let mut rest = Vec::new(alloc);
     for number in 1..passes {
         let part = lock.table.shared.split_seat::<Deal>(seat);
-        let Ok(()) = rest.push(Pass {
+        rest.push(Pass {
             seat: part,
             number,
             weight: 1,
             known: 0,
-        }) else {
-            return Err(NoMemory);
-        };
+        })?;
     }
     Ok(rest)
 }
@@ -67,21 +65,14 @@ pub(crate) fn deal(
     requires few { (0 < passes) × (passes ≤ MAX_PASSES) }
     ensures { IfOk result (λ v. Dealt lock.now.table.shared.table_id site passes v.items) }
 {
-    let mut rest = match others(lock, alloc, &mut seat, site, passes) {
-        Ok(rest) => rest,
-        Err(_) => return Err(NoMemory),
-    };
+    let mut rest = others(lock, alloc, &mut seat, site, passes)?;
     let mut all = Vec::new(alloc);
-    let Ok(()) = all.push(Pass {
+    all.push(Pass {
         seat,
         number: 0,
         weight: 1,
         known: 0,
-    }) else {
-        return Err(NoMemory);
-    };
-    let Ok(()) = all.append(&mut rest) else {
-        return Err(NoMemory);
-    };
+    })?;
+    all.append(&mut rest)?;
     Ok(all)
 }

@@ -14,7 +14,7 @@ pub enum TryFail {
 }
 
 /// Why no step was made. Nothing was counted, and the gate isn't with the pass.
-#[derive(Drop)]
+#[derive(Clone, Copy, Debug, PartialEq, Eq)]
 pub enum StepFail {
     /// The run has as many steps as it may.
     RunFull,

@@ -39,19 +39,13 @@ impl History {
     pub fn caller(&self, i: u64) -> Option<u32>
         ensures { result ≡ caller_at self.now i }
     {
-        match self.run.get(i as usize) {
-            Some(call) => Some(call.caller),
-            None => None,
-        }
+        self.run.get(i as usize).map(|call| call.caller)
     }
 
     /// The step at a place, from 0, packed: its value is the step.
     pub fn step_at(&self, i: u64) -> Option<&PackedStep>
         ensures { MatchOption result (length self.now ≤ i) (λ s. StepAt self.now i s.now) }
     {
-        match self.run.get(i as usize) {
-            Some(call) => Some(&call.step),
-            None => None,
-        }
+        self.run.get(i as usize).map(|call| &call.step)
     }
 }

@@ -1,5 +1,5 @@
 //! Laws of runs.
-ghost use Rattle.peer_lock.specs.Laws.{AnswerLaw, StepLaw};
+ghost use Rattle.peer_lock.specs.Laws.{AnswerLaw, StepLaw, FullLaw};
 
 /// A step that was answered gives its caller one more answer in the run, and the answer is this one: what the plain peer
 /// answers to the caller's steps along the run grows by it alone.
@@ -10,4 +10,10 @@ pub fn one_more_answer()
 /// A run whose callers are all below a number has as many steps as these have together.
 pub fn all_steps()
     ensures { StepLaw }
+{}
+
+/// A pass that closes a run, and has seen fewer steps of all its callers than a run may have, never knew a full one; nor did
+/// a pass that was joined into it, which knew no more.
+pub fn never_full()
+    ensures { FullLaw }
 {}

@@ -1,4 +1,7 @@
 //! One peer shared by threads. Each call that steps it takes the gate, makes one step, counts it and frees the gate.
+//!
+//! What contracts say of runs and passes they say by `Call` and `View`. Neither is exported: the contracts of callers name them
+//! by their modules of `specs/`, no function gives a `Call`, and no value of `View` is made.
 #![tactic(auto)]
 
 mod call;

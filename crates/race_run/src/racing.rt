@@ -3,10 +3,11 @@ ghost use Rattle.std.specs.Prelude.{◌≡◌, ◌+◌, ◌≤◌, IfOk, length}
 ghost use Rattle.std.specs.Thread.{IsSync};
 ghost use Rattle.peer_core.specs.Peer.{fresh_peer};
 ghost use Rattle.peer_lock.specs.declared.limits.TheConstants.{MAX_RUN};
+ghost use Rattle.peer_lock.specs.Answers.{IsSame};
 ghost use Rattle.peer_lock.specs.Rule.{newcomer};
 ghost use Rattle.peer_lock.specs.Run.{peer_after_run};
 ghost use Rattle.race_run.specs.Race.{IsRaceOf};
-ghost use Rattle.race_run.specs.Work.{IsSameWorker, Works};
+ghost use Rattle.race_run.specs.Work.{Works};
 
 use crate::gate::Gate;
 use crate::worker::{Ended, work};
@@ -52,18 +53,18 @@ fn work_beside<R: Threads + Wait + Sync, G: Gate + Sync>(
     requires two { two.table ≡ shared.now }
     requires few_arrivals { length arrivals.now ≤ MAX_RUN }
     requires few_operations { length operations.now ≤ MAX_RUN }
-    ensures one { IsSameWorker one result.0.0 × Works one.view result.0.0.view arrivals.now result.0.1 }
-    ensures two { IsSameWorker two result.1.0 × Works two.view result.1.0.view operations.now result.1.1 }
+    ensures one { IsSame one result.0.0 × Works one.view result.0.0.view arrivals.now result.0.1 }
+    ensures two { IsSame two result.1.0 × Works two.view result.1.0.view operations.now result.1.1 }
 {
     join(
         rt,
         || -> (Pass, Ended)
             requires { IsSync R.row × (one.table ≡ shared.now) × (length arrivals.now ≤ MAX_RUN) }
-            ensures { IsSameWorker one result.0 × Works one.view result.0.view arrivals.entry.now result.1 }
+            ensures { IsSame one result.0 × Works one.view result.0.view arrivals.entry.now result.1 }
         { work(rt, alloc, shared, one, arrivals, gate) },
         || -> (Pass, Ended)
             requires { IsSync R.row × (two.table ≡ shared.now) × (length operations.now ≤ MAX_RUN) }
-            ensures { IsSameWorker two result.0 × Works two.view result.0.view operations.entry.now result.1 }
+            ensures { IsSame two result.0 × Works two.view result.0.view operations.entry.now result.1 }
         { work(rt, alloc, shared, two, operations, gate) },
     )
 }
@@ -87,12 +88,12 @@ fn race_lists<R: Threads + Wait + Sync, G: Gate + Sync>(
         rt,
         || -> (Pass, Ended)
             requires { IsSync R.row × (zero.table ≡ shared) × (length edits.now ≤ MAX_RUN) }
-            ensures { IsSameWorker zero result.0 × Works zero.view result.0.view edits.entry.now result.1 }
+            ensures { IsSame zero result.0 × Works zero.view result.0.view edits.entry.now result.1 }
         { work(rt, alloc, &shared, zero, edits, gate) },
         || -> ((Pass, Ended), (Pass, Ended))
             requires { IsSync R.row × IsSync G.row × (one.table ≡ shared) × (two.table ≡ shared) × (length arrivals.now ≤ MAX_RUN) × (length operations.now ≤ MAX_RUN) }
-            ensures one { IsSameWorker one result.0.0 × Works one.view result.0.0.view arrivals.entry.now result.0.1 }
-            ensures two { IsSameWorker two result.1.0 × Works two.view result.1.0.view operations.entry.now result.1.1 }
+            ensures one { IsSame one result.0.0 × Works one.view result.0.0.view arrivals.entry.now result.0.1 }
+            ensures two { IsSame two result.1.0 × Works two.view result.1.0.view operations.entry.now result.1.1 }
         { work_beside(rt, alloc, &shared, one, two, arrivals, operations, gate) },
     );
     let (mut zero, zero_ended) = zero;

@@ -1,7 +1,8 @@
 //! One worker.
 ghost use Rattle.std.specs.Prelude.{◌≡◌, ◌≤◌, length};
 ghost use Rattle.peer_lock.specs.declared.limits.TheConstants.{MAX_RUN};
-ghost use Rattle.race_run.specs.Work.{IsSameWorker, Works};
+ghost use Rattle.peer_lock.specs.Answers.{IsSame};
+ghost use Rattle.race_run.specs.Work.{Works};
 
 use crate::gate::Gate;
 use packed_step::PackedStep;
@@ -32,7 +33,7 @@ pub(crate) fn work<R: Threads + Wait + Sync, G: Gate>(
 ) -> (Pass, Ended)
     requires own { pass.table ≡ shared.now }
     requires few { length steps.now ≤ MAX_RUN }
-    ensures same { IsSameWorker pass result.0 }
+    ensures same { IsSame pass result.0 }
     ensures works { Works pass.view result.0.view steps.now result.1 }
 {
     let worker = pass.number();

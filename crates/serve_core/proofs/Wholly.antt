@@ -4,7 +4,8 @@ use Rattle.peer_core.specs.Peer.{Peer, fresh_peer}
 use Rattle.peer_lock.specs.KnownPass.{KnownPass}
 use Rattle.peer_lock.specs.Run.{steps_by}
 use Rattle.peer_lock.specs.Rule.{HasNumber, newcomer}
-use Rattle.peer_lock.specs.Answers.{ClosesRun}
+use Rattle.peer_lock.specs.Answers.{ClosesRun, KnowsFull}
+use Rattle.peer_lock.specs.Made.{Made}
 use Rattle.peer_lock.specs.Laws.{answers_by}
 use Rattle.peer_lock.specs.declared.call.Call.{Call}
 use Rattle.peer_lock.specs.declared.view.View.{View}
@@ -17,7 +18,7 @@ use Rattle.serve_core.specs.declared.own.OwnEnd.{OwnEnd}
 use Rattle.serve_core.specs.declared.own.OwnEnd.TheVariants.{Done, RunFull, NoMemory}
 use Rattle.serve_core.specs.Gathered.{IsIn, EachOf, all_numbers}
 use Rattle.serve_core.specs.Jobs.{passes_of}
-use Rattle.serve_core.specs.Worked.{OwnMade, MakesOwn, EndedSo}
+use Rattle.serve_core.specs.Worked.{MakesOwn, EndedSo}
 use Rattle.serve_core.specs.Served.{OwnIn, IsFullRun}
 use Rattle.serve_core.proofs.Gathering.{kept_in_run}
 
@@ -44,9 +45,9 @@ has_one n ns e = subst (λ (l : List ℕ). HasNumber l n) (sym e) (has_self n)
 
 -- the own steps in the whole run
 pub own_steps_in_run : (v w : View) (m site : ℕ) (steps : List Step) (r : OwnEnd) (run : List Call) → v ≡ newcomer 0 m site → steps_by 0 run ≡ steps_by 0 w.seen → w.floor ≤ length run → MakesOwn v w steps r → OwnIn steps r run
-own_steps_in_run v w m site steps Done run e same floor made = let own : OwnMade (newcomer 0 m site) w steps = subst (λ (x : View). OwnMade x w steps) e made in same ∙ own
-own_steps_in_run v w m site steps RunFull run e same floor made = let own : OwnMade (newcomer 0 m site) w (take made.1.0 steps) = subst (λ (x : View). OwnMade x w (take made.1.0 steps)) e made.1.1 in (omega (arith, floor, made.0), (made.1.0, same ∙ own))
-own_steps_in_run v w m site steps NoMemory run e same floor made = let own : OwnMade (newcomer 0 m site) w (take made.0 steps) = subst (λ (x : View). OwnMade x w (take made.0 steps)) e made.1 in (made.0, same ∙ own)
+own_steps_in_run v w m site steps Done run e same floor made = let own : Made (newcomer 0 m site) w steps = subst (λ (x : View). Made x w steps) e made in same ∙ own
+own_steps_in_run v w m site steps RunFull run e same floor made = let own : Made (newcomer 0 m site) w (take made.1.0 steps) = subst (λ (x : View). Made x w (take made.1.0 steps)) e made.1.1 in (omega (arith, floor, made.0), (made.1.0, same ∙ own))
+own_steps_in_run v w m site steps NoMemory run e same floor made = let own : Made (newcomer 0 m site) w (take made.0 steps) = subst (λ (x : View). Made x w (take made.0 steps)) e made.1 in (made.0, same ∙ own)
 
 -- the steps of a pass of one number that was joined to the last one, in the whole run
 pub steps_in_run : (k last : KnownPass) (p : Peer) (run : List Call) (n : ℕ) → k.view.number ≡ n → k.view.numbers ≡ n ∷ [] → IsIn k.view last.view → ClosesRun last.view p run
@@ -68,8 +69,7 @@ pub full_in_run : {L : Type 0} (got sent : L → Option (List (List ℕ))) (faul
     → EndedSo got sent faults closes validates a b o → o ≡ Some (Err session_faults.RunFull) → IsIn b.pass.view last → ClosesRun last p run → IsFullRun run
 full_in_run got sent faults closes validates a b None last p run ended is i c = cc
 full_in_run got sent faults closes validates a b (Some (Ok n)) last p run ended is i c = cc
-full_in_run got sent faults closes validates a b (Some (Err session_faults.LinkFault)) last p run ended is i c = cc
-full_in_run got sent faults closes validates a b (Some (Err session_faults.Closed)) last p run ended is i c = cc
-full_in_run got sent faults closes validates a b (Some (Err (session_faults.BadFrame fault))) last p run ended is i c = cc
-full_in_run got sent faults closes validates a b (Some (Err session_faults.RunFull)) last p run ended is i c = omega (arith, ended.3, i.floor, c.floor)
-full_in_run got sent faults closes validates a b (Some (Err session_faults.NoMemory)) last p run ended is i c = cc
+full_in_run got sent faults closes validates a b (Some (Err fault)) last p run ended is i c =
+    let met : fault ≡ session_faults.RunFull = cc in
+    let full : KnowsFull b.pass.view = ended.3 met in
+    omega (arith, full, i.floor, c.floor)

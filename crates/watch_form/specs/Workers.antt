@@ -1,13 +1,14 @@
 -- What the two workers of a watch leave.
-use Rattle.std.specs.Prelude.{◌≡◌, ℕ, ◌+◌, ◌<◌, ◌≤◌, List, [], ◌∷◌, ◌++◌, length, map, nat_lt, if◌then◌else◌}
+use Rattle.std.specs.Prelude.{◌≡◌, ℕ, ◌+◌, ◌<◌, List, [], ◌∷◌, length, map, nat_lt, if◌then◌else◌}
 use mathlib.Core.List.{IsPrefix}
 use Rattle.peer_step.specs.declared.step.Step.{Step}
 use Rattle.peer_step.specs.declared.step.Step.TheVariants.{Show}
 use Rattle.peer_lock.specs.declared.limits.TheConstants.{MAX_RUN}
 use Rattle.peer_lock.specs.declared.call.Call.{Call}
-use Rattle.peer_lock.specs.Run.{steps_by}
 use Rattle.peer_lock.specs.KnownPass.{KnownPass}
-use Rattle.peer_lock.specs.Answers.{IsSame}
+use Rattle.peer_lock.specs.Answers.{IsSame, KnowsFull}
+use Rattle.peer_lock.specs.Made.{Made, MadeFirst}
+use Rattle.peer_lock.specs.Laws.{steps_below}
 use Rattle.screen_read.specs.declared.fail.ScreenFail.{ScreenFail}
 use Rattle.screen_read.specs.declared.fail.ScreenFail.TheVariants.{RunFull}
 use Rattle.screen_read.specs.Pages.{PageText, IsAscending, IsNewest}
@@ -25,30 +26,29 @@ pub record IsCurrent (s : KnownScreen) (k : KnownPass) : Type 0 where
 -- the pass has made one Show step more, and the screen is made of it, beside its reader
 pub record Opens (k l : KnownPass) (s : KnownScreen) (r : ReaderPages) : Type 0 where
   pub same : IsSame k l
-  pub made : steps_by k.view.number l.view.seen ≡ steps_by k.view.number k.view.seen ++ Show ∷ []
+  pub made : Made k.view l.view (Show ∷ [])
   pub current : IsCurrent s l
   pub board : r.table ≡ s.table
 
 -- the pass has made these steps, each followed by Show, and the screen has published a page after each
 pub record Publishing (s : KnownScreen) (k : KnownPass) (steps : List Step) (t : KnownScreen) (l : KnownPass) : Type 0 where
   pub same : IsSame k l
-  pub made : steps_by k.view.number l.view.seen ≡ steps_by k.view.number k.view.seen ++ each_shown steps
+  pub made : Made k.view l.view (each_shown steps)
   pub board : t.table ≡ s.table
   pub grown : length t.pages ≡ length s.pages + length steps
   pub current : IsCurrent t l
 
--- the pass has made at most so many steps more, and then one failed; where the run was full the pass knows that
-pub record StopsShort (k : KnownPass) (most : ℕ) (l : KnownPass) (fail : ScreenFail) : Type 0 where
+-- the pass was to make these steps, has made the first of them, or all, and then failed; where the run was full it knows that
+pub record StopsShort (k : KnownPass) (steps : List Step) (l : KnownPass) (fail : ScreenFail) : Type 0 where
   pub same : IsSame k l
-  pub few : length (steps_by k.view.number l.view.seen) ≤ length (steps_by k.view.number k.view.seen) + most
-  pub full : fail ≡ RunFull → l.view.floor ≡ MAX_RUN
+  pub made : MadeFirst k.view l.view steps
+  pub full : fail ≡ RunFull → KnowsFull l.view
 
--- the one pass of a shared peer has failed so, and has made fewer steps than a run may have
+-- a pass that stands for all has failed so, and they have made fewer steps than a run may have
 pub record HasStopped (k : KnownPass) (fail : ScreenFail) : Type 0 where
-  pub numbers : k.view.numbers ≡ 0 ∷ []
-  pub made : k.view.made ≡ 1
-  pub few : length (steps_by 0 k.view.seen) < MAX_RUN
-  pub full : fail ≡ RunFull → k.view.floor ≡ MAX_RUN
+  pub whole : length k.view.numbers ≡ k.view.made
+  pub few : steps_below k.view.made k.view.seen < MAX_RUN
+  pub full : fail ≡ RunFull → KnowsFull k.view
 
 -- the reader has read these pages, in this order
 abbrev pub HasRead : ReaderPages → List PageText → ReaderPages → Type 0

@@ -1,9 +1,9 @@
 //! The two workers of a watch.
-ghost use Rattle.std.specs.Prelude.{◌≡◌, ◌*◌, ◌≤◌, List, length, IfOk, IfErr, OnOk};
+ghost use Rattle.std.specs.Prelude.{◌≡◌, ◌≤◌, [], ◌∷◌, List, length, IfOk, IfErr, OnOk};
 ghost use Rattle.std.specs.Thread.{IsSync};
 ghost use Rattle.peer_lock.specs.Rule.{newcomer};
 ghost use Rattle.screen_read.specs.Pages.{IsNewest};
-ghost use Rattle.watch_form.specs.Run.{watch_run};
+ghost use Rattle.watch_form.specs.Run.{each_shown, watch_run};
 ghost use Rattle.watch_form.specs.Workers.{Opens, IsCurrent, Publishing, StopsShort, HasStopped, HasRead, BothBegin, AreReadPages};
 
 use crate::limits::MAX_LINES;
@@ -48,7 +48,7 @@ fn open<R: Threads + Wait + Sync>(
 ) -> Result<(Pass, Screen, ScreenReader), (Pass, ScreenFail)>
     requires { pass.table ≡ shared.now }
     ensures opened { IfOk result (λ r. Opens pass r.0 r.1 r.2) }
-    ensures stopped { IfErr result (λ r. StopsShort pass 1 r.0 r.1) }
+    ensures stopped { IfErr result (λ r. StopsShort pass (Step.Show ∷ []) r.0 r.1) }
 {
     match Screen::new(rt, alloc, shared, &mut pass) {
         Ok((screen, reader)) => Ok((pass, screen, reader)),
@@ -73,7 +73,7 @@ fn work_beside<R: Threads + Wait + Sync, G: Gate + Sync>(
     requires current { IsCurrent ends.1 ends.0 }
     requires few { length steps.now ≤ MAX_LINES }
     ensures published { IfOk result.0 (λ r. Publishing ends.1 ends.0 steps.now r.1 r.0) }
-    ensures stopped { IfErr result.0 (λ r. StopsShort ends.0 (2 * length steps.now) r.0 r.1) }
+    ensures stopped { IfErr result.0 (λ r. StopsShort ends.0 (each_shown steps.now) r.0 r.1) }
     ensures many { IfOk result.1 (λ r. length r.1.items ≡ reads) }
     ensures read { IfOk result.1 (λ r. HasRead ends.2 r.1.items r.0) }
 {
@@ -83,7 +83,7 @@ fn work_beside<R: Threads + Wait + Sync, G: Gate + Sync>(
         || -> Result<(Pass, Screen), (Pass, ScreenFail)>
             requires { IsSync R.row × (pass.table ≡ shared.now) × IsCurrent screen pass × (length steps.now ≤ MAX_LINES) }
             ensures published { IfOk result (λ r. Publishing screen pass steps.entry.now r.1 r.0) }
-            ensures stopped { IfErr result (λ r. StopsShort pass (2 * length steps.entry.now) r.0 r.1) }
+            ensures stopped { IfErr result (λ r. StopsShort pass (each_shown steps.entry.now) r.0 r.1) }
         { publish_all(rt, alloc, shared, pass, screen, steps, gate) },
         || -> Result<(ScreenReader, Vec<Page>), NoMemory>
             ensures many { IfOk result (λ r. length r.1.items ≡ reads) }

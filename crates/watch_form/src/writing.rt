@@ -1,8 +1,9 @@
 //! The worker that writes.
 //!
 //! The run has room for all steps of a watch: once it is closed it is proved that the worker never met a full one.
-ghost use Rattle.std.specs.Prelude.{◌≡◌, ◌*◌, ◌≤◌, [], ◌∷◌, length, IfOk, IfErr, OnOk};
+ghost use Rattle.std.specs.Prelude.{◌≡◌, ◌≤◌, [], ◌∷◌, length, IfOk, IfErr, OnOk};
 ghost use Rattle.peer_lock.specs.Answers.{IsSame, Stepped};
+ghost use Rattle.watch_form.specs.Run.{each_shown};
 ghost use Rattle.watch_form.specs.Workers.{IsCurrent, Publishing, StopsShort};
 
 use crate::limits::MAX_LINES;
@@ -31,7 +32,7 @@ fn make<R: Threads + Wait + Sync>(
     requires { pass.old.table ≡ shared.now }
     ensures same { IsSame pass.old pass.new }
     ensures made { OnOk result ((answer : Answer) × Stepped pass.old.view step.now answer pass.new.view) }
-    ensures stopped { IfErr result (StopsShort pass.old 0 pass.new) }
+    ensures stopped { IfErr result (StopsShort pass.old [] pass.new) }
 {
     let Ok(copy) = step.copied() else {
         return Err(ScreenFail::NoMemory);
@@ -58,7 +59,7 @@ fn publish_step<R: Threads + Wait + Sync>(
     requires own { pass.old.table ≡ shared.now }
     requires current { IsCurrent screen.old pass.old }
     ensures published { OnOk result (Publishing screen.old pass.old (step.now ∷ []) screen.new pass.new) }
-    ensures stopped { IfErr result (StopsShort pass.old 2 pass.new) }
+    ensures stopped { IfErr result (StopsShort pass.old (each_shown (step.now ∷ [])) pass.new) }
 {
     make(rt, alloc, shared, pass, step)?;
     match screen.publish(rt, alloc, shared, pass) {
@@ -82,7 +83,7 @@ pub(crate) fn publish_all<R: Threads + Wait + Sync, G: Gate>(
     requires current { IsCurrent screen pass }
     requires few { length steps.now ≤ MAX_LINES }
     ensures published { IfOk result (λ r. Publishing screen pass steps.now r.1 r.0) }
-    ensures stopped { IfErr result (λ r. StopsShort pass (2 * length steps.now) r.0 r.1) }
+    ensures stopped { IfErr result (λ r. StopsShort pass (each_shown steps.now) r.0 r.1) }
 {
     let mut made = 0;
     for step in steps {

@@ -19,7 +19,7 @@ loop-number-preserved c =
     let part = c.split_seat-part.result in (
       e.0 ∙ had.0,
       e.2 ∙ ap (λ (m : Seated). (dealt m.0, m.1)) had.1,
-      subst (λ (ks : List KnownPass). Others table c.args.site (c.loop-number.number + 1) ks) (sym c.in-Ok.ensures.items)
+      subst (λ (ks : List KnownPass). Others table c.args.site (c.loop-number.number + 1) ks) (sym c.in_ok-push.ensures.items)
           (
           one_more table c.args.site c.loop-number.number c.loop-number.rest.items (known_pass part.table_id part.id part.me.0) had.2 (e.3 ∙ had.0 ∙ c.requires.own)
           (ap (λ (m : Seated). m.0) e.4 ∙ ap (λ (m : Seated). newcomer m.0.made 0 m.0.origin) had.1)

@@ -1,4 +1,5 @@
-use Rattle.std.proofs.Common.{◌≡◌, ◌*◌, length, sym, ◌∙◌}
+use Rattle.std.proofs.Common.{◌≡◌, length, sym, ◌∙◌}
+use Rattle.watch_form.specs.Run.{each_shown}
 use Rattle.watch_form.specs.Workers.{Publishing, StopsShort, HasRead}
 use Rattle.watch_form.proofs.Full.{stopped_opening, stopped_working}
 use Rattle.watch_form.proofs.ReadPages.{has_table, read_pages}
@@ -12,7 +13,7 @@ pub end_short-requires-in-Err-published-clause-stopped : goal.end_short-requires
 end_short-requires-in-Err-published-clause-stopped g c =
     let ends = c.in-Ok.ends in
     let stopped = c.in-Err-published.stopped in
-    let stops : StopsShort ends.0 (2 * length c.args.steps.now) stopped.0 stopped.1 = err_of (λ r. StopsShort ends.0 (2 * length c.args.steps.now) r.0 r.1) _ _ c.in-Err-published.is c.work_beside-published.ensures.stopped in
+    let stops : StopsShort ends.0 (each_shown c.args.steps.now) stopped.0 stopped.1 = err_of (λ r. StopsShort ends.0 (each_shown c.args.steps.now) r.0 r.1) _ _ c.in-Err-published.is c.work_beside-published.ensures.stopped in
     stopped_working c.args.site c.in_ok-shared.pass ends.0 stopped.0 ends.1 ends.2 c.args.steps.now stopped.1 c.in_ok-shared.ensures.1 c.in-Ok.ensures.opened c.requires stops
 
 pub settle-requires : goal.settle-requires

@@ -18,5 +18,5 @@ publish_step-requires-clause-own g c κs within = c.loop-step.invariant.publishe
 
 pub returns-in-Err-clause-stopped : goal.returns-in-Err-clause-stopped
 returns-in-Err-clause-stopped g c =
-    stopped_at c.args.screen c.loop-step.screen c.args.pass c.loop-step.pass c.publish_step.new.pass c.args.steps.now c.loop-step.step-index c.in-Err.fail c.loop-step-test.true
-    c.loop-step.invariant.published c.in-Err.ensures.stopped
+    stopped_at c.args.screen c.loop-step.screen c.args.pass c.loop-step.pass c.publish_step.new.pass c.args.steps.now c.loop-step.step-index c.step-item.result c.in-Err.fail c.loop-step-test.true
+    c.step-item.is c.loop-step.invariant.published c.in-Err.ensures.stopped
