@@ -11,6 +11,7 @@ use Rattle.peer_lock.specs.Run.{steps_by}
 use Rattle.peer_lock.specs.Laws.{answers_by}
 use Rattle.peer_lock.specs.KnownPass.{KnownPass}
 use Rattle.peer_lock.specs.Answers.{IsSame}
+use Rattle.peer_lock.proofs.Passing.{same_self, same_then}
 use Rattle.session_core.specs.Events.{Event, MessageRead, MessageUnread, MessageSent, StepMade, Phase, Listens, ReceivesItem, Settles, Validates, Looks, SendsItem, SendsTurn, SendsEnd, Finished, Broken, Unread, SessionState, in_phase, Mode, LeadsTo, Hears, Finds, MayStep, MaySend, messages_in, messages_out, steps_in, answers_in}
 use Rattle.session_core.specs.declared.fault.SessionFault.{SessionFault}
 use Rattle.session_core.specs.declared.fault.SessionFault.TheVariants.{LinkFault, Closed, BadFrame, RunFull, NoMemory}
@@ -57,19 +58,6 @@ answers_in-append (StepMade s a ∷ xs) ys = ap (λ l. a ∷ l) (answers_in-appe
 LeadsTo-append : (mode : Mode) (s m t : SessionState) (xs ys : List Event) → LeadsTo mode s xs m → LeadsTo mode m ys t → LeadsTo mode s (xs ++ ys) t
 LeadsTo-append mode s m t [] ys p q = subst (λ (x : SessionState). LeadsTo mode x ys t) p q
 LeadsTo-append mode s m t (x ∷ xs) ys p q = (p.0, p.1, LeadsTo-append mode p.0 m t xs ys p.2 q)
-
-pub same_self : (k : KnownPass) → IsSame k k
-same_self k = record { table = refl; id = refl; number = refl; numbers = refl; origin = refl; made = refl }
-
-pub same_then : (k l m : KnownPass) → IsSame k l → IsSame l m → IsSame k m
-same_then k l m p q = record {
-  table = q.table ∙ p.table;
-  id = q.id ∙ p.id;
-  number = q.number ∙ p.number;
-  numbers = q.numbers ∙ p.numbers;
-  origin = q.origin ∙ p.origin;
-  made = q.made ∙ p.made;
-}
 
 -- a pass that saw no more has made no more steps
 pub steps_same : (k l : KnownPass) → IsSame k l → l.view.seen ≡ k.view.seen → pass_steps l ≡ pass_steps k

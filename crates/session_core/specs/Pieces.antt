@@ -1,5 +1,5 @@
 -- What the parts of a session do: a step, a frame each way, a turn each way.
-use Rattle.std.specs.Prelude.{◌≡◌, ℕ, ◌+◌, ◌<◌, ◌≤◌, ◌++◌, Bool, true, false, List, [], ◌∷◌, Option, Some, Result, Ok, Err, ⊤, length}
+use Rattle.std.specs.Prelude.{◌≡◌, ℕ, ◌+◌, ◌<◌, ◌≤◌, ◌++◌, Bool, true, false, List, [], ◌∷◌, Option, Some, Result, Ok, Err, IfErr, ⊤, length}
 use Rattle.edit_io.specs.Link.{with_last}
 use Rattle.edit_message.specs.declared.message.Message.{Message}
 use Rattle.peer_step.specs.declared.step.Step.{Step}
@@ -10,10 +10,11 @@ use Rattle.peer_core.specs.Answers.{answer_of}
 use Rattle.edit_frame.specs.declared.frame.Frame.{Frame}
 use Rattle.peer_lock.specs.declared.limits.TheConstants.{MAX_RUN}
 use Rattle.peer_lock.specs.KnownPass.{KnownPass}
+use Rattle.peer_lock.specs.Answers.{IsSame}
 use Rattle.session_core.specs.declared.fault.SessionFault.{SessionFault}
 use Rattle.session_core.specs.declared.fault.SessionFault.TheVariants.{LinkFault, Closed, BadFrame, RunFull, NoMemory}
 use Rattle.session_core.specs.Events.{Listens, Settles, Validates, Looks, Finished, SessionState, in_phase, Mode, turn_done, after_settle, after_validation, item_in, Hears}
-use Rattle.session_core.specs.Session.{Side, Talked, CutOff, pass_steps, pass_answers}
+use Rattle.session_core.specs.Session.{Side, Talked, CutOff, FullIsKnown, pass_steps, pass_answers}
 
 -- a piece of a session went through to this state, or a fault cut it
 abbrev pub GetsTo : {X : Type 0} → Mode → SessionState → Side → Side → Result X SessionFault → SessionState → Type 0
@@ -29,6 +30,14 @@ IsStepFault Closed = ⊥
 IsStepFault (BadFrame fault) = ⊥
 IsStepFault RunFull = ⊤
 IsStepFault NoMemory = ⊤
+
+-- what steps of a session keep, whether all were made or a fault cut them: the pass stays itself and has seen no less, it
+-- knows a full run where it met one, and no fault is one of the link
+pub record KeepsPass {X : Type 0} (k l : KnownPass) (r : Result X SessionFault) : Type 0 where
+  pub same : IsSame k l
+  pub grown : length k.view.seen ≤ length l.view.seen
+  pub full : IfErr r (FullIsKnown l.view)
+  pub kind : IfErr r IsStepFault
 
 -- the pass has made one more step, its run is longer, and the answer is that of some peer
 pub record OneMoreStep (k l : KnownPass) (step : Step) (answer : Answer) : Type 0 where

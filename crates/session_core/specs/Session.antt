@@ -5,11 +5,11 @@ use Rattle.edit_io.specs.Link.{with_last}
 use Rattle.peer_step.specs.declared.step.Step.{Step}
 use Rattle.peer_step.specs.declared.answer.Answer.{Answer}
 use Rattle.peer_core.specs.Peer.{fresh_peer}
-use Rattle.peer_lock.specs.declared.limits.TheConstants.{MAX_RUN}
+use Rattle.peer_lock.specs.declared.view.View.{View}
 use Rattle.peer_lock.specs.Run.{steps_by}
 use Rattle.peer_lock.specs.Laws.{answers_by}
 use Rattle.peer_lock.specs.KnownPass.{KnownPass}
-use Rattle.peer_lock.specs.Answers.{IsSame}
+use Rattle.peer_lock.specs.Answers.{IsSame, KnowsFull}
 use Rattle.session_core.specs.declared.fault.SessionFault.{SessionFault}
 use Rattle.session_core.specs.declared.fault.SessionFault.TheVariants.{LinkFault, Closed, BadFrame, RunFull, NoMemory}
 use Rattle.session_core.specs.Events.{Event, Phase, Listens, ReceivesItem, Settles, Validates, Looks, SendsItem, SendsTurn, SendsEnd, Finished, Broken, SessionState, Mode, first_state, LeadsTo, messages_in, messages_out, steps_in, answers_in}
@@ -99,10 +99,5 @@ faults_after_session before (Err RunFull) = before
 faults_after_session before (Err NoMemory) = before
 
 -- with RunFull the pass knows that the run is full
-abbrev pub KnowsFull : {X : Type 0} → KnownPass → Result X SessionFault → Type 0
-KnowsFull k (Ok x) = ⊤
-KnowsFull k (Err LinkFault) = ⊤
-KnowsFull k (Err Closed) = ⊤
-KnowsFull k (Err (BadFrame fault)) = ⊤
-KnowsFull k (Err RunFull) = k.view.floor ≡ MAX_RUN
-KnowsFull k (Err NoMemory) = ⊤
+abbrev pub FullIsKnown : View → SessionFault → Type 0
+FullIsKnown v fault = fault ≡ RunFull → KnowsFull v

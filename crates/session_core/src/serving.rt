@@ -1,8 +1,8 @@
 //! The side that is called.
-ghost use Rattle.std.specs.Prelude.{◌≡◌, ◌+◌};
+ghost use Rattle.std.specs.Prelude.{◌≡◌, ◌+◌, IfErr};
 ghost use Rattle.peer_lock.specs.Answers.{IsSame};
 ghost use Rattle.session_core.specs.Events.{serving};
-ghost use Rattle.session_core.specs.Session.{side, Session, closed_by, faults_after_session, KnowsFull};
+ghost use Rattle.session_core.specs.Session.{side, Session, closed_by, faults_after_session, FullIsKnown};
 
 use crate::fault::SessionFault;
 use crate::turns::{receive_turn, send_turn};
@@ -28,7 +28,7 @@ pub fn serve_link<L: Link, R: Threads + Wait + Sync>(
     requires own { pass.old.table ≡ shared.now }
     // The pass stays what it is, and where the run is full it knows so.
     ensures same { IsSame pass.old pass.new }
-    ensures full { KnowsFull pass.new result }
+    ensures full { IfErr result (FullIsKnown pass.new.view) }
     // Closed is answered exactly where the link was found closed, and LinkFault exactly where it failed.
     ensures closes { L.closes link.new ≡ L.closes link.old + closed_by result }
     ensures faults { L.faults link.new ≡ faults_after_session (L.faults link.old) result }

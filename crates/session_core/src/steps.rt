@@ -1,11 +1,10 @@
 //! The steps of a session on the shared peer.
-ghost use Rattle.std.specs.Prelude.{◌≡◌, ℕ, List, ◌≤◌, length, IfErr};
+ghost use Rattle.std.specs.Prelude.{◌≡◌, ℕ, List};
 ghost use Rattle.std.specs.declared.option.Option.{Option};
-ghost use Rattle.peer_lock.specs.Answers.{IsSame, WithoutGate};
 ghost use Rattle.peer_step.specs.Answers.{is_quiet};
 ghost use Rattle.session_core.specs.Events.{SessionState, Mode, ReceivesItem, Settles, Validates, Listens, in_phase, turn_done, is_issued, item_in};
-ghost use Rattle.session_core.specs.Session.{side, KnowsFull};
-ghost use Rattle.session_core.specs.Pieces.{GetsTo, MakesStep, IsStepFault, LooksAt, SettledOnce, ValidatedOnce};
+ghost use Rattle.session_core.specs.Session.{side};
+ghost use Rattle.session_core.specs.Pieces.{KeepsPass, GetsTo, MakesStep, LooksAt, SettledOnce, ValidatedOnce};
 
 use crate::fault::SessionFault;
 use edit_message::Message;
@@ -24,10 +23,7 @@ fn make<R: Threads + Wait + Sync>(
     step: Step,
 ) -> Result<Answer, SessionFault>
     requires { pass.old.table ≡ shared.now }
-    ensures same { IsSame pass.old pass.new }
-    ensures gate { WithoutGate pass.old.view pass.new.view }
-    ensures full { KnowsFull pass.new result }
-    ensures kind { IfErr result IsStepFault }
+    ensures keeps { KeepsPass pass.old pass.new result }
     ensures makes { MakesStep pass.old pass.new step result }
 {
     match shared.step(rt, alloc, pass, step) {
@@ -62,10 +58,7 @@ pub(crate) fn look<R: Threads + Wait + Sync>(
     mark: u32,
 ) -> Result<Option<Message>, SessionFault>
     requires { pass.old.table ≡ shared.now }
-    ensures same { IsSame pass.old pass.new }
-    ensures gate { WithoutGate pass.old.view pass.new.view }
-    ensures full { KnowsFull pass.new result }
-    ensures kind { IfErr result IsStepFault }
+    ensures keeps { KeepsPass pass.old pass.new result }
     ensures looks { LooksAt pass.old pass.new mark result }
 {
     match make(rt, alloc, shared, pass, Step::Look { from: mark }) {
@@ -85,10 +78,7 @@ fn settle_once<R: Threads + Wait + Sync>(
     pass: &mut Pass,
 ) -> Result<bool, SessionFault>
     requires { pass.old.table ≡ shared.now }
-    ensures same { IsSame pass.old pass.new }
-    ensures full { KnowsFull pass.new result }
-    ensures kind { IfErr result IsStepFault }
-    ensures grown { length pass.old.view.seen ≤ length pass.new.view.seen }
+    ensures keeps { KeepsPass pass.old pass.new result }
     ensures talk { (mode : Mode) (s : SessionState) (got sent : Option (List (List ℕ)))
         → SettledOnce mode s (side pass.old got sent) (side pass.new got sent) result }
 {
@@ -106,10 +96,7 @@ fn settle<R: Threads + Wait + Sync>(
     pass: &mut Pass,
 ) -> Result<(), SessionFault>
     requires { pass.old.table ≡ shared.now }
-    ensures same { IsSame pass.old pass.new }
-    ensures full { KnowsFull pass.new result }
-    ensures kind { IfErr result IsStepFault }
-    ensures grown { length pass.old.view.seen ≤ length pass.new.view.seen }
+    ensures keeps { KeepsPass pass.old pass.new result }
     ensures talk { (mode : Mode) (s : SessionState) (got sent : Option (List (List ℕ)))
         → GetsTo mode (in_phase Settles s) (side pass.old got sent) (side pass.new got sent) result (in_phase Listens s) }
 {
@@ -135,10 +122,7 @@ fn receive_once<R: Threads + Wait + Sync>(
     message: Message,
 ) -> Result<(), SessionFault>
     requires { pass.old.table ≡ shared.now }
-    ensures same { IsSame pass.old pass.new }
-    ensures full { KnowsFull pass.new result }
-    ensures kind { IfErr result IsStepFault }
-    ensures grown { length pass.old.view.seen ≤ length pass.new.view.seen }
+    ensures keeps { KeepsPass pass.old pass.new result }
     ensures talk { (mode : Mode) (s : SessionState) (got sent : Option (List (List ℕ)))
         → GetsTo mode (in_phase (ReceivesItem message) s) (side pass.old got sent) (side pass.new got sent) result (in_phase Settles s) }
 {
@@ -160,10 +144,7 @@ pub(crate) fn take_item<R: Threads + Wait + Sync>(
     message: Message,
 ) -> Result<(), SessionFault>
     requires { pass.old.table ≡ shared.now }
-    ensures same { IsSame pass.old pass.new }
-    ensures full { KnowsFull pass.new result }
-    ensures kind { IfErr result IsStepFault }
-    ensures grown { length pass.old.view.seen ≤ length pass.new.view.seen }
+    ensures keeps { KeepsPass pass.old pass.new result }
     ensures talk { (mode : Mode) (s : SessionState) (got sent : Option (List (List ℕ)))
         → GetsTo mode (in_phase (ReceivesItem message) s) (side pass.old got sent) (side pass.new got sent) result (in_phase Listens s) }
 {
@@ -181,10 +162,7 @@ fn validate_once<R: Threads + Wait + Sync>(
     pass: &mut Pass,
 ) -> Result<bool, SessionFault>
     requires { pass.old.table ≡ shared.now }
-    ensures same { IsSame pass.old pass.new }
-    ensures full { KnowsFull pass.new result }
-    ensures kind { IfErr result IsStepFault }
-    ensures grown { length pass.old.view.seen ≤ length pass.new.view.seen }
+    ensures keeps { KeepsPass pass.old pass.new result }
     ensures talk { (mode : Mode) (s : SessionState) (got sent : Option (List (List ℕ)))
         → ValidatedOnce mode s (side pass.old got sent) (side pass.new got sent) result }
 {
@@ -202,10 +180,7 @@ pub(crate) fn validate<R: Threads + Wait + Sync>(
     pass: &mut Pass,
 ) -> Result<(), SessionFault>
     requires { pass.old.table ≡ shared.now }
-    ensures same { IsSame pass.old pass.new }
-    ensures full { KnowsFull pass.new result }
-    ensures kind { IfErr result IsStepFault }
-    ensures grown { length pass.old.view.seen ≤ length pass.new.view.seen }
+    ensures keeps { KeepsPass pass.old pass.new result }
     ensures talk { (mode : Mode) (s : SessionState) (got sent : Option (List (List ℕ)))
         → GetsTo mode (in_phase Validates s) (side pass.old got sent) (side pass.new got sent) result (turn_done mode s) }
 {

@@ -1,7 +1,7 @@
 //! A turn, each way.
-ghost use Rattle.std.specs.Prelude.{◌≡◌, ◌+◌, ◌≤◌, length};
+ghost use Rattle.std.specs.Prelude.{◌≡◌, ◌+◌, ◌≤◌, length, IfErr};
 ghost use Rattle.peer_lock.specs.Answers.{IsSame};
-ghost use Rattle.session_core.specs.Session.{side, closed_by, faults_after_session, KnowsFull};
+ghost use Rattle.session_core.specs.Session.{side, closed_by, faults_after_session, FullIsKnown};
 ghost use Rattle.session_core.specs.Pieces.{TurnOut, TurnIn};
 
 use crate::fault::SessionFault;
@@ -26,7 +26,7 @@ pub(crate) fn send_turn<L: Link, R: Threads + Wait + Sync>(
     requires own { pass.old.table ≡ shared.now }
     requires few { mark ≤ length pass.old.view.seen }
     ensures same { IsSame pass.old pass.new }
-    ensures full { KnowsFull pass.new result }
+    ensures full { IfErr result (FullIsKnown pass.new.view) }
     ensures closes { L.closes link.new ≡ L.closes link.old + closed_by result }
     ensures faults { L.faults link.new ≡ faults_after_session (L.faults link.old) result }
     ensures grown { length pass.old.view.seen ≤ length pass.new.view.seen }
@@ -62,7 +62,7 @@ pub(crate) fn receive_turn<L: Link, R: Threads + Wait + Sync>(
 ) -> Result<bool, SessionFault>
     requires own { pass.old.table ≡ shared.now }
     ensures same { IsSame pass.old pass.new }
-    ensures full { KnowsFull pass.new result }
+    ensures full { IfErr result (FullIsKnown pass.new.view) }
     ensures closes { L.closes link.new ≡ L.closes link.old + closed_by result }
     ensures faults { L.faults link.new ≡ faults_after_session (L.faults link.old) result }
     ensures grown { length pass.old.view.seen ≤ length pass.new.view.seen }

@@ -1,10 +1,11 @@
 use Rattle.std.proofs.Common.{◌≡◌, ℕ, ◌+◌, ◌<◌, Bool, true, false, Some, Ok, refl, sym, ap, subst, arith, ne_eqb, eq-eqb, if◌then◌else◌}
 use Rattle.edit_frame.specs.declared.frame.Frame.TheVariants as frames
 use Rattle.edit_frame.specs.Spelling.{spelling}
+use Rattle.peer_lock.proofs.Passing.{same_self, same_then}
 use Rattle.session_core.specs.Events.{SessionState, Mode, Phase, Listens, Looks, SendsEnd, Finished, in_phase, dialling, phase_after_turns}
 use Rattle.session_core.specs.Session.{side, Side, Talked}
 use Rattle.session_core.specs.Pieces.{TurnIn}
-use Rattle.session_core.proofs.Talks.{same_self, same_then, talked_none, talked_then, talked_went, cut_then}
+use Rattle.session_core.proofs.Talks.{talked_none, talked_then, talked_went, cut_then}
 use Rattle.session_core.proofs.dialling.dial_link.Goals as goal
 
 -- a side between two rounds, after so many items and rounds

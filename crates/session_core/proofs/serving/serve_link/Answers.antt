@@ -1,8 +1,9 @@
 use Rattle.std.proofs.Common.{◌≡◌, ◌+◌, Bool, true, false, Ok, refl, subst, arith}
+use Rattle.peer_lock.proofs.Passing.{same_self, same_then}
 use Rattle.session_core.specs.Events.{Finished, in_phase, serving}
 use Rattle.session_core.specs.Session.{side, Side}
 use Rattle.session_core.specs.Pieces.{TurnIn, listening_from, looking_from}
-use Rattle.session_core.proofs.Talks.{same_self, same_then, talked_none, talked_then, cut_then}
+use Rattle.session_core.proofs.Talks.{talked_none, talked_then, cut_then}
 use Rattle.session_core.proofs.serving.serve_link.Goals as goal
 
 turn_in : (v : Bool) (a b : Side) (q q' : Bool) → q ≡ q' → TurnIn v a b (Ok q) → TurnIn v a b (Ok q')

@@ -1,7 +1,8 @@
 use Rattle.std.proofs.Common.{arith, subst}
+use Rattle.peer_lock.proofs.Passing.{same_then}
 use Rattle.session_core.specs.Events.{Validates, in_phase, turn_done, after_validation}
 use Rattle.session_core.specs.Session.{side, Talked}
-use Rattle.session_core.proofs.Talks.{same_then, talked_then, cut_then}
+use Rattle.session_core.proofs.Talks.{talked_then, cut_then}
 use Rattle.session_core.proofs.steps.validate.Goals as goal
 
 pub returns-in-Ok-false-clause-talk : goal.returns-in-Ok-false-clause-talk
@@ -19,8 +20,8 @@ returns-in-Err-clause-talk g c = λ mode s got sent.
 
 pub loop-preserved : goal.loop-preserved
 loop-preserved g c = record {
-  same = same_then c.args.pass.now c.loop.pass c.validate_once.new.pass c.loop.invariant.same c.validate_once.ensures.same;
-  grown = omega (arith, c.loop.invariant.grown, c.validate_once.ensures.grown);
+  same = same_then c.args.pass.now c.loop.pass c.validate_once.new.pass c.loop.invariant.same c.validate_once.ensures.keeps.same;
+  grown = omega (arith, c.loop.invariant.grown, c.validate_once.ensures.keeps.grown);
   talk = λ mode s got sent.
       let a = side c.args.pass.now got sent in
       let b = side c.loop.pass got sent in

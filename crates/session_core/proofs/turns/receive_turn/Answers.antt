@@ -1,9 +1,10 @@
 use Rattle.std.proofs.Common.{◌≡◌, ◌+◌, Ok, refl, sym, ap, ◌∙◌, subst, arith}
 use Rattle.edit_frame.specs.declared.frame.Frame.{Frame}
 use Rattle.edit_frame.specs.declared.frame.Frame.TheVariants as frames
+use Rattle.peer_lock.proofs.Passing.{same_self, same_then}
 use Rattle.session_core.specs.Events.{SessionState, Mode, Listens, ReceivesItem, Validates, Finished, Hears, in_phase, turn_done, after_turn}
 use Rattle.session_core.specs.Session.{side}
-use Rattle.session_core.proofs.Talks.{same_self, same_then, talked_none, talked_then, cut_then}
+use Rattle.session_core.proofs.Talks.{talked_none, talked_then, cut_then}
 use Rattle.session_core.proofs.turns.receive_turn.Goals as goal
 
 -- a frame that is this one is heard as this one
@@ -21,8 +22,8 @@ loop-init g c = record {
 
 pub loop-preserved : goal.loop-preserved
 loop-preserved g c = record {
-  same = same_then c.args.pass.now c.loop.pass c.take_item.new.pass c.loop.invariant.same c.take_item.ensures.same;
-  grown = omega (arith, c.loop.invariant.grown, c.take_item.ensures.grown);
+  same = same_then c.args.pass.now c.loop.pass c.take_item.new.pass c.loop.invariant.same c.take_item.ensures.keeps.same;
+  grown = omega (arith, c.loop.invariant.grown, c.take_item.ensures.keeps.grown);
   closes = omega (arith, c.loop.invariant.closes, c.in-Ok-Item.ensures.closes);
   faults = omega (arith, c.loop.invariant.faults, c.in-Ok-Item.ensures.faults);
   talk = λ mode s.
