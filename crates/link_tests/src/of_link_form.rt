@@ -18,10 +18,20 @@ pub(crate) const TURN: &[u8] = b"\x00\x00\x00\x02\x01\x05";
 
 pub(crate) const END: &[u8] = b"\x00\x00\x00\x02\x01\x06";
 
-/// A run with one link: the step lines, the messages that come over the link, which call of it fails and which of the
+/// The form that is run.
+#[derive(Clone, Copy)]
+enum Form {
+    /// Serves one link at the administrator's site.
+    Serve,
+    /// Dials for one round at user 1's site.
+    Dial,
+}
+
+/// A run with one link: the form, the step lines, the messages that come over the link, which call of it fails and which of the
 /// door (none where it is 0), what is written and with which status, and how many messages were sent.
 #[derive(Clone, Copy)]
 struct Row {
+    form: Form,
     input: &'static [u8],
     messages: &'static [&'static [u8]],
     link_fails: u64,
@@ -66,8 +76,8 @@ fn door_of(alloc: Global, row: &Row) -> Result<MemDoor, AllocError>
     Ok(MemDoor::new(links, fails(alloc, row.door_fails)?))
 }
 
-// Serves one link at the administrator's site, and tells the status, what was written, and how many messages were sent.
-fn serve_one<R: Threads + Wait + Sync>(
+// Runs the form of a row, and tells the status, what was written, and how many messages were sent.
+fn run<R: Threads + Wait + Sync>(
     rt: &R,
     alloc: Global,
     row: &Row,
@@ -75,26 +85,16 @@ fn serve_one<R: Threads + Wait + Sync>(
     let mut door = door_of(alloc, row)?;
     let mut source = MemSource::new(Vec::from_slice(alloc, row.input)?, 7, Vec::new(alloc));
     let mut sink = MemSink::new(alloc, 64, Vec::new(alloc));
-    let status = serve_form(rt, alloc, 0, 7_000, 1, &mut source, &mut sink, &mut door);
-    let written = Vec::from_slice(alloc, sink.written())?;
-    Ok((status, written, sent_over(&door)))
-}
-
-// Dials for one round at user 1's site.
-fn dial_one<R: Threads + Wait + Sync>(
-    rt: &R,
-    alloc: Global,
-    row: &Row,
-) -> Result<(Status, Vec<u8>, usize), AllocError> {
-    let mut door = door_of(alloc, row)?;
-    let mut source = MemSource::new(Vec::from_slice(alloc, row.input)?, 7, Vec::new(alloc));
-    let mut sink = MemSink::new(alloc, 64, Vec::new(alloc));
-    let status = dial_form(rt, alloc, 1, 7_000, 1, &mut source, &mut sink, &mut door);
+    let status = match row.form {
+        Form::Serve => serve_form(rt, alloc, 0, 7_000, 1, &mut source, &mut sink, &mut door),
+        Form::Dial => dial_form(rt, alloc, 1, 7_000, 1, &mut source, &mut sink, &mut door),
+    };
     let written = Vec::from_slice(alloc, sink.written())?;
     Ok((status, written, sent_over(&door)))
 }
 
 const WHOLE: Row = Row {
+    form: Form::Serve,
     input: b"",
     messages: &[INSERT, TURN, END],
     link_fails: 0,
@@ -126,9 +126,22 @@ const BROKEN: Row = Row {
     ..WHOLE
 };
 
-// The rows of a side that serves. A whole session calls its link five times: the insert and the turn come, the insert
-// and a turn go, and the end comes.
-const SERVED: [Row; 10] = [
+// A dial that finds no more than an end.
+const DIALLED: Row = Row {
+    form: Form::Dial,
+    input: b"edit insert 0 x",
+    messages: &[END],
+    written: b"run 2\n\
+        0 edit insert 0 x => denied 0 none\n\
+        0 look 0 => no item\n\
+        show\nheld 0\n",
+    sent: 1,
+    ..WHOLE
+};
+
+// A whole session of one that serves calls its link five times: the insert and the turn come, the insert and a turn go, and
+// the end comes.
+const ROWS: [Row; 13] = [
     WHOLE,
     Row {
         messages: &[INSERT],
@@ -195,54 +208,31 @@ const SERVED: [Row; 10] = [
         sent: 0,
         ..WHOLE
     },
+    DIALLED,
+    Row {
+        input: b"edit insert 0 x\n\n",
+        status: Status::BadInput,
+        written: b"run 1\n\
+            0 edit insert 0 x => denied 0 none\n\
+            show\nheld 0\nbad line 2\n",
+        sent: 0,
+        ..DIALLED
+    },
+    Row {
+        door_fails: 1,
+        status: Status::LinkFault,
+        written: b"run 1\n\
+            0 edit insert 0 x => denied 0 none\n\
+            show\nheld 0\ndoor fault\n",
+        sent: 0,
+        ..DIALLED
+    },
 ];
 
 #[test]
-fn serves(rt: HostRuntime) -> Result<(), Fail> {
-    for row in SERVED {
-        let (status, written, sent) = serve_one(&rt, rt.alloc(), &row)?;
-        assert_eq!(rt; written.as_slice(), row.written);
-        assert_eq!(rt; status, row.status);
-        assert_eq!(rt; sent, row.sent);
-    }
-    Ok(())
-}
-
-#[test]
-fn dials(rt: HostRuntime) -> Result<(), Fail> {
-    let whole = Row {
-        input: b"edit insert 0 x",
-        messages: &[END],
-        written: b"run 2\n\
-            0 edit insert 0 x => denied 0 none\n\
-            0 look 0 => no item\n\
-            show\nheld 0\n",
-        sent: 1,
-        ..WHOLE
-    };
-    let rows = [
-        whole,
-        Row {
-            input: b"edit insert 0 x\n\n",
-            status: Status::BadInput,
-            written: b"run 1\n\
-                0 edit insert 0 x => denied 0 none\n\
-                show\nheld 0\nbad line 2\n",
-            sent: 0,
-            ..whole
-        },
-        Row {
-            door_fails: 1,
-            status: Status::LinkFault,
-            written: b"run 1\n\
-                0 edit insert 0 x => denied 0 none\n\
-                show\nheld 0\ndoor fault\n",
-            sent: 0,
-            ..whole
-        },
-    ];
-    for row in rows {
-        let (status, written, sent) = dial_one(&rt, rt.alloc(), &row)?;
+fn runs_over_one_link(rt: HostRuntime) -> Result<(), Fail> {
+    for row in ROWS {
+        let (status, written, sent) = run(&rt, rt.alloc(), &row)?;
         assert_eq!(rt; written.as_slice(), row.written);
         assert_eq!(rt; status, row.status);
         assert_eq!(rt; sent, row.sent);

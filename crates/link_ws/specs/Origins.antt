@@ -2,12 +2,13 @@
 use Rattle.std.specs.Prelude.{ℕ, Bool, true, false, List, [], ◌∷◌, ◌==◌, ◌&&◌, ◌||◌, length, drop, codes}
 use Rattle.std.specs.Char.{is_ascii_digit}
 use Rattle.std.specs.List.{list_all, starts_with}
+use Rattle.link_ws.specs.declared.origin.TheConstants.{COLON}
 
 -- what may stand behind a host: nothing, or a colon and digits
 abbrev pub is_port : List ℕ → Bool
 is_port [] = true
-is_port (colon ∷ []) = false
-is_port (colon ∷ digits) = (colon == 58) && list_all is_ascii_digit digits
+is_port (byte ∷ []) = false
+is_port (byte ∷ digits) = (byte == COLON) && list_all is_ascii_digit digits
 
 -- an origin is this scheme and host, with any port
 abbrev pub is_origin_at : List ℕ → List ℕ → Bool

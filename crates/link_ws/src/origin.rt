@@ -10,6 +10,9 @@ use std::alloc::Global;
 use tungstenite::Callback;
 use tungstenite::handshake::server::ErrorResponse;
 
+// What stands between a host and its port.
+const COLON: u8 = b':';
+
 /// Takes a request that no page makes, or a page of this machine, and refuses any other one.
 #[derive(Drop)]
 pub(crate) struct LocalPages {
@@ -28,7 +31,7 @@ fn is_port(rest: &[u8]) -> bool
 {
     match rest {
         [] => true,
-        [b':', _, ..] => are_digits(&rest[1..]),
+        [COLON, _, ..] => are_digits(&rest[1..]),
         _ => false,
     }
 }

@@ -7,6 +7,7 @@ use crate::origin::LocalPages;
 use crate::ws_link::{WsLink, limits};
 use edit_io::{Door, Failed};
 use std::alloc::Global;
+use std::io;
 use std::marker::Model;
 use std::net::{Ipv4Addr, Net, SocketAddrV4, TcpListener, TcpStream};
 use std::random::RandomSource;
@@ -48,6 +49,15 @@ const MAX_STRAYS: u32 = 64;
 // How many seconds a program that connected has to ask for a link, and one that was connected to has to answer.
 const PATIENCE: u64 = 10;
 
+// How many random bytes one that asks for a link sends, for the other end to answer by.
+const NONCE: usize = 16;
+
+// What is read of a program that connected, or that was connected to, until it has asked or answered.
+fn hasty_stream<R: Clock + Drop>(rt: R, stream: TcpStream) -> io::Result<HastyStream<R>> {
+    let _ = stream.set_nodelay(true);
+    HastyStream::new(rt, stream, Duration::from_secs(PATIENCE))
+}
+
 // The link of a program that connected, if it asks for one in time.
 fn greeted<R: RandomSource + Clock + Drop + Copy>(
     rt: R,
@@ -56,8 +66,7 @@ fn greeted<R: RandomSource + Clock + Drop + Copy>(
 ) -> Result<TcpLink<R>, Error>
     ensures { IfOk result (λ link. link ≡ new_link) }
 {
-    let _ = stream.set_nodelay(true);
-    let hasty = HastyStream::new(rt, stream, Duration::from_secs(PATIENCE))?;
+    let hasty = hasty_stream(rt, stream)?;
     let config = limits();
     match server::start(alloc, hasty, LocalPages { alloc }, Some(config)).handshake() {
         Ok(socket) => {
@@ -104,10 +113,9 @@ fn connected<R: RandomSource + Clock + Drop + Copy>(
 ) -> Result<TcpLink<R>, Error>
     ensures { IfOk result (λ link. link ≡ new_link) }
 {
-    let _ = stream.set_nodelay(true);
-    let hasty = HastyStream::new(rt, stream, Duration::from_secs(PATIENCE))?;
+    let hasty = hasty_stream(rt, stream)?;
     let request = client::request_of(alloc, "ws://127.0.0.1/")?;
-    let mut nonce = [0; 16];
+    let mut nonce = [0; NONCE];
     rt.fill_bytes(&mut nonce)?;
     let keys = RandomKeys::new(rt);
     let handshake = client::start(alloc, nonce, keys, request, hasty, Some(limits()))?;

@@ -20,7 +20,8 @@ const BUFFER: usize = 4_096;
 ///
 /// Contracts see its counts. It answers pings while a call of `recv` waits, and at no other time. A text message,
 /// a message above [`MAX_MESSAGE`], a stream that ends without a close, and whatever else the socket refuses
-/// are failures. When `recv` fails the other end is told at once, by a close of the code 1002.
+/// are failures. When `recv` fails the other end is told at once, by a close of the code 1002. Only where its stream
+/// has ended it isn't told: if it still reads, it sees an end when the link is hung up.
 #[derive(Drop)]
 pub struct WsLink<S, K> {
     socket: WebSocket<S, K>,
@@ -59,7 +60,7 @@ fn next_binary<S: Read + Write + Drop, K: MaskKeys + Drop>(
                     Err(_) => Err(OutFail::NoMemory),
                 };
             }
-            Ok(Message::Ping(_)) | Ok(Message::Pong(_)) => {}
+            Ok(Message::Ping(_) | Message::Pong(_)) => {}
             Ok(Message::Text(_)) => return Err(OutFail::Failed),
             Ok(Message::Close(_)) => {
                 // The answer to the close leaves now, if it can.
@@ -134,7 +135,8 @@ impl<S: Read + Write + Drop, K: MaskKeys + Drop> WsLink<S, K> {
 
     /// Tells the other end that nothing more comes, if that can be told, and lets the socket go.
     ///
-    /// The close has the code 1000. After a failure it has 1002, and left already if it could.
+    /// The close has the code 1000. After a failure it has 1002, and left already if it could; where the other end's
+    /// stream has ended there is none.
     pub fn hang_up(self) {
         let WsLink {
             mut socket,
