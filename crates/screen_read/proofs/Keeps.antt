@@ -9,7 +9,7 @@ use Rattle.atomic_table.proofs.Lists.{at_set, set_here, set_else, set_again}
 use Rattle.screen_read.specs.declared.view.BoardRole.{BoardRole}
 use Rattle.screen_read.specs.declared.view.BoardRole.TheVariants.{Writer, Reader, Note}
 use Rattle.screen_read.specs.declared.view.BoardView.{BoardView}
-use Rattle.screen_read.specs.Pages.{PageText, IsAscending, AllBegin}
+use Rattle.screen_read.specs.Pages.{PageText, IsAscending, IsNewest, AllBegin}
 use Rattle.screen_read.specs.Rule.{word_of, AreThree, BoardState, LiesIn, NewestLiesIn, IsWriting, IsReading, FitsBoard, IsOneBoard, opener, with_reader, reader_of, note, told_by, arming, putting, relaxed, noticing, fetching, settling, BoardSeat, page_in, takes_slot, puts_page, looks_middle, fetches_page, settles}
 use Rattle.screen_read.specs.Moves.{IsReaderSeat, CanArm, CanPut}
 use Rattle.screen_read.proofs.Lists.{prefix_refl, prefix_more, at_end, all_begin_more, all_begin_one_more}
@@ -103,62 +103,49 @@ low_slot s k = let e = slot_in_word s k in let low = k.slots.0 in omega arith
 
 -- ---- the loads
 
+-- what a reader knows fits, once it has seen or was told other pages, or knows of the middle whether its page is due
+reader_fits : (b : BoardState) (hs : Homes) (i : ℕ) (v : BoardView) (seen : List PageText) (told : List (List PageText)) (due : Bool) → v.role ≡ Reader
+    → IsPrefix seen b.pages → AllBegin told b.pages → (due ≡ true → b.fresh ≡ true) → FitsBoard b hs i v → FitsBoard b hs i (record v { seen = seen; told = told; due = due })
+reader_fits b hs i v seen told due role begins all fresh fit = record {
+  seen = begins;
+  told = all;
+  found = fit.found;
+  writes = λ e. absurd (one_role v.role e role);
+  reads = λ e. let t = fit.reads e in record { seat = t.seat; slot = t.slot; unarmed = t.unarmed; found = t.found; due = fresh };
+}
+
+-- one view is another, and all else stays
+stood : (s : St) (k : IsOneBoard s) (id : ℕ) (v w : BoardView) → get_elem? s.views id ≡ some v → w.alone ≡ false → FitsBoard k.board s.homes id w → IsOneBoard (table s.words s.homes (set s.views id w))
+stood s k id v w at paired mine = moved s k id v w k.board s.words s.homes at paired k.words k.slots k.ascending k.middle k.newest (λ j u _ _ fit. fit) mine
+
+-- so it is after a load that takes no slot
+loaded : (s : St) (k : IsOneBoard s) (id : ℕ) (v w : BoardView) → get_elem? s.views id ≡ some v → w.alone ≡ false → FitsBoard k.board s.homes id w
+    → IsOneBoard (table (set s.words 0 (get_or s.words 0 0)) s.homes (set s.views id w))
+loaded s k id v w at paired mine = subst (λ (ws : List ℕ). IsOneBoard (table ws s.homes (set s.views id w))) (sym (set-get_or s.words 0 0)) (stood s k id v w at paired mine)
+
 pub settles_at : (slots id : ℕ) (m : BoardSeat) (slot : ℕ) → IsReaderSeat m slot → Allows IsOneBoard slots id m 0 (λ n. n) (settles (step slots 0 0 0 none) m)
 settles_at slots id m slot r s k wide at small =
     let f = k.fits id m.0 at in
-    let reading = f.reads r.role in
-    let w = settling m.0 in
-    let mine : FitsBoard k.board s.homes id w = record {
-      seen = f.found;
-      told = tt;
-      found = f.found;
-      writes = λ e. absurd (one_role m.0.role e r.role);
-      reads = λ _. record { seat = reading.seat; slot = reading.slot; unarmed = reading.unarmed; found = reading.found; due = reading.due };
-    } in (
-      w,
-      keeps,
-      tt,
-      moved s k id m.0 w k.board (set s.words 0 (get_or s.words 0 0)) s.homes at r.paired (set-get_or s.words 0 0 ∙ k.words) k.slots k.ascending k.middle k.newest (λ j u _ _ fit. fit) mine,
-      refl,
-    )
+    let mine : FitsBoard k.board s.homes id (settling m.0) = reader_fits k.board s.homes id m.0 m.0.found [] m.0.due r.role f.found tt (f.reads r.role).due f in
+    (settling m.0, keeps, tt, loaded s k id m.0 (settling m.0) at r.paired mine, refl)
 
 pub looks_at : (slots id : ℕ) (m : BoardSeat) (slot : ℕ) → IsReaderSeat m slot → Allows IsOneBoard slots id m 0 (λ n. n) (looks_middle (step slots 0 0 0 none) m)
 looks_at slots id m slot r s k wide at small =
     let f = k.fits id m.0 at in
-    let reading = f.reads r.role in
     ⊎_elim
     (λ (yes : k.board.fresh ≡ true).
-    let w = noticing m.0 in
-    let e = fresh_word s k yes in (
-      w,
-      keeps,
-      tt,
-      moved s k id m.0 w k.board (set s.words 0 (get_or s.words 0 0)) s.homes at r.paired (set-get_or s.words 0 0 ∙ k.words) k.slots k.ascending k.middle k.newest (λ j u _ _ fit. fit)
-          record {
-            seen = f.seen;
-            told = f.told;
-            found = f.found;
-            writes = λ e. absurd (one_role m.0.role e r.role);
-            reads = λ _. record { seat = reading.seat; slot = reading.slot; unarmed = reading.unarmed; found = reading.found; due = λ _. yes };
-          },
-      ((λ low. absurd (omega arith)), (λ _. refl)),
-    ))
+    let e = fresh_word s k yes in
+    let mine : FitsBoard k.board s.homes id (noticing m.0) = reader_fits k.board s.homes id m.0 m.0.seen m.0.told true r.role f.seen f.told (λ _. yes) f in
+    (noticing m.0, keeps, tt, loaded s k id m.0 (noticing m.0) at r.paired mine, ((λ low. absurd (omega arith)), (λ _. refl))))
     (λ (no : k.board.fresh ≡ false).
-    let w = relaxed m.0 in
     let e = stale_word s k no in
     let low = k.slots.0 in
-    let all : m.0.found ≡ k.board.pages = reading.found no in (
-      w,
+    let all : m.0.found ≡ k.board.pages = (f.reads r.role).found no in
+    let mine : FitsBoard k.board s.homes id (relaxed m.0) = reader_fits k.board s.homes id m.0 m.0.seen m.0.told false r.role f.seen f.told (λ d. absurd (true≢false (sym d))) f in (
+      relaxed m.0,
       keeps,
       tt,
-      moved s k id m.0 w k.board (set s.words 0 (get_or s.words 0 0)) s.homes at r.paired (set-get_or s.words 0 0 ∙ k.words) k.slots k.ascending k.middle k.newest (λ j u _ _ fit. fit)
-          record {
-            seen = f.seen;
-            told = f.told;
-            found = f.found;
-            writes = λ e. absurd (one_role m.0.role e r.role);
-            reads = λ _. record { seat = reading.seat; slot = reading.slot; unarmed = reading.unarmed; found = reading.found; due = λ d. absurd (true≢false (sym d)) };
-          },
+      loaded s k id m.0 (relaxed m.0) at r.paired mine,
       (
         (λ _. (record { seen = subst (IsPrefix m.0.seen) (sym all) f.seen; told = subst (AllBegin m.0.told) (sym all) f.told; ascending = subst IsAscending (sym all) k.ascending }, refl)),
         (λ high. absurd (omega arith)),
@@ -177,55 +164,74 @@ else_fits b hs i j u x paired writing reading fit = record {
   reads = λ e. let t = fit.reads e in record { seat = t.seat; slot = t.slot; unarmed = λ no. newest_else hs b.reading i x u.found (reading t) (t.unarmed no); found = t.found; due = t.due };
 }
 
+-- a seat may take its slot, which has this page: it is neither the one in the middle nor that of the other end
+record CanTake (s : St) (k : IsOneBoard s) (id : ℕ) (v : BoardView) : Type 0 where
+  page : PageText
+  lies : get_elem? s.homes v.slot ≡ some (some page)
+  middle : k.board.middle ≢ v.slot
+  writing : (j : ℕ) (u : BoardView) → j ≢ id → IsWriting k.board s.homes j u → k.board.writing ≢ v.slot
+  reading : (j : ℕ) (u : BoardView) → j ≢ id → IsReading k.board s.homes j u → k.board.reading ≢ v.slot
+  mine : FitsBoard k.board (set s.homes v.slot none) id (arming v)
+  newest : v.role ≡ Reader → IsNewest v.found page
+
+arms : (slots id : ℕ) (v : BoardView) → v.alone ≡ false → ((s : St) (k : IsOneBoard s) → get_elem? s.views id ≡ some v → CanTake s k id v)
+    → Allows IsOneBoard slots id (v, []) 0 (λ n. n) (takes_slot (step slots 0 0 0 none) (v, []))
+arms slots id v paired can s k wide at small =
+    let t = can s k at in (
+      arming v,
+      takes v.slot t.page,
+      t.lies,
+      moved s k id v (arming v) k.board (set s.words 0 (get_or s.words 0 0)) (set s.homes v.slot none) at paired (set-get_or s.words 0 0 ∙ k.words) k.slots k.ascending
+          (lies_else s.homes k.board.middle v.slot none t.middle k.middle)
+          (λ yes. newest_else s.homes k.board.middle v.slot none k.board.pages t.middle (k.newest yes))
+          (λ j u other single fit. else_fits k.board s.homes v.slot j u none single (t.writing j u other) (t.reading j u other) fit)
+          t.mine,
+      (t.page, refl, t.newest),
+    )
+
 arms_writer : (slots id : ℕ) (v : BoardView) → v.role ≡ Writer → v.armed ≡ false → v.alone ≡ false → Allows IsOneBoard slots id (v, []) 0 (λ n. n) (takes_slot (step slots 0 0 0 none) (v, []))
-arms_writer slots id v role unarmed paired s k wide at small =
+arms_writer slots id v role unarmed paired = arms slots id v paired (λ s k at.
     let f = k.fits id v at in
     let t = f.writes role in
     let l = t.unarmed unarmed in
-    let w = arming v in
     let apart : (b : ℕ) → b ≢ k.board.writing → b ≢ v.slot = λ b n e. n (e ∙ t.slot) in
-    let mine : FitsBoard k.board (set s.homes v.slot none) id w = record {
-      seen = f.seen;
-      told = f.told;
-      found = f.found;
-      writes = λ _. record { seat = t.seat; pages = t.pages; slot = t.slot; unarmed = λ no. absurd (true≢false no); alone = λ yes. absurd (not_both v.alone yes paired) };
-      reads = λ e. absurd (one_role v.role role e);
-    } in (
-      w,
-      takes v.slot l.0,
-      ap (λ (i : ℕ). get_elem? s.homes i) t.slot ∙ l.1,
-      moved s k id v w k.board (set s.words 0 (get_or s.words 0 0)) (set s.homes v.slot none) at paired (set-get_or s.words 0 0 ∙ k.words) k.slots k.ascending
-          (lies_else s.homes k.board.middle v.slot none (apart k.board.middle k.slots.3) k.middle)
-          (λ yes. newest_else s.homes k.board.middle v.slot none k.board.pages (apart k.board.middle k.slots.3) (k.newest yes))
-          (λ j u other single fit. else_fits k.board s.homes v.slot j u none single (λ too. absurd (other (too.seat ∙ sym t.seat))) (λ _. apart k.board.reading (λ e. k.slots.5 (sym e))) fit)
-          mine,
-      (l.0, refl, λ e. absurd (one_role v.role role e)),
-    )
+    record {
+      page = l.0;
+      lies = ap (λ (i : ℕ). get_elem? s.homes i) t.slot ∙ l.1;
+      middle = apart k.board.middle k.slots.3;
+      writing = λ j u other too. absurd (other (too.seat ∙ sym t.seat));
+      reading = λ j u other too. apart k.board.reading (λ e. k.slots.5 (sym e));
+      mine = record {
+        seen = f.seen;
+        told = f.told;
+        found = f.found;
+        writes = λ _. record { seat = t.seat; pages = t.pages; slot = t.slot; unarmed = λ no. absurd (true≢false no); alone = λ yes. absurd (not_both v.alone yes paired) };
+        reads = λ e. absurd (one_role v.role role e);
+      };
+      newest = λ e. absurd (one_role v.role role e);
+    })
 
 arms_reader : (slots id : ℕ) (v : BoardView) → v.role ≡ Reader → v.armed ≡ false → v.alone ≡ false → Allows IsOneBoard slots id (v, []) 0 (λ n. n) (takes_slot (step slots 0 0 0 none) (v, []))
-arms_reader slots id v role unarmed paired s k wide at small =
+arms_reader slots id v role unarmed paired = arms slots id v paired (λ s k at.
     let f = k.fits id v at in
     let t = f.reads role in
     let l = t.unarmed unarmed in
-    let w = arming v in
     let apart : (b : ℕ) → b ≢ k.board.reading → b ≢ v.slot = λ b n e. n (e ∙ t.slot) in
-    let mine : FitsBoard k.board (set s.homes v.slot none) id w = record {
-      seen = f.seen;
-      told = f.told;
-      found = f.found;
-      writes = λ e. absurd (one_role v.role e role);
-      reads = λ _. record { seat = t.seat; slot = t.slot; unarmed = λ no. absurd (true≢false no); found = t.found; due = t.due };
-    } in (
-      w,
-      takes v.slot l.0,
-      ap (λ (i : ℕ). get_elem? s.homes i) t.slot ∙ l.1,
-      moved s k id v w k.board (set s.words 0 (get_or s.words 0 0)) (set s.homes v.slot none) at paired (set-get_or s.words 0 0 ∙ k.words) k.slots k.ascending
-          (lies_else s.homes k.board.middle v.slot none (apart k.board.middle k.slots.4) k.middle)
-          (λ yes. newest_else s.homes k.board.middle v.slot none k.board.pages (apart k.board.middle k.slots.4) (k.newest yes))
-          (λ j u other single fit. else_fits k.board s.homes v.slot j u none single (λ _. apart k.board.writing k.slots.5) (λ too. absurd (other (too.seat ∙ sym t.seat))) fit)
-          mine,
-      (l.0, refl, λ _. l.2),
-    )
+    record {
+      page = l.0;
+      lies = ap (λ (i : ℕ). get_elem? s.homes i) t.slot ∙ l.1;
+      middle = apart k.board.middle k.slots.4;
+      writing = λ j u other too. apart k.board.writing k.slots.5;
+      reading = λ j u other too. absurd (other (too.seat ∙ sym t.seat));
+      mine = record {
+        seen = f.seen;
+        told = f.told;
+        found = f.found;
+        writes = λ e. absurd (one_role v.role e role);
+        reads = λ _. record { seat = t.seat; slot = t.slot; unarmed = λ no. absurd (true≢false no); found = t.found; due = t.due };
+      };
+      newest = λ _. l.2;
+    })
 
 pub arms_at : (slots id : ℕ) (m : BoardSeat) → CanArm m → Allows IsOneBoard slots id m 0 (λ n. n) (takes_slot (step slots 0 0 0 none) m)
 arms_at slots id m can = subst (λ (c : List (ℕ × PageText)). Allows IsOneBoard slots id (m.0, c) 0 (λ n. n) (takes_slot (step slots 0 0 0 none) (m.0, c))) (sym can.bare)
@@ -458,37 +464,13 @@ tells id v paired s k at =
         let here : id ≡ i = k.alone i id u v there is at in
         some-injective u v (sym there ∙ ap (λ (n : ℕ). get_elem? s.views n) (sym here) ∙ at)
 
-pub learns : (id : ℕ) (v : BoardView) (other : ℕ) (w : BoardView) → v.alone ≡ false → Joins IsOneBoard id v other w (told_by v w) (note [])
-learns id v other w paired s k at apart there =
+pub learns : (id : ℕ) (v : BoardView) (other : ℕ) (w : BoardView) → v.role ≡ Reader → v.alone ≡ false → Joins IsOneBoard id v other w (told_by v w) (note [])
+learns id v other w role paired s k at apart there =
     let f = k.fits id v at in
     let both : BoardView = told_by v w in
     let views : List BoardView = set s.views id both in
     let theirs : get_elem? s.views other ≡ some w = ⊎_elim (λ (t : (other ≡ id) × (both ≡ w)). absurd (apart t.0)) (λ (t : (other ≢ id) × (get_elem? s.views other ≡ some w)). t.1) (at_set s.views id other both w there) in
-    let g = k.fits other w theirs in
-    let mine : FitsBoard k.board s.homes id both = record {
-      seen = f.seen;
-      told = all_begin_one_more v.told w.seen k.board.pages f.told g.seen;
-      found = f.found;
-      writes = λ e. let t = f.writes e in record { seat = t.seat; pages = t.pages; slot = t.slot; unarmed = t.unarmed; alone = t.alone };
-      reads = λ e. let t = f.reads e in record { seat = t.seat; slot = t.slot; unarmed = t.unarmed; found = t.found; due = t.due };
-    } in
-    record {
-      board = k.board;
-      words = k.words;
-      slots = k.slots;
-      ascending = k.ascending;
-      middle = k.middle;
-      newest = k.newest;
-      fits = λ i u e. ⊎_elim (λ (t : (i ≡ other) × (note [] ≡ u)). subst (FitsBoard k.board s.homes i) t.1 (note_fits k.board s.homes i [] (k.board.pages, refl)))
-          (λ (t : (i ≢ other) × (get_elem? views i ≡ some u)). ⊎_elim
-          (λ (h : (i ≡ id) × (both ≡ u)). subst (λ (n : ℕ). FitsBoard k.board s.homes n u) (sym h.0) (subst (FitsBoard k.board s.homes id) h.1 mine))
-          (λ (h : (i ≢ id) × (get_elem? s.views i ≡ some u)). k.fits i u h.1)
-          (at_set s.views id i both u t.1))
-          (at_set views other i (note []) u e);
-      alone = λ i j u x e is _. ⊎_elim (λ (t : (i ≡ other) × (note [] ≡ u)). absurd (true≢false (sym is ∙ sym (ap (λ (z : BoardView). z.alone) t.1))))
-          (λ (t : (i ≢ other) × (get_elem? views i ≡ some u)). ⊎_elim
-          (λ (h : (i ≡ id) × (both ≡ u)). absurd (not_both v.alone (ap (λ (z : BoardView). z.alone) h.1 ∙ is) paired))
-          (λ (h : (i ≢ id) × (get_elem? s.views i ≡ some u)). absurd (h.0 (sym (k.alone i id u v h.1 is at))))
-          (at_set s.views id i both u t.1))
-          (at_set views other i (note []) u e);
-    }
+    let told = all_begin_one_more v.told w.seen k.board.pages f.told (k.fits other w theirs).seen in
+    let mine : FitsBoard k.board s.homes id both = reader_fits k.board s.homes id v v.seen (v.told ++ w.seen ∷ []) v.due role f.seen told (f.reads role).due f in
+    let taken : IsOneBoard (table s.words s.homes views) = stood s k id v both at paired mine in
+    stood (table s.words s.homes views) taken other w (note []) there refl (note_fits taken.board s.homes other [] (taken.board.pages, refl))

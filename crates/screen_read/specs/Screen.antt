@@ -9,7 +9,7 @@ use Rattle.peer_lock.specs.declared.call.Call.{Call}
 use Rattle.peer_lock.specs.declared.view.View.{View}
 use Rattle.peer_lock.specs.Run.{peer_after_run, StartsWith}
 use Rattle.peer_lock.specs.KnownPass.{KnownPass}
-use Rattle.peer_lock.specs.Answers.{Stepped}
+use Rattle.peer_lock.specs.Answers.{KnowsFull, Stepped}
 use Rattle.screen_read.specs.declared.fail.ScreenFail.{ScreenFail}
 use Rattle.screen_read.specs.declared.fail.ScreenFail.TheVariants.{RunFull, NoMemory}
 use Rattle.screen_read.specs.Pages.{PageText, page_text, IsAscending}
@@ -56,7 +56,7 @@ StepsShow v w = (a : Answer) × Stepped v Show a w
 -- one Show step; none where the run is full; where memory was wanting it may have been made
 abbrev pub TriesShow : {A : Type 0} → View → Result A ScreenFail → View → Type 0
 TriesShow v (Ok x) w = StepsShow v w
-TriesShow v (Err RunFull) w = (w.seen ≡ v.seen) × (w.floor ≡ MAX_RUN)
+TriesShow v (Err RunFull) w = (w.seen ≡ v.seen) × KnowsFull w
 TriesShow v (Err NoMemory) w = StepsShow v w ⊎ ((w.seen ≡ v.seen) × (v.floor ≤ w.floor) × (w.floor < MAX_RUN))
 
 -- a screen and its reader begin with the page of the pass
