@@ -1,5 +1,7 @@
 -- Which count of faults rose, by why a run stopped.
-use Rattle.std.proofs.Common.{◌≡◌, ◌⊎◌, ⊎_elim, ℕ, ◌≤◌, List, Option, Result, Ok, Err, IfErr, refl, sym, ap, ◌∙◌, subst, arith}
+use Rattle.std.proofs.Common.{◌≡◌, ◌⊎◌, ⊎_elim, ℕ, ◌≤◌, Bool, false, List, Option, Result, Ok, Err, IfErr, refl, sym, ap, ◌∙◌, subst, arith}
+use Rattle.std.specs.Prelude.{if◌then◌else◌}
+use Rattle.edit_io.specs.Causes.{next_count}
 use Rattle.line_engine.specs.declared.status.Status.{Status}
 use Rattle.line_engine.specs.declared.status.Status.TheVariants as statuses
 use Rattle.line_engine.specs.Status.{IsSinkFail}
@@ -8,7 +10,7 @@ use Rattle.line_engine.specs.Engine.{Reads, StatusCause, Says}
 use Rattle.peer_step.specs.declared.step.Step.{Step}
 use Rattle.keep_form.specs.declared.stopped.Stopped.{Stopped}
 use Rattle.keep_form.specs.declared.stopped.Stopped.TheVariants.{BadLine, TooLong, ReadFault, WriteFault, NoMemory, DiskFault, BadStore, StoreFull}
-use Rattle.keep_form.specs.Stopping.{source_faults_at, sink_faults_at, ReadCause, WriteCause, KeepCause, TellCause}
+use Rattle.keep_form.specs.Stopping.{is_write_fault, CountsStops, ReadCause, WriteCause, KeepCause, TellCause}
 use Rattle.keep_form.specs.Reader.{StepsStop}
 use Rattle.keep_form.specs.Run.{stop_output}
 
@@ -24,19 +26,23 @@ stop_reads l r steps DiskFault h = absurd h
 stop_reads l r steps (BadStore offset) h = absurd h
 stop_reads l r steps StoreFull h = absurd h
 
-sink_stays : (l r : Option (List ℕ)) (steps : List Step) (stopped : Stopped) (before : ℕ) → StepsStop l r steps stopped → before ≡ sink_faults_at before stopped
-sink_stays l r steps (BadLine number) before h = refl
-sink_stays l r steps TooLong before h = refl
-sink_stays l r steps ReadFault before h = refl
-sink_stays l r steps NoMemory before h = refl
-sink_stays l r steps WriteFault before h = absurd h
-sink_stays l r steps DiskFault before h = absurd h
-sink_stays l r steps (BadStore offset) before h = absurd h
-sink_stays l r steps StoreFull before h = absurd h
+no_write : (l r : Option (List ℕ)) (steps : List Step) (stopped : Stopped) → StepsStop l r steps stopped → is_write_fault stopped ≡ false
+no_write l r steps (BadLine number) h = refl
+no_write l r steps TooLong h = refl
+no_write l r steps ReadFault h = refl
+no_write l r steps NoMemory h = refl
+no_write l r steps WriteFault h = absurd h
+no_write l r steps DiskFault h = absurd h
+no_write l r steps (BadStore offset) h = absurd h
+no_write l r steps StoreFull h = absurd h
+
+-- a count that stays counts no stop like this
+stays : {T : Type 0} (counts : Stopped → Bool) (before now : ℕ) (stopped : Stopped) → now ≡ before → counts stopped ≡ false → CountsStops {T = T} counts before now (Err stopped)
+stays counts before now stopped same none = record { later = omega (arith, same); counted = same ∙ ap (λ b. if b then next_count before else before) (sym none) }
 
 -- neither the sink nor the disk failed
 pub stop_write : {T : Type 0} (l r : Option (List ℕ)) (steps : List Step) (stopped : Stopped) (before now : ℕ) → StepsStop l r steps stopped → now ≡ before → WriteCause {T = T} before now (Err stopped)
-stop_write l r steps stopped before now h same = record { later = omega (arith, same); counted = same ∙ sink_stays l r steps stopped before h }
+stop_write l r steps stopped before now h same = stays is_write_fault before now stopped same (no_write l r steps stopped h)
 
 no_disk : (l r : Option (List ℕ)) (steps : List Step) (stopped : Stopped) → StepsStop l r steps stopped → stopped ≡ DiskFault → ⊥
 no_disk l r steps stopped h e = let there : StepsStop l r steps DiskFault = subst (StepsStop l r steps) e h in there
@@ -46,13 +52,9 @@ stop_disk l r steps stopped before now h le = record { later = le; rose = λ e. 
 
 -- ---- where memory was wanting at the end
 
-pub quiet_read : {T : Type 0} (r : Result T Stopped) (before now : ℕ) → now ≡ before → IfErr r (λ stopped. stopped ≡ NoMemory) → ReadCause {T = T} before now r
-quiet_read (Ok x) before now same h = record { later = omega (arith, same); counted = same }
-quiet_read (Err stopped) before now same h = record { later = omega (arith, same); counted = same ∙ ap (source_faults_at before) (sym h) }
-
-pub quiet_write : {T : Type 0} (r : Result T Stopped) (before now : ℕ) → now ≡ before → IfErr r (λ stopped. stopped ≡ NoMemory) → WriteCause {T = T} before now r
-quiet_write (Ok x) before now same h = record { later = omega (arith, same); counted = same }
-quiet_write (Err stopped) before now same h = record { later = omega (arith, same); counted = same ∙ ap (sink_faults_at before) (sym h) }
+pub quiet : {T : Type 0} (counts : Stopped → Bool) (r : Result T Stopped) (before now : ℕ) → counts NoMemory ≡ false → now ≡ before → IfErr r (λ stopped. stopped ≡ NoMemory) → CountsStops counts before now r
+quiet counts (Ok x) before now none same h = record { later = omega (arith, same); counted = same }
+quiet counts (Err stopped) before now none same h = stays counts before now stopped same (ap counts h ∙ none)
 
 -- ---- by the status that is given
 
@@ -106,8 +108,5 @@ tells_write before mid now (BadStore offset) status w t = from_same before mid n
 tells_write before mid now StoreFull status w t = from_same before mid now status w.counted t
 
 -- the same stop of another call
-pub read_as : {T U : Type 0} (before now : ℕ) (stopped : Stopped) → ReadCause {T = T} before now (Err stopped) → ReadCause {T = U} before now (Err stopped)
-read_as before now stopped h = record { later = h.later; counted = h.counted }
-
-pub write_as : {T U : Type 0} (before now : ℕ) (stopped : Stopped) → WriteCause {T = T} before now (Err stopped) → WriteCause {T = U} before now (Err stopped)
-write_as before now stopped h = record { later = h.later; counted = h.counted }
+pub cause_as : {T U : Type 0} (counts : Stopped → Bool) (before now : ℕ) (stopped : Stopped) → CountsStops {T = T} counts before now (Err stopped) → CountsStops {T = U} counts before now (Err stopped)
+cause_as counts before now stopped h = record { later = h.later; counted = h.counted }

@@ -1,10 +1,10 @@
 -- What a put leaves of a run.
-use Rattle.std.proofs.Common.{◌≡◌, ◌⊎◌, inl, inr, ℕ, ◌≤◌, Bool, true, false, List, [], ◌∷◌, ◌++◌, Option, Some, None, Result, Ok, Err, IfSome, IfErr, refl, sym, ap, ◌∙◌, subst, append-nil}
+use Rattle.std.proofs.Common.{◌≡◌, ◌⊎◌, inl, inr, ℕ, ◌≤◌, Bool, true, false, List, [], ◌∷◌, ◌++◌, Option, Some, None, Result, Ok, Err, IfSome, IfErr, OnErr, take, refl, sym, ap, ◌∙◌, subst, append-nil}
 use Rattle.std.specs.Io.KnownBytes.{Appends}
 use Rattle.std.proofs.KnownBytes.{Appends-nil}
 use Rattle.element_name.specs.Cases.{when, first_of}
 use Rattle.line_engine.specs.Output.{Begins}
-use Rattle.line_engine.proofs.Bytes.{begun_none}
+use Rattle.line_engine.proofs.Bytes.{begun_none, begun_prefix}
 use Rattle.peer_disk.specs.Disk.{LeavesOnly}
 use Rattle.peer_step.specs.declared.step.Step.{Step}
 use Rattle.peer_step.specs.declared.answer.Answer.{Answer}
@@ -97,10 +97,10 @@ module _ (old new : Saved) (step : Step) (sink_old sink_new a b : Option (List �
   part_stops stopped (inl e) h = subst (λ (s : Stopped). AnswerStops s old new step sink_old sink_new a b before now) (sym e) (said_part h.0 h.1 h.2)
   part_stops stopped (inr e) h = subst (λ (s : Stopped). AnswerStops s old new step sink_old sink_new a b before now) (sym e) (said_part h.0 h.1 h.2)
 
-  pub lines_stop : {T : Type 0} (r : Result T Stopped) (line : List ℕ) → line ≡ replies_from old.peer (step ∷ []) → IfErr r (λ stopped. (part : List ℕ) × Begins part line × Appends sink_old sink_new part)
+  pub lines_stop : {T : Type 0} (r : Result T Stopped) (line : List ℕ) → line ≡ replies_from old.peer (step ∷ []) → OnErr r ((n : ℕ) × Appends sink_old sink_new (take n line))
       → IfErr r (λ stopped. (stopped ≡ WriteFault) ⊎ (stopped ≡ NoMemory)) → IfErr r (λ stopped. AnswerStops stopped old new step sink_old sink_new a b before now)
   lines_stop (Ok x) line is h k = tt
-  lines_stop (Err stopped) line is h k = part_stops stopped k (h.0, subst (Begins h.0) is h.1, h.2)
+  lines_stop (Err stopped) line is h k = part_stops stopped k (take h.0 line, begun_prefix line [] (replies_from old.peer (step ∷ [])) h.0 (sym is ∙ sym (append-nil line)), h.1)
 
 -- a put that was answered keeps its step
 pub put_kept : (old new : Saved) (step : Step) (answer : Answer) (a b : Option (List ℕ)) (before now : List ℕ → Type 0) → new.peer ≡ peer_after old.peer step → new.spent ≡ false

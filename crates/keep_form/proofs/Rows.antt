@@ -1,5 +1,5 @@
 -- How far a run came, from what was read, kept and written.
-use Rattle.std.proofs.Common.{◌≡◌, ◌⊎◌, inl, inr, ⊎_elim, ℕ, List, [], ◌∷◌, ◌++◌, Option, Some, None, refl, sym, ap, ◌∙◌, subst, append_assoc, append-nil, IfSome, IsSome}
+use Rattle.std.proofs.Common.{◌≡◌, ◌≢◌, ◌⊎◌, inl, inr, ⊎_elim, ℕ, List, [], ◌∷◌, ◌++◌, Option, Some, None, refl, sym, ap, ◌∙◌, subst, append_assoc, append-nil, IfSome, IsSome}
 use Rattle.std.specs.Io.KnownBytes.{Appends}
 use Rattle.std.proofs.KnownBytes.{Appends-nil, Appends-trans, Consumes-nil}
 use Rattle.line_engine.specs.declared.status.Status.{Status}
@@ -12,6 +12,7 @@ use Rattle.peer_core.specs.Peer.{Peer}
 use Rattle.peer_store.specs.Steps.{replay_of, if_changing}
 use Rattle.peer_store.specs.Store.{StandsFor, StandsWithOrWithout, Saved, IsSaved}
 use Rattle.report_text.specs.Closing.{closing_lines}
+use Rattle.step_input.specs.declared.reading.InputEnd.{InputEnd}
 use Rattle.step_input.specs.declared.reading.InputEnd.TheVariants as ends
 use Rattle.step_input.specs.Steps.{steps_of}
 use Rattle.keep_form.specs.declared.stopped.Stopped.{Stopped}
@@ -59,72 +60,51 @@ module _ (site : ℕ) (entry : Option (List ℕ)) (old : Saved) (seen_old : Opti
     stored told = disk_has site (opened.kept ++ changing_from old.peer made) now seen may (saved_now told)
 
     module _ (left_old left_new sink_old sink_new : Option (List ℕ)) (said : Appends sink_old sink_new (replies_from old.peer made)) where
+      -- reading ended so, all answers were written, and these lines are due
+      due : (out : Output) (end : InputEnd) (e : StepsEnd left_old left_new made end)
+          → ComesTo out.status out.written site entry e.input (replies_from old.peer made) left_old left_new seen may → ComesFor out site entry left_old left_new sink_old sink_new seen may
+      due out end e comes = record { input = e.input; told = e.ends.told; answered = replies_from old.peer made; appends = said; comes = comes }
+
+      -- they are those of all steps
+      abbrev all_made : (end : InputEnd) (e : StepsEnd left_old left_new made end) → end ≢ ends.ReadFault → end ≢ ends.NoMemory → HasMade site entry e.input
+      all_made end e read memory = run_of e.input [] (sym (e.ends.lists read memory) ∙ sym (append-nil made))
+
       -- the input ended
       pub row_whole : StepsEnd left_old left_new made ends.Whole
           → ComesFor (closing_output (closing_lines now.peer)) site entry left_old left_new sink_old sink_new seen may
-      row_whole end = record {
-        input = end.input;
-        told = end.ends.told;
-        answered = replies_from old.peer made;
-        appends = said;
-        comes = (
-          run_of end.input [] (sym (end.ends.lists (λ e. cc) (λ e. cc)) ∙ sym (append-nil made)),
-          sym (end.ends.ends (λ e. cc) (λ e. cc)),
-          refl,
-          end.ends.at_end refl,
-          refl,
-          ap closing_lines kept.after,
-          stored,
-        );
-      }
+      row_whole e = due (closing_output (closing_lines now.peer)) ends.Whole e (
+        all_made ends.Whole e (λ x. cc) (λ x. cc),
+        sym (e.ends.ends (λ x. cc) (λ x. cc)),
+        refl,
+        e.ends.at_end refl,
+        refl,
+        ap closing_lines kept.after,
+        stored,
+      )
 
       -- reading stopped
       pub row_stop : (stopped : Stopped) → StepsStop left_old left_new made stopped → ComesFor (stop_output stopped) site entry left_old left_new sink_old sink_new seen may
-      row_stop (BadLine number) end = record {
-        input = end.input;
-        told = end.ends.told;
-        answered = replies_from old.peer made;
-        appends = said;
-        comes = (
-          run_of end.input [] (sym (end.ends.lists (λ e. cc) (λ e. cc)) ∙ sym (append-nil made)),
-          (number, sym (end.ends.ends (λ e. cc) (λ e. cc)), refl),
-          refl,
-          refl,
-          stored,
-        );
-      }
-      row_stop TooLong end = record {
-        input = end.input;
-        told = end.ends.told;
-        answered = replies_from old.peer made;
-        appends = said;
-        comes = (
-          run_of end.input [] (sym (end.ends.lists (λ e. cc) (λ e. cc)) ∙ sym (append-nil made)),
-          sym (end.ends.ends (λ e. cc) (λ e. cc)),
-          refl,
-          refl,
-          refl,
-          stored,
-        );
-      }
-      row_stop ReadFault end = record {
-        input = end.input;
-        told = end.ends.told;
-        answered = replies_from old.peer made;
-        appends = said;
-        comes = (run_of end.input end.others end.first, end.ends.read_fault refl, refl, refl, stored);
-      }
-      row_stop NoMemory end = record {
-        input = end.input;
-        told = end.ends.told;
-        answered = replies_from old.peer made;
-        appends = said;
-        comes = (refl, inr (run_of end.input end.others end.first, begun_all (replies_from old.peer made), stored));
-      }
-      row_stop WriteFault end = absurd end
-      row_stop DiskFault end = absurd end
-      row_stop (BadStore offset) end = absurd end
-      row_stop StoreFull end = absurd end
+      row_stop (BadLine number) e = due (stop_output (BadLine number)) (ends.BadLine number) e (
+        all_made (ends.BadLine number) e (λ x. cc) (λ x. cc),
+        (number, sym (e.ends.ends (λ x. cc) (λ x. cc)), refl),
+        refl,
+        refl,
+        stored,
+      )
+      row_stop TooLong e = due (stop_output TooLong) ends.TooLong e (
+        all_made ends.TooLong e (λ x. cc) (λ x. cc),
+        sym (e.ends.ends (λ x. cc) (λ x. cc)),
+        refl,
+        refl,
+        refl,
+        stored,
+      )
+      row_stop ReadFault e = due (stop_output ReadFault) ends.ReadFault e (run_of e.input e.others e.first, e.ends.read_fault refl, refl, refl, stored)
+      row_stop NoMemory e = due (stop_output NoMemory) ends.NoMemory e (refl, inr (run_of e.input e.others e.first, begun_all (replies_from old.peer made), stored))
+      row_stop WriteFault e = absurd e
+      row_stop DiskFault e = absurd e
+      row_stop (BadStore offset) e = absurd e
+      row_stop StoreFull e = absurd e
 
   -- ---- the answer to one more step stops
 
@@ -172,46 +152,39 @@ module _ (site : ℕ) (entry : Option (List ℕ)) (old : Saved) (seen_old : Opti
             (stored new (made ++ cut.made) seen may whole);
       }
 
+    -- the step isn't answered, and these lines are due
+    unanswered : (out : Output) → sink_new ≡ sink_mid → ComesTo out.status out.written site entry started.0 (replies_from old.peer made) left_old left_new seen may
+        → ComesFor out site entry left_old left_new sink_old sink_new seen may
+    unanswered out same comes = record { input = started.0; told = started.1; answered = replies_from old.peer made; appends = same_sink same; comes = comes }
+
     pub row_one : (stopped : Stopped) → AnswerStops stopped mid new step sink_mid sink_new seen_mid seen may_mid may → ComesFor (stop_output stopped) site entry left_old left_new sink_old sink_new seen may
-    row_one DiskFault h = record {
-      input = started.0;
-      told = started.1;
-      answered = replies_from old.peer made;
-      appends = same_sink h.0;
-      comes = (
-        refl,
-        inr (
-          run_of mid made seen_mid may_mid kept started.0 (step ∷ started.2.0) next_is,
-          refl,
-          (
-            step,
-            started.2.0,
-            refl,
-            λ told. subst (λ (p : Peer). DiskHas (StandsWithOrWithout site (opened.kept ++ changing_from old.peer made) (if_changing p step)) seen may) kept.after
-                (h.1 site (opened.kept ++ changing_from old.peer made) (saved_now mid made seen_mid may_mid kept told)),
-          ),
-        ),
-      );
-    }
-    row_one StoreFull h = record {
-      input = started.0;
-      told = started.1;
-      answered = replies_from old.peer made;
-      appends = same_sink h.0;
-      comes = (
+    row_one DiskFault h = unanswered (stop_output DiskFault) h.0 (
+      refl,
+      inr (
         run_of mid made seen_mid may_mid kept started.0 (step ∷ started.2.0) next_is,
+        refl,
         (
           step,
           started.2.0,
           refl,
-          λ told. room_is site (opened.kept ++ changing_from old.peer made) mid seen_mid may_mid step (saved_now mid made seen_mid may_mid kept told) ∙ h.1,
+          λ told. subst (λ (p : Peer). DiskHas (StandsWithOrWithout site (opened.kept ++ changing_from old.peer made) (if_changing p step)) seen may) kept.after
+              (h.1 site (opened.kept ++ changing_from old.peer made) (saved_now mid made seen_mid may_mid kept told)),
         ),
+      ),
+    )
+    row_one StoreFull h = unanswered (stop_output StoreFull) h.0 (
+      run_of mid made seen_mid may_mid kept started.0 (step ∷ started.2.0) next_is,
+      (
+        step,
+        started.2.0,
         refl,
-        refl,
-        stored new made seen may (subst (λ (l : List Step). AreKept old new l seen_old seen may_old may) (append-nil made)
-            (more_kept old mid new made [] seen_old seen_mid seen may_old may_mid may kept h.2)),
-      );
-    }
+        λ told. room_is site (opened.kept ++ changing_from old.peer made) mid seen_mid may_mid step (saved_now mid made seen_mid may_mid kept told) ∙ h.1,
+      ),
+      refl,
+      refl,
+      stored new made seen may (subst (λ (l : List Step). AreKept old new l seen_old seen may_old may) (append-nil made)
+          (more_kept old mid new made [] seen_old seen_mid seen may_old may_mid may kept h.2)),
+    )
     row_one WriteFault h = row_cut h (stop_output WriteFault) (λ run begins has. (refl, inr (run, begins, has)))
     row_one NoMemory h = row_cut h (stop_output NoMemory) (λ run begins has. (refl, inr (run, begins, has)))
     row_one (BadLine number) h = absurd h
@@ -219,33 +192,26 @@ module _ (site : ℕ) (entry : Option (List ℕ)) (old : Saved) (seen_old : Opti
     row_one ReadFault h = absurd h
     row_one (BadStore offset) h = absurd h
 
--- nothing was read, and nothing is said
-pub row_none : (site : ℕ) (entry left sink seen : Option (List ℕ)) (may : List ℕ → Type 0) → ComesFor (stop_output NoMemory) site entry left left sink sink seen may
-row_none site entry left sink seen may = record {
+-- nothing was read or answered, and these lines are due
+row_unread : (site : ℕ) (entry left sink seen : Option (List ℕ)) (may : List ℕ → Type 0) (out : Output) → ComesTo out.status out.written site entry (left_known left) [] left left seen may
+    → ComesFor out site entry left left sink sink seen may
+row_unread site entry left sink seen may out comes = record {
   input = left_known left;
   told = told_read left left [] (Consumes-nil left);
   answered = [];
   appends = Appends-nil sink;
-  comes = (refl, inl refl);
+  comes = comes;
 }
+
+-- nothing is said
+pub row_none : (site : ℕ) (entry left sink seen : Option (List ℕ)) (may : List ℕ → Type 0) → ComesFor (stop_output NoMemory) site entry left left sink sink seen may
+row_none site entry left sink seen may = row_unread site entry left sink seen may (stop_output NoMemory) (refl, inl refl)
 
 -- a store wasn't opened
 pub row_unopened : (site : ℕ) (entry left sink seen : Option (List ℕ)) (may : List ℕ → Type 0) (stopped : Stopped) → OpenStops stopped site entry
     → ComesFor (stop_output stopped) site entry left left sink sink seen may
-row_unopened site entry left sink seen may DiskFault h = record {
-  input = left_known left;
-  told = told_read left left [] (Consumes-nil left);
-  answered = [];
-  appends = Appends-nil sink;
-  comes = (refl, inl refl);
-}
-row_unopened site entry left sink seen may (BadStore offset) h = record {
-  input = left_known left;
-  told = told_read left left [] (Consumes-nil left);
-  answered = [];
-  appends = Appends-nil sink;
-  comes = (refl, (offset, refl, h));
-}
+row_unopened site entry left sink seen may DiskFault h = row_unread site entry left sink seen may (stop_output DiskFault) (refl, inl refl)
+row_unopened site entry left sink seen may (BadStore offset) h = row_unread site entry left sink seen may (stop_output (BadStore offset)) (refl, (offset, refl, h))
 row_unopened site entry left sink seen may NoMemory h = row_none site entry left sink seen may
 row_unopened site entry left sink seen may (BadLine number) h = absurd h
 row_unopened site entry left sink seen may TooLong h = absurd h

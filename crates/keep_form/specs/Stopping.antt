@@ -1,5 +1,5 @@
 -- Why a run stops, and which count of faults a stop raises.
-use Rattle.std.specs.Prelude.{◌≡◌, ℕ, ◌≤◌, Result, Ok, Err, IsErrOf}
+use Rattle.std.specs.Prelude.{◌≡◌, ℕ, ◌≤◌, Bool, true, false, Result, Ok, Err, IsErrOf, if◌then◌else◌}
 use Rattle.edit_io.specs.Causes.{Rose, next_count}
 use Rattle.line_engine.specs.declared.status.Status.{Status}
 use Rattle.line_engine.specs.declared.status.Status.TheVariants as statuses
@@ -17,45 +17,45 @@ stop_of_fault faults.Spent = DiskFault
 stop_of_fault faults.StoreFull = StoreFull
 stop_of_fault faults.NoMemory = NoMemory
 
--- a source's count of faults where a run stops so
-abbrev pub source_faults_at : ℕ → Stopped → ℕ
-source_faults_at before ReadFault = next_count before
-source_faults_at before (BadLine number) = before
-source_faults_at before TooLong = before
-source_faults_at before WriteFault = before
-source_faults_at before NoMemory = before
-source_faults_at before DiskFault = before
-source_faults_at before (BadStore offset) = before
-source_faults_at before StoreFull = before
+-- a run stops for a fault of the source
+abbrev pub is_read_fault : Stopped → Bool
+is_read_fault ReadFault = true
+is_read_fault (BadLine number) = false
+is_read_fault TooLong = false
+is_read_fault WriteFault = false
+is_read_fault NoMemory = false
+is_read_fault DiskFault = false
+is_read_fault (BadStore offset) = false
+is_read_fault StoreFull = false
 
-abbrev pub source_faults_after : {T : Type 0} → ℕ → Result T Stopped → ℕ
-source_faults_after before (Ok x) = before
-source_faults_after before (Err stopped) = source_faults_at before stopped
+-- a run stops for a fault of the sink
+abbrev pub is_write_fault : Stopped → Bool
+is_write_fault WriteFault = true
+is_write_fault (BadLine number) = false
+is_write_fault TooLong = false
+is_write_fault ReadFault = false
+is_write_fault NoMemory = false
+is_write_fault DiskFault = false
+is_write_fault (BadStore offset) = false
+is_write_fault StoreFull = false
 
--- a source's count of faults never falls: a read fault counts one more, and another outcome leaves it
-pub record ReadCause {T : Type 0} (before now : ℕ) (result : Result T Stopped) : Type 0 where
+-- a count of faults after a call that answered so: one more at the stops that it counts
+abbrev pub faults_behind : {T : Type 0} → (Stopped → Bool) → ℕ → Result T Stopped → ℕ
+faults_behind counts before (Ok x) = before
+faults_behind counts before (Err stopped) = if counts stopped then next_count before else before
+
+-- a count of faults never falls, and counts these stops
+pub record CountsStops {T : Type 0} (counts : Stopped → Bool) (before now : ℕ) (result : Result T Stopped) : Type 0 where
   pub later : before ≤ now
-  pub counted : now ≡ source_faults_after before result
+  pub counted : now ≡ faults_behind counts before result
 
--- a sink's count of faults where a run stops so
-abbrev pub sink_faults_at : ℕ → Stopped → ℕ
-sink_faults_at before WriteFault = next_count before
-sink_faults_at before (BadLine number) = before
-sink_faults_at before TooLong = before
-sink_faults_at before ReadFault = before
-sink_faults_at before NoMemory = before
-sink_faults_at before DiskFault = before
-sink_faults_at before (BadStore offset) = before
-sink_faults_at before StoreFull = before
+-- a source counts one fault more at a read fault, and none at another outcome
+abbrev pub ReadCause : {T : Type 0} → ℕ → ℕ → Result T Stopped → Type 0
+ReadCause before now result = CountsStops is_read_fault before now result
 
-abbrev pub sink_faults_after : {T : Type 0} → ℕ → Result T Stopped → ℕ
-sink_faults_after before (Ok x) = before
-sink_faults_after before (Err stopped) = sink_faults_at before stopped
-
--- a sink's count never falls: a write fault counts one more, and another outcome leaves it
-pub record WriteCause {T : Type 0} (before now : ℕ) (result : Result T Stopped) : Type 0 where
-  pub later : before ≤ now
-  pub counted : now ≡ sink_faults_after before result
+-- a sink counts one fault more at a write fault, and none at another outcome
+abbrev pub WriteCause : {T : Type 0} → ℕ → ℕ → Result T Stopped → Type 0
+WriteCause before now result = CountsStops is_write_fault before now result
 
 -- a disk's count never falls, and a disk fault comes only where it rose
 pub record KeepCause {T : Type 0} (before now : ℕ) (result : Result T Stopped) : Type 0 where

@@ -1,8 +1,7 @@
 //! Steps that are put, and answered as soon as they stand.
-ghost use Rattle.std.specs.Prelude.{◌≡◌, ◌⊎◌, ◌∷◌, [], ℕ, List, None, false, IfOk, IfErr, OnOk};
+ghost use Rattle.std.specs.Prelude.{◌≡◌, ◌⊎◌, ◌∷◌, [], ℕ, List, None, false, take, IfOk, IfErr, OnOk, OnErr};
 ghost use Rattle.std.specs.declared.option.Option.{Option};
 ghost use Rattle.std.specs.Io.KnownBytes.{Appends};
-ghost use Rattle.line_engine.specs.Output.{Begins};
 ghost use Rattle.line_engine.specs.Engine.{Reads};
 ghost use Rattle.peer_store.specs.Store.{HasGate};
 ghost use Rattle.step_spelling.specs.Answers.{answer_line};
@@ -14,9 +13,9 @@ ghost use Rattle.keep_form.specs.Run.{closing_output, stop_output, ComesFor};
 
 use crate::reader::StepReader;
 use crate::stopped::Stopped;
-use edit_io::{Sink, Source};
+use edit_io::{OutFail, Sink, Source};
 use element_name::NoMemory;
-use line_engine::{Status, say};
+use line_engine::offer;
 use peer_disk::Disk;
 use peer_step::{Answer, Step};
 use peer_store::Store;
@@ -27,14 +26,14 @@ use step_write::answer_line;
 // Writes whole lines.
 fn write_lines<K: Sink>(sink: &mut K, lines: &[u8]) -> Result<(), Stopped>
     ensures ok { OnOk result (Appends (K.written sink.old) (K.written sink.new) lines.now) }
-    ensures err { IfErr result (λ stopped. (part : List ℕ) × Begins part lines.now × Appends (K.written sink.old) (K.written sink.new) part) }
+    ensures err { OnErr result ((n : ℕ) × Appends (K.written sink.old) (K.written sink.new) (take n lines.now)) }
     ensures stops { IfErr result (λ stopped. (stopped ≡ Stopped.WriteFault) ⊎ (stopped ≡ Stopped.NoMemory)) }
     ensures cause { WriteCause (K.faults sink.old) (K.faults sink.new) result }
 {
-    match say(sink, lines, Status::Done) {
-        Status::Done => Ok(()),
-        Status::WriteFault => Err(Stopped::WriteFault),
-        _ => Err(Stopped::NoMemory),
+    match offer(sink, lines) {
+        Ok(()) => Ok(()),
+        Err(OutFail::Failed) => Err(Stopped::WriteFault),
+        Err(OutFail::NoMemory) => Err(Stopped::NoMemory),
     }
 }
 

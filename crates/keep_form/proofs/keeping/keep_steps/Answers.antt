@@ -1,7 +1,9 @@
 use Rattle.std.proofs.lemmas.Result.{err_from_is_err_and, IfOk-weaker, IfErr-weaker}
+use Rattle.std.proofs.Common.{refl}
 use Rattle.report_text.specs.Closing.{closing_lines}
+use Rattle.keep_form.specs.Stopping.{is_read_fault, is_write_fault}
 use Rattle.keep_form.proofs.Rows.{row_unopened, closed, unclosed}
-use Rattle.keep_form.proofs.Causes.{quiet_read, quiet_write, read_as, write_as}
+use Rattle.keep_form.proofs.Causes.{quiet, cause_as}
 use Rattle.keep_form.proofs.keeping.keep_steps.Goals as goal
 
 pub returns-in_err-store-clause-stops : goal.returns-in_err-store-clause-stops
@@ -33,18 +35,18 @@ returns-clause-stops g c =
 
 pub returns-clause-read_cause : goal.returns-clause-read_cause
 returns-clause-read_cause g c =
-    quiet_read c.closing_text.result (g.S.Source.faults c.args.source.now) (g.S.Source.faults c.answer_steps.new.source) c.in_ok-answer_steps.ensures.read_cause.counted c.closing_text.ensures.stops
+    quiet is_read_fault c.closing_text.result (g.S.Source.faults c.args.source.now) (g.S.Source.faults c.answer_steps.new.source) refl c.in_ok-answer_steps.ensures.read_cause.counted c.closing_text.ensures.stops
 
 pub returns-clause-write_cause : goal.returns-clause-write_cause
 returns-clause-write_cause g c =
-    quiet_write c.closing_text.result (g.K.Sink.faults c.args.sink.now) (g.K.Sink.faults c.answer_steps.new.sink) c.in_ok-answer_steps.ensures.write_cause.counted c.closing_text.ensures.stops
+    quiet is_write_fault c.closing_text.result (g.K.Sink.faults c.args.sink.now) (g.K.Sink.faults c.answer_steps.new.sink) refl c.in_ok-answer_steps.ensures.write_cause.counted c.closing_text.ensures.stops
 
 pub returns-in_err-answer_steps-clause-read_cause : goal.returns-in_err-answer_steps-clause-read_cause
 returns-in_err-answer_steps-clause-read_cause g c =
     let p = err_from_is_err_and c.from_residual-in_err-answer_steps.result c.from_residual-in_err-answer_steps.ensures.1 in
-    rw (p.1, p.2) (read_as (g.S.Source.faults c.args.source.now) (g.S.Source.faults c.answer_steps.new.source) c.in_err-answer_steps.field-0.0 c.in_err-answer_steps.ensures.read_cause)
+    rw (p.1, p.2) (cause_as is_read_fault (g.S.Source.faults c.args.source.now) (g.S.Source.faults c.answer_steps.new.source) c.in_err-answer_steps.field-0.0 c.in_err-answer_steps.ensures.read_cause)
 
 pub returns-in_err-answer_steps-clause-write_cause : goal.returns-in_err-answer_steps-clause-write_cause
 returns-in_err-answer_steps-clause-write_cause g c =
     let p = err_from_is_err_and c.from_residual-in_err-answer_steps.result c.from_residual-in_err-answer_steps.ensures.1 in
-    rw (p.1, p.2) (write_as (g.K.Sink.faults c.args.sink.now) (g.K.Sink.faults c.answer_steps.new.sink) c.in_err-answer_steps.field-0.0 c.in_err-answer_steps.ensures.write_cause)
+    rw (p.1, p.2) (cause_as is_write_fault (g.K.Sink.faults c.args.sink.now) (g.K.Sink.faults c.answer_steps.new.sink) c.in_err-answer_steps.field-0.0 c.in_err-answer_steps.ensures.write_cause)
