@@ -1,6 +1,7 @@
 //! The calls. `editor_open` and `editor_restore` want an empty slot, and each other one a slot that has a desk: no call tests
 //! that.
 ghost use Rattle.std.specs.Prelude.{◌≡◌, Some, None, IsSomeAnd, length};
+ghost use Rattle.std.specs.Fn.{FnOnceReturnsAtMut};
 ghost use Rattle.step_read.specs.Step.{step_line};
 ghost use Rattle.editor_lib.specs.Code.{GivesCode};
 ghost use Rattle.editor_lib.specs.Answers.{text_answer, state_answer, sizes_answer, name_answer, count_answer};
@@ -56,6 +57,19 @@ pub extern "C" fn editor_restore(
     number(Code::Done)
 }
 
+// Takes the desk out of its slot, asks it for this, and puts it back. Gives the number of the code that it answers.
+fn on_desk<F: FnOnce(&mut Desk) -> Code>(alloc: Global, slot: &mut DeskSlot, ask: F) -> u32
+    ghost desk: { Desk }
+    requires there { slot.old.value ≡ Some desk }
+    requires ask { F.IsAlwaysCallable ask }
+    ensures { GivesCode result (λ code. IsSomeAnd slot.new.value (λ after. FnOnceReturnsAtMut F.FnOnce ask desk code after)) }
+{
+    let mut boxed = std::mem::replace(slot, DeskSlot::empty(alloc)).into_box();
+    let code = ask(&mut boxed);
+    *slot = DeskSlot::of(boxed);
+    number(code)
+}
+
 /// Makes the step that a step line says, given without its line end. Gives the number of a code, 0 to 3. Time and memory
 /// are the peer's for the step, and the length of the answer.
 #[unsafe(no_mangle)]
@@ -64,10 +78,7 @@ pub extern "C" fn editor_step(alloc: Global, slot: &mut DeskSlot, line: &[u8]) -
     requires { slot.old.value ≡ Some desk }
     ensures { GivesCode result (λ code. IsSomeAnd slot.new.value (λ after. StepMade code (step_line line.now) desk after)) }
 {
-    let mut boxed = std::mem::replace(slot, DeskSlot::empty(alloc)).into_box();
-    let code = boxed.step(alloc, line);
-    *slot = DeskSlot::of(boxed);
-    number(code)
+    on_desk(alloc, slot, |desk: &mut Desk| desk.step(alloc, line))
 }
 
 /// Receives the message whose frame is all of the bytes. Gives the number of a code, 0 to 3: 1 where the bytes are the frame
@@ -78,10 +89,7 @@ pub extern "C" fn editor_receive(alloc: Global, slot: &mut DeskSlot, frame: &[u8
     requires { slot.old.value ≡ Some desk }
     ensures { GivesCode result (λ code. IsSomeAnd slot.new.value (λ after. StepMade code (step_received frame.now) desk after)) }
 {
-    let mut boxed = std::mem::replace(slot, DeskSlot::empty(alloc)).into_box();
-    let code = boxed.receive(alloc, frame);
-    *slot = DeskSlot::of(boxed);
-    number(code)
+    on_desk(alloc, slot, |desk: &mut Desk| desk.receive(alloc, frame))
 }
 
 /// Puts the bytes of the text that the peer shows in place of the answer. Gives the number of a code: 0 or 2. Takes time in
@@ -92,10 +100,7 @@ pub extern "C" fn editor_show(alloc: Global, slot: &mut DeskSlot) -> u32
     requires { slot.old.value ≡ Some desk }
     ensures { GivesCode result (λ code. IsSomeAnd slot.new.value (λ after. Asked code (text_answer desk.peer) desk after)) }
 {
-    let mut boxed = std::mem::replace(slot, DeskSlot::empty(alloc)).into_box();
-    let code = boxed.show(alloc);
-    *slot = DeskSlot::of(boxed);
-    number(code)
+    on_desk(alloc, slot, |desk: &mut Desk| desk.show(alloc))
 }
 
 /// Puts the line of the state of the request of a name in place of the answer, and no bytes where the peer has no such
@@ -106,10 +111,7 @@ pub extern "C" fn editor_state(alloc: Global, slot: &mut DeskSlot, name: &[u8]) 
     requires { slot.old.value ≡ Some desk }
     ensures { GivesCode result (λ code. IsSomeAnd slot.new.value (λ after. Asked code (state_answer desk.peer name.now) desk after)) }
 {
-    let mut boxed = std::mem::replace(slot, DeskSlot::empty(alloc)).into_box();
-    let code = boxed.state(alloc, name);
-    *slot = DeskSlot::of(boxed);
-    number(code)
+    on_desk(alloc, slot, |desk: &mut Desk| desk.state(alloc, name))
 }
 
 /// Puts the sizes of the pieces of that text, a byte each, in place of the answer. Gives the number of a code: 0 or 2. Takes
@@ -120,10 +122,7 @@ pub extern "C" fn editor_sizes(alloc: Global, slot: &mut DeskSlot) -> u32
     requires { slot.old.value ≡ Some desk }
     ensures { GivesCode result (λ code. IsSomeAnd slot.new.value (λ after. Asked code (sizes_answer desk.peer) desk after)) }
 {
-    let mut boxed = std::mem::replace(slot, DeskSlot::empty(alloc)).into_box();
-    let code = boxed.sizes(alloc);
-    *slot = DeskSlot::of(boxed);
-    number(code)
+    on_desk(alloc, slot, |desk: &mut Desk| desk.sizes(alloc))
 }
 
 /// Puts the name of the element that shows at a place, from 0, in place of the answer, and no bytes where none shows there.
@@ -134,10 +133,7 @@ pub extern "C" fn editor_name_at(alloc: Global, slot: &mut DeskSlot, place: u32)
     requires { slot.old.value ≡ Some desk }
     ensures { GivesCode result (λ code. IsSomeAnd slot.new.value (λ after. Asked code (name_answer desk.peer place) desk after)) }
 {
-    let mut boxed = std::mem::replace(slot, DeskSlot::empty(alloc)).into_box();
-    let code = boxed.name_at(alloc, place);
-    *slot = DeskSlot::of(boxed);
-    number(code)
+    on_desk(alloc, slot, |desk: &mut Desk| desk.name_at(alloc, place))
 }
 
 /// Puts the number of elements that show up to the one of a name in place of the answer, and no bytes where the peer has no
@@ -149,10 +145,7 @@ pub extern "C" fn editor_shown_up_to(alloc: Global, slot: &mut DeskSlot, name: &
     requires { slot.old.value ≡ Some desk }
     ensures { GivesCode result (λ code. IsSomeAnd slot.new.value (λ after. Asked code (count_answer desk.peer name.now) desk after)) }
 {
-    let mut boxed = std::mem::replace(slot, DeskSlot::empty(alloc)).into_box();
-    let code = boxed.shown_up_to(alloc, name);
-    *slot = DeskSlot::of(boxed);
-    number(code)
+    on_desk(alloc, slot, |desk: &mut Desk| desk.shown_up_to(alloc, name))
 }
 
 // Copies bytes to the front of a buffer, if they fit.
