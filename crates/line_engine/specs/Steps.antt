@@ -1,20 +1,29 @@
 -- What the steps of a run say of what was written.
-use Rattle.std.specs.Prelude.{◌≡◌, ℕ, ◌≤◌, ◌<◌, Bool, true, false, List, [], ◌++◌, Option, Result, Ok, Err, IsTrue}
+use Rattle.std.specs.Prelude.{◌≡◌, ℕ, ◌≤◌, Bool, List, [], ◌++◌, take, Option, Result, Ok, Err, IsTrue}
 use Rattle.std.specs.Io.KnownBytes.{Appends}
 use Rattle.edit_io.specs.Causes.{next_count}
 use Rattle.line_engine.specs.declared.status.Status.{Status}
 use Rattle.line_engine.specs.declared.status.Stop.{Stop}
 use Rattle.line_engine.specs.declared.status.Stop.TheVariants as stops
+use Rattle.line_engine.specs.declared.form.Next.{Next}
+use Rattle.line_engine.specs.declared.form.Next.TheVariants.{Waiting}
 use Rattle.line_engine.specs.Output.{is_whole, Ends}
-use Rattle.line_engine.specs.Form.{Meaning, Follows, Rests}
+use Rattle.line_engine.specs.Form.{Meaning, Follows, Goes, Rests}
 
--- one step: what was to be written was written, and where nothing was left to answer, nothing is
-pub record Steps {F : Type 0} (m : Meaning F) (held : F → ℕ) (old new : F)
-    (sink_old sink_new : Option (List ℕ)) (written : List ℕ) (again : Bool) : Type 0 where
-  pub follows : Follows m old new [] written
-  pub appends : Appends sink_old sink_new written
-  pub falls : again ≡ true → held new < held old
-  pub rests : again ≡ false → Rests m new
+-- the next thing was asked for, and its reply came behind the bytes that were gathered
+pub record Answers {F : Type 0} (m : Meaning F) (old new : F) (before after : List ℕ) (next : Next) : Type 0 where
+  pub reply : List ℕ
+  pub behind : after ≡ before ++ reply
+  pub goes : Goes m old new reply next
+  pub quiet : next ≡ Waiting → reply ≡ []
+
+-- some that begin these bytes were written, and the others are left
+abbrev pub Offers : Option (List ℕ) → Option (List ℕ) → List ℕ → List ℕ → Type 0
+Offers sink_old sink_new bytes left = (offered : List ℕ) × Appends sink_old sink_new offered × (bytes ≡ offered ++ left)
+
+-- some that begin these bytes were written, and no more of them
+abbrev pub BreaksOff : Option (List ℕ) → Option (List ℕ) → List ℕ → Type 0
+BreaksOff sink_old sink_new bytes = (n : ℕ) × Appends sink_old sink_new (take n bytes)
 
 -- the form took these bytes, what was to be written of them was written, and nothing is left to answer
 pub record Takes {F : Type 0} (m : Meaning F) (old new : F)

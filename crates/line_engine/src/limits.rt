@@ -8,3 +8,6 @@ pub const MAX_LINE: usize = 1_024;
 
 /// How many bytes are asked for at once at most: 64 KiB.
 pub const MAX_CHUNK: usize = 65_536;
+
+/// How many bytes of lines are gathered before they are offered to a sink: 64 KiB.
+pub const BATCH_BYTES: usize = 65_536;

@@ -1,13 +1,12 @@
 //! What is told of faults.
 ghost use Rattle.std.specs.Prelude.{◌≡◌, ◌++◌, OnOk, IfOk, flat_map};
 ghost use Rattle.step_spelling.specs.Values.{behind_spaces};
-ghost use Rattle.line_engine.specs.Output.{bad_line_text};
 ghost use Rattle.link_report.specs.Lines.{session_fault_words, link_line, fault_line, session_status, fault_status, wants_memory, first_status, faults_status};
 ghost use Rattle.std.specs.List.{list_any};
 
 use crate::faults::Fault;
 use element_name::NoMemory;
-use line_engine::Status;
+use line_engine::{Status, put_bad_line};
 use report_text::put_frame_kind;
 use session_core::SessionFault;
 use std::alloc::Global;
@@ -44,22 +43,13 @@ fn put_link(lines: &mut Vec<u8>, number: u64, fault: SessionFault) -> Result<(),
     put(lines, b"\n")
 }
 
-// Appends the line of a step line that is bad.
-fn put_bad_line(lines: &mut Vec<u8>, number: u64) -> Result<(), NoMemory>
-    ensures { OnOk result (lines.new.items ≡ lines.old.items ++ bad_line_text number) }
-{
-    put(lines, b"bad line")?;
-    put_number_word(lines, number)?;
-    put(lines, b"\n")
-}
-
 // Appends the line of a fault.
-fn put_fault(lines: &mut Vec<u8>, fault: Fault) -> Result<(), NoMemory>
+fn put_fault(alloc: Global, lines: &mut Vec<u8>, fault: Fault) -> Result<(), NoMemory>
     ensures { OnOk result (lines.new.items ≡ lines.old.items ++ fault_line fault) }
 {
     match fault {
         Fault::Door => put(lines, b"door fault\n"),
-        Fault::BadLine(number) => put_bad_line(lines, number),
+        Fault::BadLine(number) => put_bad_line(alloc, number, lines).or(Err(NoMemory)),
         Fault::TooLong => put(lines, b"too long\n"),
         Fault::Read => put(lines, b"read fault\n"),
         Fault::NoMemory => Ok(()),
@@ -73,7 +63,7 @@ pub fn fault_lines(alloc: Global, faults: &[Fault]) -> Result<Vec<u8>, NoMemory>
 {
     let mut lines = Vec::new(alloc);
     for fault in faults {
-        put_fault(&mut lines, *fault)?;
+        put_fault(alloc, &mut lines, *fault)?;
     }
     Ok(lines)
 }

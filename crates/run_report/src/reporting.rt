@@ -9,14 +9,11 @@ ghost use Rattle.run_report.specs.Telling.{Gathers, Tells, TellsCause};
 
 use crate::lines::{put_call, put_closing, put_run};
 use edit_io::Sink;
-use line_engine::{Status, say};
+use line_engine::{BATCH_BYTES, Status, say};
 use packed_step::PackedStep;
 use peer_core::Peer;
 use peer_lock::History;
 use std::alloc::Global;
-
-// How many bytes of lines are gathered before they are offered to the sink.
-const BATCH_BYTES: usize = 65_536;
 
 // Offers lines to the sink, and empties the buffer.
 fn tell<K: Sink>(lines: &mut Vec<u8>, sink: &mut K) -> Result<(), Status>

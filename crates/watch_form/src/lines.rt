@@ -1,6 +1,5 @@
 //! The lines of a watch.
 ghost use Rattle.std.specs.Prelude.{◌≡◌, ◌++◌, OnOk};
-ghost use Rattle.line_engine.specs.Output.{bad_line_text};
 ghost use Rattle.watch_form.specs.Reads.{page_line};
 
 use element_name::NoMemory;
@@ -14,14 +13,5 @@ pub(crate) fn put_page(page: &Page, out: &mut Vec<u8>) -> Result<(), NoMemory>
     put(out, b"read")?;
     put_number_word(out, page.steps())?;
     put_shown(out, page.text().as_str().as_bytes())?;
-    put(out, b"\n")
-}
-
-/// Appends the line that says which line is bad.
-pub(crate) fn put_bad_line(number: u64, out: &mut Vec<u8>) -> Result<(), NoMemory>
-    ensures { OnOk result (out.new.items ≡ out.old.items ++ bad_line_text number) }
-{
-    put(out, b"bad line")?;
-    put_number_word(out, number)?;
     put(out, b"\n")
 }

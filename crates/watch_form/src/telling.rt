@@ -8,10 +8,10 @@ ghost use Rattle.watch_form.specs.Reads.{page_line};
 ghost use Rattle.watch_form.specs.Workers.{told_page};
 ghost use Rattle.watch_form.specs.Watch.{done_with};
 
-use crate::lines::{put_bad_line, put_page};
+use crate::lines::put_page;
 use crate::watching::Watched;
 use edit_io::Sink;
-use line_engine::{Status, say};
+use line_engine::{Status, put_bad_line, say};
 use run_report::report;
 use screen_read::Page;
 use std::alloc::Global;
@@ -85,7 +85,7 @@ pub(crate) fn tell_bad_line<K: Sink>(alloc: Global, number: u64, sink: &mut K) -
     ensures cause { StatusCause (K.faults sink.old) (K.faults sink.new) result Status.WriteFault }
 {
     let mut line = Vec::new(alloc);
-    match put_bad_line(number, &mut line) {
+    match put_bad_line(alloc, number, &mut line) {
         Ok(()) => say(sink, &line, Status::BadInput),
         Err(_) => Status::NoMemory,
     }
