@@ -1,5 +1,5 @@
-//! What no contract says: that memory is found, that a line is answered before more is read, that an
-//! answer is offered whole, and what the limits are.
+//! What no contract says: that memory is found, that a line is answered before more is read, that the
+//! answers to a chunk are offered in one write, and what the limits are.
 ghost use Rattle.std.specs.Prelude.{◌≡◌, ◌<◌, ◌==◌, ◌++◌, None, Some, codes, decimal, length, option_map, OnOk, if◌then◌else◌};
 ghost use Rattle.line_engine.specs.Output.{line_of};
 
@@ -137,7 +137,7 @@ fn failures_stop_in_mid_stream(rt: HostRuntime) -> Result<(), Fail> {
         b"2\n2\n",
     )?;
 
-    // A line is offered in one write.
+    // The answers to a chunk are offered in one write.
     let second = Calls {
         chunk: 2_000,
         fails: 2,
@@ -148,7 +148,7 @@ fn failures_stop_in_mid_stream(rt: HostRuntime) -> Result<(), Fail> {
         WHOLE,
         second,
         Status::WriteFault,
-        b"2\n",
+        b"2\n2\n2\n",
     )?;
 
     // A rest that is too long for a line is bad before more is read.
