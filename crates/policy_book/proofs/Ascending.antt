@@ -1,5 +1,5 @@
 -- Lists in ascending order of their numbers, after a change.
-use Rattle.std.proofs.Common.{◌≡◌, ℕ, ◌+◌, ◌≤◌, Bool, true, false, not, List, [], ◌∷◌, ◌++◌, length, map, refl, ap, arith, eqb}
+use Rattle.std.proofs.Common.{◌≡◌, ℕ, ◌+◌, ◌<◌, ◌≤◌, Bool, true, false, not, List, [], ◌∷◌, ◌++◌, length, map, get_or, suc, zero, refl, ap, arith, eqb}
 use Rattle.std.specs.Prelude.{nat_le, nat_lt, insert, take_while, filter}
 use Rattle.std.specs.List.{list_all}
 use Rattle.std.proofs.lemmas.Bool.Decides.{nat_tests}
@@ -75,6 +75,18 @@ rising_filter_step q x xs false e h k = rw e k
 pub rising_filter : (q : ℕ → Bool) (xs : List ℕ) → is_rising nat_lt xs ≡ true → is_rising nat_lt (filter q xs) ≡ true
 rising_filter q [] h = refl
 rising_filter q (x ∷ xs) h = rising_filter_step q x xs (q x) refl h (rising_filter q xs (rising_rest x xs h))
+
+-- ---- what stands later
+
+module _ {X : Type 0} (number : X → ℕ) where
+  -- it has a greater number, as all do
+  pub below_later : (n : ℕ) (xs : List X) (i : ℕ) (d : X) → list_all (nat_lt n) (map number xs) ≡ true → i < length xs
+      → n < number (get_or xs i d)
+  below_later n [] i d h lt = absurd (omega (arith, lt))
+  below_later n (x ∷ xs) zero d h lt =
+      let b = and_parts (nat_lt n (number x)) (list_all (nat_lt n) (map number xs)) h in grind (arith, nat_tests, b.0)
+  below_later n (x ∷ xs) (suc i) d h lt =
+      let b = and_parts (nat_lt n (number x)) (list_all (nat_lt n) (map number xs)) h in below_later n xs i d b.1 (omega (arith, lt))
 
 -- ---- an item put in
 

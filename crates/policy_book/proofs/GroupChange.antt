@@ -10,7 +10,7 @@ use Rattle.element_name.proofs.CaseLemmas.{when-None}
 use Rattle.element_name.specs.Numbered.{is_rising}
 use Rattle.policy_book.specs.declared.parts.Group.{Group}
 use Rattle.policy_book.specs.Policy.{with_members}
-use Rattle.policy_book.proofs.Ascending.{rising_above, rising_rest}
+use Rattle.policy_book.proofs.Ascending.{rising_above, rising_rest, below_later}
 
 -- a group of another number stays
 pub others_stay : (n : ℕ) (f : List ℕ → List ℕ) (gs : List Group) → list_all (nat_lt n) (map (λ g. g.number) gs) ≡ true
@@ -20,14 +20,6 @@ others_stay n f (g ∷ gs) h =
     let b = and_parts (nat_lt n g.number) (list_all (nat_lt n) (map (λ g. g.number) gs)) h in
     let other : eqb g.number n ≡ false = grind (arith, nat_tests, b.0) in
     rw other (ap (λ (rest : List Group). g ∷ rest) (others_stay n f gs b.1))
-
-below_later : (n : ℕ) (gs : List Group) (i : ℕ) (d : Group) → list_all (nat_lt n) (map (λ g. g.number) gs) ≡ true → i < length gs
-    → n < (get_or gs i d).number
-below_later n [] i d h lt = absurd (omega (arith, lt))
-below_later n (g ∷ gs) zero d h lt =
-    let b = and_parts (nat_lt n g.number) (list_all (nat_lt n) (map (λ g. g.number) gs)) h in grind (arith, nat_tests, b.0)
-below_later n (g ∷ gs) (suc i) d h lt =
-    let b = and_parts (nat_lt n g.number) (list_all (nat_lt n) (map (λ g. g.number) gs)) h in below_later n gs i d b.1 (omega (arith, lt))
 
 head_changed : (n : ℕ) (f : List ℕ → List ℕ) (r : Group) (gs : List Group) → r.number ≡ n → map (with_members n f) gs ≡ gs
     → record { number = r.number; members = f r.members } ∷ gs ≡ with_members n f r ∷ map (with_members n f) gs
@@ -48,7 +40,7 @@ changed_at n f (g ∷ gs) zero r rising lt e read =
     (head_changed n f r gs e (others_stay n f gs above_n))
 changed_at n f (g ∷ gs) (suc i) r rising lt e read =
     let later : g.number < (get_or gs i r).number =
-    below_later g.number gs i r (rising_above g.number (map (λ g. g.number) gs) rising) (omega (arith, lt)) in
+    below_later (λ (o : Group). o.number) g.number gs i r (rising_above g.number (map (λ g. g.number) gs) rising) (omega (arith, lt)) in
     let number : (get_or gs i r).number ≡ n = ap (λ (x : Group). x.number) (sym read) ∙ e in
     let other : eqb g.number n ≡ false = grind (arith, nat_tests, later, number) in
     rw other (ap (λ (rest : List Group). g ∷ rest) (changed_at n f gs i r (rising_rest g.number (map (λ g. g.number) gs) rising) (omega (arith, lt)) e read))

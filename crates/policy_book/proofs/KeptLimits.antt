@@ -30,6 +30,9 @@ use Rattle.policy_book.proofs.GroupChange.{others_stay}
 
 -- ---- sets of numbers
 
+pub set_rises : (xs : List ℕ) → is_number_set xs ≡ true → is_rising nat_lt xs ≡ true
+set_rises xs h = (and_parts (nat_le (length xs) 256) (is_rising nat_lt xs) h).1
+
 pub set_put_by : (n : ℕ) (xs : List ℕ) → has_number xs n ≡ false → is_full xs ≡ false → is_number_set xs ≡ true
     → is_number_set (put_by (λ m. m) n xs) ≡ true
 set_put_by n xs new room h =
@@ -179,8 +182,7 @@ kept p version (AddMember g u) w legal ranges =
     first_of-None (when (is_full_group p g) (TooMany 256)) (when (not (is_group p g)) NoGroup ∷ when (is_member p g u) MemberThere ∷ []) legal in
     let there = first_of-None (when (not (is_group p g)) NoGroup) (when (is_member p g u) MemberThere ∷ []) rows.1 in
     let new = first_of-None (when (is_member p g u) MemberThere) [] there.1 in
-    let rising =
-    (and_parts (nat_le (length (map (λ (o : Group). o.number) p.groups)) 256) (is_rising nat_lt (map (λ (o : Group). o.number) p.groups)) w.groups).1 in
+    let rising = set_rises (map (λ (o : Group). o.number) p.groups) w.groups in
     let groups : is_number_set (map (λ (o : Group). o.number) (map (with_members g (put_by (λ m. m) u)) p.groups)) ≡ true =
     rw (numbers_stay g (put_by (λ m. m) u) p.groups) w.groups in
     let members =

@@ -1,4 +1,5 @@
 pub mod Ascending
 pub mod GroupChange
+pub mod Halves
 pub mod KeptLimits
 pub mod SameNames

@@ -1,6 +1,7 @@
 //! Sets and maps as lists in ascending order of their numbers.
-ghost use Rattle.std.specs.Prelude.{◌≡◌, length, take_while, nat_le, OnOk, OnErr};
-ghost use Rattle.element_name.specs.Numbered.{put_by, without};
+ghost use Rattle.std.specs.Prelude.{◌≡◌, true, length, map, take_while, nat_le, nat_lt, OnOk, OnErr};
+ghost use Rattle.std.specs.Option.{option_copied};
+ghost use Rattle.element_name.specs.Numbered.{is_rising, put_by, without, find_by};
 
 use element_name::NoMemory;
 
@@ -19,6 +20,17 @@ impl Numbered for u16 {
 
     fn number(&self) -> u16 {
         *self
+    }
+}
+
+/// What stands under the number, found by halves.
+pub fn find<T: Numbered>(items: &[T], number: u16) -> Option<&T>
+    requires { is_rising nat_lt (map T.number_of items.now) ≡ true }
+    ensures { option_copied result ≡ find_by T.number_of number items.now }
+{
+    match items.binary_search_by_key(&number, |item| item.number()) {
+        Ok(place) => items.get(place),
+        Err(_) => None,
     }
 }
 

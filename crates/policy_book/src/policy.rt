@@ -10,6 +10,7 @@ ghost use Rattle.policy_book.specs.Reach.{reach_of, reach_of_legal, lacks_object
 use crate::auth::{Auth, Extent};
 use crate::fault::{ApplyFault, EntryFault};
 use crate::limits::MAX_OF_KIND;
+use crate::numbered::find;
 use crate::op::AdminOp;
 use crate::parts::{Members, NumberedAuth, Object};
 use crate::ranges::operation_in_range;
@@ -21,7 +22,8 @@ use std::marker::Model;
 
 /// Users, objects, groups, and the authorizations in the order of matching.
 ///
-/// A policy has at most [`MAX_OF_KIND`] of a kind, so each call looks through a few short lists.
+/// A policy has at most [`MAX_OF_KIND`] of a kind, so each call looks through a few short lists. An object or a group
+/// is found by its number in a time logarithmic in their count.
 #[derive(Drop)]
 pub struct Policy {
     tables: Tables,
@@ -76,11 +78,7 @@ impl Policy {
     pub fn extent(&self, number: u16) -> Option<&Extent>
         ensures { option_copied result ≡ extent_of self.now number }
     {
-        self.tables
-            .objects
-            .iter()
-            .find(|o| o.number == number)
-            .map(|o| &o.extent)
+        find(&self.tables.objects, number).map(|o| &o.extent)
     }
 
     fn object(&self, number: u16) -> bool
@@ -109,11 +107,7 @@ impl Policy {
     fn members(&self, number: u16) -> Option<&Members>
         ensures { option_copied result ≡ members_of self.now number }
     {
-        self.tables
-            .groups
-            .iter()
-            .find(|g| g.number == number)
-            .map(|g| &g.members)
+        find(&self.tables.groups, number).map(|g| &g.members)
     }
 
     fn is_full_group(&self, number: u16) -> bool
