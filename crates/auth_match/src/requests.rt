@@ -4,7 +4,7 @@ ghost use Rattle.element_name.specs.Name.{has_name};
 ghost use Rattle.coop_request.specs.Request.{element_of};
 ghost use Rattle.auth_match.specs.Requests.{request_verdict};
 
-use crate::first_match::decide;
+use crate::matching::decide;
 use crate::verdict::{Judged, Verdict};
 use coop_request::Request;
 use element_name::Places;

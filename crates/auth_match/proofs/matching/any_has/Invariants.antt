@@ -2,7 +2,7 @@ use Rattle.std.proofs.Common.{◌≡◌, ℕ, Bool, drop}
 use Rattle.std.specs.List.{list_any}
 use Rattle.policy_book.specs.Policy.{is_member}
 use Rattle.auth_match.specs.Notes.{AreRight}
-use Rattle.auth_match.proofs.first_match.any_has.Given as goal
+use Rattle.auth_match.proofs.matching.any_has.Given as goal
 
 abbrev pub invariant-loop-group : goal.invariant-loop-group
 invariant-loop-group l =

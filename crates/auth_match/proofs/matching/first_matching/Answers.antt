@@ -2,7 +2,7 @@ use Rattle.std.proofs.Common.{refl}
 use Rattle.policy_book.specs.Policy.{is_member}
 use Rattle.auth_match.specs.Coverage.{names_with, judged_name}
 use Rattle.auth_match.specs.Verdict.{object_covers}
-use Rattle.auth_match.proofs.first_match.first_matching.Goals as goal
+use Rattle.auth_match.proofs.matching.first_matching.Goals as goal
 
 pub loop-a-init : goal.loop-a-init
 loop-a-init g c = record {

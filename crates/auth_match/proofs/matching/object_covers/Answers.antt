@@ -3,7 +3,7 @@ use Rattle.std.specs.Option.{option_copied, option_map_or}
 use Rattle.element_name.specs.Name.{Name}
 use Rattle.auth_match.specs.Coverage.{covers, names_with, judged_name}
 use Rattle.auth_match.specs.Verdict.{object_covers}
-use Rattle.auth_match.proofs.first_match.object_covers.Goals as goal
+use Rattle.auth_match.proofs.matching.object_covers.Goals as goal
 
 pub returns-in-Some-clause-covers : goal.returns-in-Some-clause-covers
 returns-in-Some-clause-covers g c =

@@ -1,6 +1,6 @@
 use Rattle.std.proofs.Common.{sym}
 use Rattle.policy_book.specs.Policy.{is_member}
-use Rattle.auth_match.proofs.first_match.is_member.Goals as goal
+use Rattle.auth_match.proofs.matching.is_member.Goals as goal
 
 pub returns-in-Some-clause-member : goal.returns-in-Some-clause-member
 returns-in-Some-clause-member c =
