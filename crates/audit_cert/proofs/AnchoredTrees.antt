@@ -31,16 +31,16 @@ use Rattle.audit_cert.specs.Anchors.{placed_from, is_anchored, IsAnchored}
 -- ---- names in ascending order
 
 -- of names that ascend, those in front of one are less
-pub front_below : (xs : List Name) (y : Name) (ys : List Name) → IsStrictlySortedBy name_cmp (xs ++ y ∷ ys) → (m : Name) → Has xs m → name_lt m y ≡ true
-front_below [] y ys h m p = absurd p
-front_below (x ∷ xs) y ys h m (inl e) =
+pub prefix_below : (xs : List Name) (y : Name) (ys : List Name) → IsStrictlySortedBy name_cmp (xs ++ y ∷ ys) → (m : Name) → Has xs m → name_lt m y ≡ true
+prefix_below [] y ys h m p = absurd p
+prefix_below (x ∷ xs) y ys h m (inl e) =
     let lt : name_lt x y ≡ true = sym (is_lt-name_cmp x y) ∙ ap is_lt (at_middle xs (sorted_head name_cmp x (xs ++ y ∷ ys) h)) in
     subst (λ k. name_lt k y ≡ true) e lt
   where
     at_middle : (zs : List Name) → AllByRecursion (λ z. name_cmp x z ≡ Less) (zs ++ y ∷ ys) → name_cmp x y ≡ Less
     at_middle [] all = all.0
     at_middle (z ∷ zs) all = at_middle zs all.1
-front_below (x ∷ xs) y ys h m (inr p) = front_below xs y ys (sorted_tail name_cmp x (xs ++ y ∷ ys) h) m p
+prefix_below (x ∷ xs) y ys h m (inr p) = prefix_below xs y ys (sorted_tail name_cmp x (xs ++ y ∷ ys) h) m p
 
 pub sorted_back : (xs ys : List Name) → IsStrictlySortedBy name_cmp (xs ++ ys) → IsStrictlySortedBy name_cmp ys
 sorted_back [] ys h = h
@@ -68,24 +68,24 @@ pub keys_append : (es fs : List (Name × Name)) → keys_of (es ++ fs) ≡ keys_
 keys_append es fs = map-append (λ (e : Name × Name). e.0) es fs
 
 -- the next element by name follows those in front of it
-next_follows : (front : List (Name × Name)) (e : Name × Name) (rest : List (Name × Name)) → IsStrictlySortedBy name_cmp (keys_of (front ++ e ∷ rest))
-    → is_anchored (keys_of (front ++ e ∷ rest)) e ≡ true → FollowsTree (placed_from front) (record { name = e.0; anchor = e.1 })
-next_follows front e rest sorted anchored =
-    let keys = keys_append front (e ∷ rest) in
-    let ascend : IsStrictlySortedBy name_cmp (keys_of front ++ e.0 ∷ keys_of rest) = subst (IsStrictlySortedBy name_cmp) keys sorted in
-    let parts = and_parts (is_anchor (keys_of (front ++ e ∷ rest)) e.1) (nat_lt e.1.stamp e.0.stamp) anchored in
+next_follows : (prefix : List (Name × Name)) (e : Name × Name) (rest : List (Name × Name)) → IsStrictlySortedBy name_cmp (keys_of (prefix ++ e ∷ rest))
+    → is_anchored (keys_of (prefix ++ e ∷ rest)) e ≡ true → FollowsTree (placed_from prefix) (record { name = e.0; anchor = e.1 })
+next_follows prefix e rest sorted anchored =
+    let keys = keys_append prefix (e ∷ rest) in
+    let ascend : IsStrictlySortedBy name_cmp (keys_of prefix ++ e.0 ∷ keys_of rest) = subst (IsStrictlySortedBy name_cmp) keys sorted in
+    let parts = and_parts (is_anchor (keys_of (prefix ++ e ∷ rest)) e.1) (nat_lt e.1.stamp e.0.stamp) anchored in
     let rising : e.1.stamp < e.0.stamp = let test = parts.1 in grind (arith, nat_tests) in
     let lower : name_lt e.1 e.0 ≡ true = name_lt_by_stamp e.1 e.0 rising in
     let above : has_name (keys_of rest) e.1 ≡ false =
-    absent_below e.0 e.1 (keys_of rest) lower (sorted_head name_cmp e.0 (keys_of rest) (sorted_back (keys_of front) (e.0 ∷ keys_of rest) ascend)) in
-    let whole : has_name (keys_of (front ++ e ∷ rest)) e.1 ≡ has_name (keys_of front) e.1 =
-    ap (λ (ns : List Name). has_name ns e.1) keys ∙ list_any-append (name_eq e.1) (keys_of front) (e.0 ∷ keys_of rest)
-    ∙ ap (λ b. has_name (keys_of front) e.1 || (b || has_name (keys_of rest) e.1)) (name_lt-apart e.1 e.0 lower)
-    ∙ ap (λ b. has_name (keys_of front) e.1 || b) above ∙ or_false (has_name (keys_of front) e.1) in
+    absent_below e.0 e.1 (keys_of rest) lower (sorted_head name_cmp e.0 (keys_of rest) (sorted_back (keys_of prefix) (e.0 ∷ keys_of rest) ascend)) in
+    let whole : has_name (keys_of (prefix ++ e ∷ rest)) e.1 ≡ has_name (keys_of prefix) e.1 =
+    ap (λ (ns : List Name). has_name ns e.1) keys ∙ list_any-append (name_eq e.1) (keys_of prefix) (e.0 ∷ keys_of rest)
+    ∙ ap (λ b. has_name (keys_of prefix) e.1 || (b || has_name (keys_of rest) e.1)) (name_lt-apart e.1 e.0 lower)
+    ∙ ap (λ b. has_name (keys_of prefix) e.1 || b) above ∙ or_false (has_name (keys_of prefix) e.1) in
     record {
-      new = ap (λ (ns : List Name). has_name ns e.0) (names_placed front)
-          ∙ has_name-none (keys_of front) e.0 (λ p. both_ways (name_lt e.0 e.0) (name_lt-irrefl e.0) (front_below (keys_of front) e.0 (keys_of rest) ascend e.0 p));
-      anchored = ap (λ (ns : List Name). name_eq e.1 start || has_name ns e.1) (names_placed front) ∙ ap (λ b. name_eq e.1 start || b) (sym whole) ∙ parts.0;
+      new = ap (λ (ns : List Name). has_name ns e.0) (names_placed prefix)
+          ∙ has_name-none (keys_of prefix) e.0 (λ p. both_ways (name_lt e.0 e.0) (name_lt-irrefl e.0) (prefix_below (keys_of prefix) e.0 (keys_of rest) ascend e.0 p));
+      anchored = ap (λ (ns : List Name). name_eq e.1 start || has_name ns e.1) (names_placed prefix) ∙ ap (λ b. name_eq e.1 start || b) (sym whole) ∙ parts.0;
       rising = rising;
     }
   where
@@ -93,15 +93,15 @@ next_follows front e rest sorted anchored =
     or_false true = refl
     or_false false = refl
 
-tree_from : (whole front rest : List (Name × Name)) → whole ≡ front ++ rest → IsStrictlySortedBy name_cmp (keys_of whole) → list_all (is_anchored (keys_of whole)) rest ≡ true
-    → EachFrom FollowsTree (placed_from front) (placed_from rest)
-tree_from whole front [] is sorted all = tt
-tree_from whole front (e ∷ rest) is sorted all =
+tree_from : (whole prefix rest : List (Name × Name)) → whole ≡ prefix ++ rest → IsStrictlySortedBy name_cmp (keys_of whole) → list_all (is_anchored (keys_of whole)) rest ≡ true
+    → EachFrom FollowsTree (placed_from prefix) (placed_from rest)
+tree_from whole prefix [] is sorted all = tt
+tree_from whole prefix (e ∷ rest) is sorted all =
     let parts = and_parts (is_anchored (keys_of whole) e) (list_all (is_anchored (keys_of whole)) rest) all in (
-      next_follows front e rest (subst (λ (es : List (Name × Name)). IsStrictlySortedBy name_cmp (keys_of es)) is sorted)
+      next_follows prefix e rest (subst (λ (es : List (Name × Name)). IsStrictlySortedBy name_cmp (keys_of es)) is sorted)
           (subst (λ (es : List (Name × Name)). is_anchored (keys_of es) e ≡ true) is parts.0),
-      subst (λ (ps : List Placed). EachFrom FollowsTree ps (placed_from rest)) (placed_append front (e ∷ []))
-          (tree_from whole (front ++ e ∷ []) rest (is ∙ sym (append_assoc front (e ∷ []) rest)) sorted parts.1),
+      subst (λ (ps : List Placed). EachFrom FollowsTree ps (placed_from rest)) (placed_append prefix (e ∷ []))
+          (tree_from whole (prefix ++ e ∷ []) rest (is ∙ sym (append_assoc prefix (e ∷ []) rest)) sorted parts.1),
     )
 
 pub tree_law : (es : List (Name × Name)) → IsAnchored es → IsTree (placed_from es)

@@ -26,7 +26,7 @@ use Rattle.audit_cert.specs.declared.fault.AuditFault.{AuditFault}
 use Rattle.audit_cert.specs.declared.fault.AuditFault.TheVariants.{BadFrame, NotJournal, Differs, NoMemory}
 use Rattle.audit_cert.specs.Certificate.{certificate_bytes}
 use Rattle.audit_cert.specs.Audit.{IsCertified, is_end_frame, messages_of_frames, IsClosed, BreaksIn, IsAuditFault, IsFaultIn, IsFaultOf, IsTold}
-use Rattle.audit_cert.proofs.Fronts.{one_further}
+use Rattle.audit_cert.proofs.Prefixes.{one_further}
 use Rattle.audit_cert.proofs.Closings.{one_closing, not_broken}
 
 -- ---- messages as frames
@@ -57,10 +57,10 @@ one_item_more fs m items =
     map_last [] = refl
     map_last (k ∷ J) = ap (λ (gs : List Frame). Item k ∷ gs) (map_last J)
 
--- ---- a front of a journal
+-- ---- a prefix of a journal
 
-pub within_front : (J K : List Message) → IsWithin (J ++ K) → IsWithin J
-within_front J K within =
+pub within_prefix : (J K : List Message) → IsWithin (J ++ K) → IsWithin J
+within_prefix J K within =
     let requests : length (requests_of (J ++ K)) ≡ length (requests_of J) + length (requests_of K) =
     ap (λ (R : List Request). length R) (requests_append J K) ∙ length-append (requests_of J) (requests_of K) in
     let entries : length (entries_of (J ++ K)) ≡ length (entries_of J) + length (entries_of K) =
@@ -104,7 +104,7 @@ unbroken : (J : List Message) (frames : List Frame) (k : ℕ) → IsWithin J →
 unbroken J frames k within is breaks =
     let on = goes_on J breaks.journal breaks.next breaks.later (is ∙ breaks.whole) in
     let more : J ≡ (breaks.journal ++ on.message ∷ []) ++ on.later = on.whole ∙ sym (append_assoc breaks.journal (on.message ∷ []) on.later) in
-    breaks.breaks on.message on.next_is (within_front (breaks.journal ++ on.message ∷ []) on.later (subst (λ (K : List Message). IsWithin K) more within))
+    breaks.breaks on.message on.next_is (within_prefix (breaks.journal ++ on.message ∷ []) on.later (subst (λ (K : List Message). IsWithin K) more within))
 
 -- ---- what is certified has no fault
 
@@ -117,8 +117,8 @@ module _ (bytes : List ℕ) (counts : ℕ × ℕ) (certified : IsCertified bytes
 
   pub no_fault : (fault : AuditFault) → IsAuditFault bytes fault → fault ≢ NoMemory → ⊥
   no_fault (BadFrame fault) at other =
-      not_broken (map Item certified.journal) at.frames (certificate_bytes certified.journal) at.rest fault.kind (items_formed certified.journal certified.within.formed) at.front.formed
-      at.front.before_end (sym certified.whole ∙ at.front.whole) at.kind
+      not_broken (map Item certified.journal) at.frames (certificate_bytes certified.journal) at.rest fault.kind (items_formed certified.journal certified.within.formed) at.prefix.formed
+      at.prefix.before_end (sym certified.whole ∙ at.prefix.whole) at.kind
   no_fault (NotJournal k) at other = unbroken certified.journal at.frames k certified.within (closed_so at.frames at.told at.closed).0 at.first
   no_fault (Differs k) at other =
       let so = closed_so (map Item at.journal) at.told at.closed in

@@ -46,7 +46,7 @@ broken_here bytes rest frames (BadFrame fault) start at =
     record {
       frames = frames;
       rest = rest;
-      front = start;
+      prefix = start;
       place = at.0 ∙ place;
       kind = at.1;
     }

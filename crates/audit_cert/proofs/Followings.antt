@@ -21,7 +21,7 @@ use Rattle.tomb_seq.proofs.MarkLemmas.{greatest_law}
 use Rattle.tomb_seq.proofs.Theorems.{each_law, once_law, skip_law}
 use Rattle.audit_cert.specs.Anchors.{placed_from, is_anchored, IsAnchored, LeadsThrough, put_behind}
 use Rattle.peer_core.proofs.KeptLemmas.Tables.{all_has}
-use Rattle.audit_cert.proofs.AnchoredTrees.{front_below, keys_append, names_placed, placed_append, tree_law, no_start, has_placed}
+use Rattle.audit_cert.proofs.AnchoredTrees.{prefix_below, keys_append, names_placed, placed_append, tree_law, no_start, has_placed}
 
 -- ---- one name more
 
@@ -142,8 +142,8 @@ module _ (all : List (Name × Name)) (e : Name × Name) (left : List (Name × Na
       (ap placed_from linked.whole ∙ placed_append linked.read (e ∷ left) ∙ sym (append_assoc (placed_from linked.read) (p ∷ []) (placed_from left)))
       (tree_law all h))
 
-  front_tree : IsTree (placed_from linked.read)
-  front_tree = EachAfter-front FollowsTree (placed_from linked.read) (record { name = e.0; anchor = e.1 } ∷ []) tree
+  prefix_tree : IsTree (placed_from linked.read)
+  prefix_tree = EachAfter-front FollowsTree (placed_from linked.read) (record { name = e.0; anchor = e.1 } ∷ []) tree
 
   follows : FollowsTree (placed_from linked.read) (record { name = e.0; anchor = e.1 })
   follows = EachAfter-last FollowsTree (placed_from linked.read) (record { name = e.0; anchor = e.1 }) tree
@@ -162,14 +162,14 @@ module _ (all : List (Name × Name)) (e : Name × Name) (left : List (Name × Na
   greatest : list_all (λ m. name_lt m e.0) (order (placed_from linked.read)) ≡ true
   greatest =
       all_has (λ m. name_lt m e.0) (order (placed_from linked.read)) (λ m p.
-      front_below (keys_of linked.read) e.0 (keys_of left)
+      prefix_below (keys_of linked.read) e.0 (keys_of left)
       (subst (IsStrictlySortedBy name_cmp) (ap keys_of linked.whole ∙ keys_append linked.read (e ∷ left)) h.ordered) m
       (subst (λ (ns : List Name). Has ns m) (names_placed linked.read)
       (Has-permutation (order (placed_from linked.read)) (names_of (placed_from linked.read)) m
-      (IsPermutation-sym (names_of (placed_from linked.read)) (order (placed_from linked.read)) (each_law (placed_from linked.read) front_tree)) p)))
+      (IsPermutation-sym (names_of (placed_from linked.read)) (order (placed_from linked.read)) (each_law (placed_from linked.read) prefix_tree)) p)))
 
   anchor_there : has_name (start ∷ order (placed_from linked.read)) e.1 ≡ true
-  anchor_there = ap (λ b. name_eq e.1 start || b) (has_placed (placed_from linked.read) e.1 front_tree) ∙ follows.anchored
+  anchor_there = ap (λ b. name_eq e.1 start || b) (has_placed (placed_from linked.read) e.1 prefix_tree) ∙ follows.anchored
 
   -- so it comes directly behind its anchor
   placed_next : order (placed_from (linked.read ++ e ∷ [])) ≡ insert (order (placed_from linked.read)) (after_anchor (order (placed_from linked.read)) e.1) e.0
@@ -182,7 +182,7 @@ module _ (all : List (Name × Name)) (e : Name × Name) (left : List (Name × Na
   in_order ns same = ap (λ b. name_eq e.0 start || b) same ∙ is_fresh
 
   known : (m : Name) → has_name (order (placed_from linked.read)) m ≡ has_name (keys_of linked.read) m
-  known m = has_placed (placed_from linked.read) m front_tree ∙ ap (λ (ns : List Name). has_name ns m) (names_placed linked.read)
+  known m = has_placed (placed_from linked.read) m prefix_tree ∙ ap (λ (ns : List Name). has_name ns m) (names_placed linked.read)
 
   once : are_distinct (start ∷ order (placed_from linked.read)) ≡ true
   once =
@@ -190,7 +190,7 @@ module _ (all : List (Name × Name)) (e : Name × Name) (left : List (Name × Na
       let parts = and_parts (list_all (is_anchored (keys_of all)) linked.read) (list_all (is_anchored (keys_of all)) (e ∷ left))
       (sym (list_all-append (is_anchored (keys_of all)) linked.read (e ∷ left)) ∙ all_read) in
       let none : has_name (order (placed_from linked.read)) start ≡ false = known start ∙ no_start (keys_of all) linked.read parts.0 in
-      and_from (not (has_name (order (placed_from linked.read)) start)) (are_distinct (order (placed_from linked.read))) (ap not none) (once_law (placed_from linked.read) front_tree)
+      and_from (not (has_name (order (placed_from linked.read)) start)) (are_distinct (order (placed_from linked.read))) (ap not none) (once_law (placed_from linked.read) prefix_tree)
 
   pub next_linked : (new : Name → Option Name) → ((m : Name) → new m ≡ put_behind next e.1 e.0 m) → IsLinked all left new
   next_linked new put = record {

@@ -7,7 +7,7 @@ pub mod Followings
 pub mod Rankings
 pub mod LineLists
 pub mod GrantingAuths
-pub mod Fronts
+pub mod Prefixes
 pub mod Closings
 pub mod Audits
 pub mod WalkedStates

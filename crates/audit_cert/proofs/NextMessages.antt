@@ -78,14 +78,14 @@ no_entry_key [] e = refl
 no_entry_key (Coop q ∷ J) e = no_entry_key J e
 no_entry_key (Admin d ∷ J) e = ap (λ b. nat_eq d.version e.version || b) (no_entry_key J e)
 
-versions_below : (front rest : List Entry) (v : ℕ) → EachFrom FollowsLog front rest → length front + length rest < v
+versions_below : (prefix rest : List Entry) (v : ℕ) → EachFrom FollowsLog prefix rest → length prefix + length rest < v
     → list_any (λ d. nat_eq d.version v) rest ≡ false
-versions_below front [] v each lt = refl
-versions_below front (d ∷ rest) v each lt =
+versions_below prefix [] v each lt = refl
+versions_below prefix (d ∷ rest) v each lt =
     let number = each.0.numbered in
-    let size = length-append front (d ∷ []) in
+    let size = length-append prefix (d ∷ []) in
     let other : nat_eq d.version v ≡ false = grind (arith, nat_tests) in
-    ap (λ b. b || list_any (λ x. nat_eq x.version v) rest) other ∙ versions_below (front ++ d ∷ []) rest v each.1 (omega (arith, size, lt))
+    ap (λ b. b || list_any (λ x. nat_eq x.version v) rest) other ∙ versions_below (prefix ++ d ∷ []) rest v each.1 (omega (arith, size, lt))
 
 -- ---- one more message
 
@@ -216,19 +216,19 @@ module _ (J : List Message) (log : List Entry) (names : List Name) (ids : BTreeS
           count = basis.count ∙ ap (λ (R : List Request). length R) (sym same);
         }
 
-    entry_front : IsWithin (J ++ Admin e ∷ []) → FollowsJournal J (Admin e)
-    entry_front within = EachAfter-last FollowsJournal J (Admin e) within.journal_is
+    last_follows : IsWithin (J ++ Admin e ∷ []) → FollowsJournal J (Admin e)
+    last_follows within = EachAfter-last FollowsJournal J (Admin e) within.journal_is
 
     pub entry_known : nat_le e.version (length log) ≡ true → ¬ IsWithin (J ++ Admin e ∷ [])
     entry_known there within =
-        let number = (entry_here (length (entries_of J)) (elements_of (requests_of J)) e (entry_front within).complete).version in
+        let number = (entry_here (length (entries_of J)) (elements_of (requests_of J)) e (last_follows within).complete).version in
         let size = ap (λ (L : List Entry). length L) basis.entries in
         let below : e.version ≤ length log = grind (arith, nat_tests) in
         absurd (omega (arith, number, size, below))
 
     pub entry_refused : may_extend log names e ≡ false → ¬ IsWithin (J ++ Admin e ∷ [])
     entry_refused refused within =
-        let follows = entry_front within in
+        let follows = last_follows within in
         let L = entries_of J in
         let here = entry_here (length L) (elements_of (requests_of J)) e follows.complete in
         let number = here.version in

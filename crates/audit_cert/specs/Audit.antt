@@ -52,7 +52,7 @@ IsClosed bytes frames told = StartWith bytes frames (spelling End ++ told)
 pub record IsBroken (bytes : List ℕ) (fault : FrameFault) : Type 0 where
   pub frames : List Frame
   pub rest : List ℕ
-  pub front : StartWith bytes frames rest
+  pub prefix : StartWith bytes frames rest
   pub place : fault.offset ≡ length (flat_map spelling frames)
   pub kind : frame_at rest ≡ Err fault.kind
 

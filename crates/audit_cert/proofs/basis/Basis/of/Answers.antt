@@ -3,7 +3,7 @@ use Rattle.std.proofs.lemmas.List.{take_all}
 use Rattle.edit_message.specs.declared.message.Message.{Message}
 use Rattle.peer_core.specs.Sound.{IsWithin}
 use Rattle.audit_cert.specs.Basis.{IsBasisOf}
-use Rattle.audit_cert.proofs.Fronts.{one_further}
+use Rattle.audit_cert.proofs.Prefixes.{one_further}
 use Rattle.audit_cert.proofs.basis.Basis.of.Goals as goal
 
 pub returns-then-not-taken-clause-fail : goal.returns-then-not-taken-clause-fail

@@ -5,7 +5,7 @@ use Rattle.edit_frame.specs.declared.frame.Frame.TheVariants.{Item}
 use Rattle.peer_core.specs.Sound.{IsWithin}
 use Rattle.audit_cert.specs.Basis.{IsBasisOf}
 use Rattle.audit_cert.specs.Audit.{messages_of_frames}
-use Rattle.audit_cert.proofs.Fronts.{one_further}
+use Rattle.audit_cert.proofs.Prefixes.{one_further}
 use Rattle.audit_cert.proofs.Audits.{breaks_here, messages_append, one_item_more, same_item}
 use Rattle.audit_cert.proofs.basis.Basis.of_frames.Goals as goal
 
