@@ -78,13 +78,13 @@ same_fault fault offset kind place is =
 answer_broken : (bytes : List ℕ) (fault : FrameFault) → IsBroken bytes fault → audit_answer bytes ≡ Err (BadFrame fault)
 answer_broken bytes fault at =
     let s : Stream = record { frames = at.frames; rest = at.rest } in
-    let read : stream bytes ≡ s = ap stream at.front.whole ∙ stream_frames at.frames at.rest at.front.formed ∙ ap (behind_frames at.frames) (stream_none at.rest fault.kind at.kind)
+    let read : stream bytes ≡ s = ap stream at.prefix.whole ∙ stream_frames at.frames at.rest at.prefix.formed ∙ ap (behind_frames at.frames) (stream_none at.rest fault.kind at.kind)
     ∙ ap (λ (fs : List Frame). let t : Stream = record { frames = fs; rest = at.rest } in t) (append-nil at.frames) in
-    let size = ap length at.front.whole ∙ length-append (flat_map spelling at.frames) at.rest in
+    let size = ap length at.prefix.whole ∙ length-append (flat_map spelling at.frames) at.rest in
     let place : length bytes - length at.rest ≡ fault.offset = omega (arith, size, at.place) in
     answer_is bytes
     ∙ ap (stream_answer bytes) read
-    ∙ open_answer bytes s at.front.before_end
+    ∙ open_answer bytes s at.prefix.before_end
     ∙ ap (λ (f : FrameFault). let r : Result (ℕ × ℕ) AuditFault = Err (BadFrame f) in r) (same_fault fault _ _ place (rest_kind at.rest fault.kind at.kind))
 
 -- ---- frames that break, and what is told of a journal
@@ -210,7 +210,7 @@ broken_stream bytes s kind formed whole none e =
     record {
       frames = s.frames;
       rest = s.rest;
-      front = record { whole = whole; formed = formed; before_end = none };
+      prefix = record { whole = whole; formed = formed; before_end = none };
       place = omega (arith, size);
       kind = e ∙ ap bad (sym (rest_kind s.rest kind e));
     }

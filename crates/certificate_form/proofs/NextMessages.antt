@@ -22,7 +22,7 @@ use Rattle.peer_core.specs.Sound.{has_key_of, IsLegalAfter, FollowsJournal, IsJo
 use Rattle.peer_core.proofs.JournalLemmas.{requests_request, requests_entry}
 use Rattle.peer_core.proofs.KeptLemmas.Reads.{entries_within}
 use Rattle.audit_cert.specs.Audit.{messages_of_frames, BreaksIn, AreItems}
-use Rattle.audit_cert.proofs.Audits.{within_front, same_item}
+use Rattle.audit_cert.proofs.Audits.{within_prefix, same_item}
 use Rattle.certificate_form.specs.Answer.{is_legal_after, may_come_next, breaking_frame}
 
 -- ---- one message
@@ -113,7 +113,7 @@ pub none_breaks : (J K : List Message) → IsWithin (J ++ K) → breaking_frame 
 none_breaks J [] within = refl
 none_breaks J (m ∷ K) within =
     let further = one_further J m K within in
-    break_on J m (map Item K) (next_within J m (within_front (J ++ m ∷ []) K further)) ∙ none_breaks (J ++ m ∷ []) K further
+    break_on J m (map Item K) (next_within J m (within_prefix (J ++ m ∷ []) K further)) ∙ none_breaks (J ++ m ∷ []) K further
 
 -- ---- a frame that breaks it
 
@@ -140,7 +140,7 @@ breaks_behind J [] next later within breaks =
 breaks_behind J (m ∷ K) next later within breaks =
     let further = one_further J m K within in
     let same = regroup J m K in
-    break_on J m (map Item K ++ next ∷ later) (next_within J m (within_front (J ++ m ∷ []) K further))
+    break_on J m (map Item K ++ next ∷ later) (next_within J m (within_prefix (J ++ m ∷ []) K further))
     ∙ breaks_behind (J ++ m ∷ []) K next later further (λ n is. subst (λ (M : List Message). ¬ IsWithin (M ++ n ∷ [])) (sym same) (breaks n is))
     ∙ ap (λ (M : List Message). Some (length M + 1)) same
 
