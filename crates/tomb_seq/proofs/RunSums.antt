@@ -1,18 +1,16 @@
 -- How many elements the blocks have, and how many of them show.
-use Rattle.std.proofs.Common.{◌≡◌, ℕ, zero, suc, ◌+◌, ◌<◌, ◌≤◌, List, [], ◌∷◌, ◌++◌, None, length, get_or, take, drop, set, insert, remove, map, cond, refl, ap, sym, ◌∙◌, arith, length-append, take-append-drop}
-use Rattle.std.specs.Prelude.{slice_get, slice_index, count_by, sum}
+use Rattle.std.proofs.Common.{◌≡◌, ℕ, zero, suc, ◌+◌, ◌<◌, ◌≤◌, List, [], ◌∷◌, ◌++◌, false, length, get_or, take, set, insert, remove, map, refl, ap, sym, ◌∙◌, arith, add-one}
+use Rattle.std.specs.Prelude.{slice_get, slice_index, sum}
 use Rattle.std.proofs.Math.Seq.{map-set_same}
-use Rattle.std.proofs.lemmas.List.{map-set}
-use Rattle.std.proofs.lemmas.List.Sums.{sum_by-cons, sum_by-append, count_by-le-length}
+use Rattle.std.proofs.lemmas.List.{map-set, take-map, length-map}
 use Rattle.element_name.specs.Name.{Name}
 use Rattle.tomb_seq.specs.declared.slot.Slot.{Slot}
-use Rattle.tomb_seq.specs.Slots.{names_in, marked_names}
-use Rattle.tomb_seq.specs.Runs.{Run, slots_of, run_len, run_shown}
+use Rattle.tomb_seq.specs.declared.spot.Spot.{Spot}
+use Rattle.tomb_seq.specs.Runs.{Run, slots_of, run_len}
 use Rattle.tomb_seq.specs.Sums.{sum_before}
-use Rattle.tomb_seq.proofs.SlotLemmas.{length_names, count_shown}
-use Rattle.tomb_seq.proofs.IndexLemmas.{names-append}
-use Rattle.tomb_seq.proofs.RunPlaces.{offset, slots_of-append}
-use Rattle.tomb_seq.proofs.RunReads.{name_here, shown_here, shown-append}
+use Rattle.tomb_seq.proofs.SlotLemmas.{length_names}
+use Rattle.tomb_seq.proofs.RunPlaces.{offset}
+use Rattle.tomb_seq.proofs.RunReads.{Counts, of_all, names_sum, name_found}
 
 -- ---- one block changed, came in or went: a number of each block
 
@@ -28,8 +26,15 @@ map_insert f [] (suc r) b = refl
 map_insert f (x ∷ runs) zero b = refl
 map_insert f (x ∷ runs) (suc r) b = ap (λ (ns : List ℕ). f x ∷ ns) (map_insert f runs r b)
 
-pub part_insert : (f : Run → ℕ) (runs : List Run) (parts new : List ℕ) (r k : ℕ) (b : Run) → parts ≡ map f runs → new ≡ insert parts r k → k ≡ f b → new ≡ map f (insert runs r b)
+part_insert : (f : Run → ℕ) (runs : List Run) (parts new : List ℕ) (r k : ℕ) (b : Run) → parts ≡ map f runs → new ≡ insert parts r k → k ≡ f b → new ≡ map f (insert runs r b)
 part_insert f runs parts new r k b h to e = to ∙ (λ i. insert (h i) r (e i)) ∙ sym (map_insert f runs r b)
+
+-- one became two
+pub part_split : (f : Run → ℕ) (runs : List Run) (parts new : List ℕ) (r first second : ℕ) (one two : Run) → parts ≡ map f runs → new ≡ insert (set parts r first) (r + 1) second
+    → first ≡ f one → second ≡ f two → new ≡ map f (insert (set runs r one) (suc r) two)
+part_split f runs parts new r first second one two h to p q =
+    part_insert f (set runs r one) (set parts r first) new (suc r) second two (part_set f runs parts (set parts r first) r first one h refl p)
+    (to ∙ ap (λ k. insert (set parts r first) k second) (add-one r)) q
 
 map_remove : (f : Run → ℕ) (runs : List Run) (r : ℕ) → map f (remove runs r) ≡ remove (map f runs) r
 map_remove f [] zero = refl
@@ -40,80 +45,44 @@ map_remove f (x ∷ runs) (suc r) = ap (λ (ns : List ℕ). f x ∷ ns) (map_rem
 pub part_remove : (f : Run → ℕ) (runs : List Run) (parts new : List ℕ) (r : ℕ) → parts ≡ map f runs → new ≡ remove parts r → new ≡ map f (remove runs r)
 part_remove f runs parts new r h to = to ∙ ap (λ (ns : List ℕ). remove ns r) h ∙ sym (map_remove f runs r)
 
-pub part_at : (f : Run → ℕ) (runs : List Run) (r : ℕ) (b : Run) → r < length runs → b ≡ get_or runs r b → slice_index (map f runs) r ≡ f b
+part_at : (f : Run → ℕ) (runs : List Run) (r : ℕ) (b : Run) → r < length runs → b ≡ get_or runs r b → slice_index (map f runs) r ≡ f b
 part_at f [] r b l is = absurd (omega arith)
 part_at f (x ∷ runs) zero b l is = ap f (sym is)
 part_at f (x ∷ runs) (suc r) b l is = part_at f runs r b (omega arith) is
 
 -- ---- sums
 
-pub lens_before : (runs : List Run) (r : ℕ) → sum_before (map run_len runs) r ≡ offset runs r
-lens_before runs zero = refl
-lens_before [] (suc r) = refl
-lens_before (x ∷ runs) (suc r) =
-    let a = sum_by-cons (λ n. n) (run_len x) (take r (map run_len runs)) in
-    let b = length-append x.slots (slots_of (take r runs)) in
-    let ih = lens_before runs r in
-    omega (arith, a, b, ih)
-
 pub lens_sum : (runs : List Run) → sum (map run_len runs) ≡ length (slots_of runs)
-lens_sum [] = refl
-lens_sum (x ∷ runs) =
-    let a = sum_by-cons (λ n. n) (run_len x) (map run_len runs) in
-    let b = length-append x.slots (slots_of runs) in
-    let ih = lens_sum runs in
-    omega (arith, a, b, ih)
+lens_sum runs = names_sum of_all runs ∙ length_names (slots_of runs)
 
-pub shows_before : (runs : List Run) (r : ℕ) → sum_before (map run_shown runs) r ≡ count_by (λ s. s.shows) (slots_of (take r runs))
-shows_before runs zero = refl
-shows_before [] (suc r) = refl
-shows_before (x ∷ runs) (suc r) =
-    let a = sum_by-cons (λ n. n) (run_shown x) (take r (map run_shown runs)) in
-    let b = sum_by-append {X = Slot} (λ s. cond s.shows 1 0) x.slots (slots_of (take r runs)) in
-    let ih = shows_before runs r in
-    omega (arith, a, b, ih)
+pub lens_before : (runs : List Run) (parts : List ℕ) (r : ℕ) → parts ≡ map run_len runs → sum_before parts r ≡ offset runs r
+lens_before runs parts r h = ap (λ (ns : List ℕ). sum_before ns r) h ∙ ap sum (take-map run_len r runs) ∙ lens_sum (take r runs)
 
-pub shows_sum : (runs : List Run) → sum (map run_shown runs) ≡ count_by (λ s. s.shows) (slots_of runs)
-shows_sum [] = refl
-shows_sum (x ∷ runs) =
-    let a = sum_by-cons (λ n. n) (run_shown x) (map run_shown runs) in
-    let b = sum_by-append {X = Slot} (λ s. cond s.shows 1 0) x.slots (slots_of runs) in
-    let ih = shows_sum runs in
-    omega (arith, a, b, ih)
+-- numbers that are those of the blocks
+module _ {f : Run → ℕ} {names : List Slot → List Name} (c : Counts f names) (runs : List Run) (parts : List ℕ) (h : parts ≡ map f runs) where
+  pub part_ranks : length parts ≡ length runs
+  part_ranks = ap length h ∙ length-map runs f
 
-pub shows_le : (runs : List Run) → sum (map run_shown runs) ≤ length (slots_of runs)
-shows_le runs = let a = shows_sum runs in let b = count_by-le-length {X = Slot} (λ s. s.shows) (slots_of runs) in omega (arith, a, b)
+  pub parts_sum : sum parts ≡ length (names (slots_of runs))
+  parts_sum = ap sum h ∙ names_sum c runs
 
--- ---- the name at a place
+  pub parts_le : sum parts ≤ length (slots_of runs)
+  parts_le = let a = c.fewer (slots_of runs) in omega (arith, parts_sum, a)
 
-pub get_past : (xs : List Name) (k : ℕ) → length xs ≤ k → slice_get xs k ≡ None
-get_past [] k l = refl
-get_past (x ∷ xs) zero l = absurd (omega arith)
-get_past (x ∷ xs) (suc k) l = get_past xs k (omega arith)
+  pub part_is : (r : ℕ) (b : Run) → r < length parts → b ≡ get_or runs r b → slice_index parts r ≡ f b
+  part_is r b l is = ap (λ (ns : List ℕ). slice_index ns r) h ∙ part_at f runs r b (omega (arith, part_ranks, l)) is
 
-get_behind : (xs ys : List Name) (k p : ℕ) → length xs + p ≡ k → slice_get (xs ++ ys) k ≡ slice_get ys p
-get_behind [] ys k p e = ap (slice_get ys) (omega arith)
-get_behind (x ∷ xs) ys zero p e = absurd (omega arith)
-get_behind (x ∷ xs) ys (suc k) p e = get_behind xs ys k p (omega arith)
+  -- the name at a place, by the place in its block
+  pub name_by_parts : (spot : Spot) (b : Run) (place : ℕ) → spot.rank < length parts → spot.place < slice_index parts spot.rank → sum_before parts spot.rank + spot.place ≡ place
+      → b ≡ get_or runs spot.rank b → slice_get (names b.slots) spot.place ≡ slice_get (names (slots_of runs)) place
+  name_by_parts spot b place l w e is =
+      name_found c runs spot.rank spot.place b (omega (arith, part_ranks, l)) is (omega (arith, w, part_is spot.rank b l is))
+      ∙ ap (slice_get (names (slots_of runs))) (ap (λ (ns : List ℕ). sum_before ns spot.rank + spot.place) (sym h) ∙ e)
 
-parted : (runs : List Run) (r : ℕ) → slots_of runs ≡ slots_of (take r runs) ++ slots_of (drop r runs)
-parted runs r = ap slots_of (sym (take-append-drop r runs)) ∙ slots_of-append (take r runs) (drop r runs)
-
-module _ (runs : List Run) (r : ℕ) (b : Run) (p place : ℕ) (l : r < length runs) (is : b ≡ get_or runs r b) where
-  pub name_found : p < length b.slots → sum_before (map run_len runs) r + p ≡ place → slice_get (names_in b.slots) p ≡ slice_get (names_in (slots_of runs)) place
-  name_found w e =
-      let n = length_names (slots_of (take r runs)) in
-      let o = lens_before runs r in
-      name_here runs r b p l is w
-      ∙ sym (ap (λ (ss : List Slot). slice_get (names_in ss) place) (parted runs r)
-      ∙ ap (λ (ns : List Name). slice_get ns place) (names-append (slots_of (take r runs)) (slots_of (drop r runs)))
-      ∙ get_behind (names_in (slots_of (take r runs))) (names_in (slots_of (drop r runs))) place p (omega (arith, n, o, e)))
-
-  pub shown_found : p < run_shown b → sum_before (map run_shown runs) r + p ≡ place → slice_get (marked_names b.slots) p ≡ slice_get (marked_names (slots_of runs)) place
-  shown_found w e =
-      let n = count_shown (slots_of (take r runs)) in
-      let o = shows_before runs r in
-      shown_here runs r b p l is w
-      ∙ sym (ap (λ (ss : List Slot). slice_get (marked_names ss) place) (parted runs r)
-      ∙ ap (λ (ns : List Name). slice_get ns place) (shown-append (slots_of (take r runs)) (slots_of (drop r runs)))
-      ∙ get_behind (marked_names (slots_of (take r runs))) (marked_names (slots_of (drop r runs))) place p (omega (arith, n, o, e)))
+  -- another number at the rank of a block that changed
+  pub set_le : (r k : ℕ) (after : Run) → k ≡ f after → sum (set parts r k) ≤ length (slots_of (set runs r after))
+  set_le r k after e =
+      let a = ap sum (part_set f runs parts (set parts r k) r k after h refl e) in
+      let b = names_sum c (set runs r after) in
+      let d = c.fewer (slots_of (set runs r after)) in
+      omega (arith, a, b, d)

@@ -1,5 +1,5 @@
 -- Sums of numbers, by groups.
-use Rattle.std.proofs.Common.{◌≡◌, ℕ, zero, suc, ◌+◌, ◌-◌, ◌*◌, ◌<◌, ◌≤◌, ⊎_elim, min, List, [], ◌∷◌, length, take, drop, set, refl, ap, sym, ◌∙◌, arith, add-one, length-set, drop-drop}
+use Rattle.std.proofs.Common.{◌≡◌, ℕ, zero, suc, ◌+◌, ◌-◌, ◌*◌, ◌/◌, ◌<◌, ◌≤◌, ⊎_elim, min, List, [], ◌∷◌, length, take, drop, set, refl, ap, sym, ◌∙◌, arith, add-one, length-set, drop-drop}
 use Rattle.std.specs.Prelude.{slice_index, sum}
 use Rattle.std.proofs.Math.Seq.{take-add}
 use Rattle.std.proofs.lemmas.List.{take_all, drop_min, take_min, take_rest, get_or-set_same, get_or-set_other}
@@ -112,11 +112,14 @@ module _ (parts groups : List ℕ) (h : AreGrouped parts groups) where
       omega (arith, a, s, b, e, f)
 
   -- another number in a group
-  module _ (rank number q : ℕ) (l : rank < length parts) (from : q * 32 ≤ rank) (to : rank < q * 32 + 32) where
-    pub group_below : q < length groups
-    group_below = let c = h.cover in omega (arith, c, from, l)
+  module _ (rank : ℕ) (l : rank < length parts) where
+    abbrev q : ℕ
+    q = rank / 32
 
-    pub part_le : slice_index parts rank ≤ slice_index groups q
+    pub group_below : rank / 32 < length groups
+    group_below = let c = h.cover in omega (arith, c, l)
+
+    pub part_le : slice_index parts rank ≤ slice_index groups (rank / 32)
     part_le =
         let e = h.each q group_below in
         let a = before_mono parts (32 * q) rank (omega arith) in
@@ -124,32 +127,31 @@ module _ (parts groups : List ℕ) (h : AreGrouped parts groups) where
         let m = before_more parts rank l in
         omega (arith, e, a, b, m)
 
-    pub group_le : slice_index groups q ≤ sum parts
+    pub group_le : slice_index groups (rank / 32) ≤ sum parts
     group_le = let e = h.each q group_below in let m = before_le parts (32 * q + 32) in omega (arith, e, m)
 
-    pub set_grouped : AreGrouped (set parts rank number) (set groups q (slice_index groups q - slice_index parts rank + number))
-    set_grouped = record {
-      cover = let a = length-set parts rank number in let b = length-set groups q (slice_index groups q - slice_index parts rank + number) in let c = h.cover in omega (arith, a, b, c);
+    pub set_grouped : (number v : ℕ) → v ≡ slice_index groups (rank / 32) - slice_index parts rank + number → AreGrouped (set parts rank number) (set groups (rank / 32) v)
+    set_grouped number v is_new = record {
+      cover = let a = length-set parts rank number in let b = length-set groups q v in let c = h.cover in omega (arith, a, b, c);
       each = λ g m.
-          let w = length-set groups q (slice_index groups q - slice_index parts rank + number) in
+          let w = length-set groups q v in
           let below : g < length groups = omega (arith, w, m) in
           let e = h.each g below in
           ⊎_elim
           (λ (a : g < q).
-          let other = get_or-set_other groups q g (slice_index groups q - slice_index parts rank + number) 0 (λ same. omega (arith, same, a)) in
+          let other = get_or-set_other groups q g v 0 (λ same. omega (arith, same, a)) in
           let x = before_set_front parts rank number (32 * g) (omega arith) in
           let y = before_set_front parts rank number (32 * g + 32) (omega arith) in
           omega (arith, other, x, y, e))
           (λ (b : q ≤ g). ⊎_elim
           (λ (c : q < g).
-          let other = get_or-set_other groups q g (slice_index groups q - slice_index parts rank + number) 0 (λ same. omega (arith, same, c)) in
+          let other = get_or-set_other groups q g v 0 (λ same. omega (arith, same, c)) in
           let x = before_set_past parts rank number (32 * g) (omega arith) l in
           let y = before_set_past parts rank number (32 * g + 32) (omega arith) l in
           omega (arith, other, x, y, e))
           (λ (d : g ≤ q).
           let is : g ≡ q = omega arith in
-          let this = ap (λ j. slice_index (set groups q (slice_index groups q - slice_index parts rank + number)) j) is
-          ∙ get_or-set_same groups q (slice_index groups q - slice_index parts rank + number) 0 group_below in
+          let this = ap (slice_index (set groups q v)) is ∙ get_or-set_same groups q v 0 group_below ∙ is_new in
           let old = ap (slice_index groups) is in
           let x = before_set_front parts rank number (32 * g) (omega arith) in
           let y = before_set_past parts rank number (32 * g + 32) (omega arith) l in
