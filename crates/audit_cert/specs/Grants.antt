@@ -1,5 +1,5 @@
 -- Which authorizations grant a request, version by version.
-use Rattle.std.specs.Prelude.{ℕ, ◌==◌, List, [], ◌∷◌, Option, find, option_and_then, if◌then◌else◌}
+use Rattle.std.specs.Prelude.{ℕ, ◌==◌, List, [], ◌∷◌, Option, option_and_then, if◌then◌else◌}
 use Rattle.std.specs.Option.{option_map_or}
 use Rattle.element_name.specs.Cases.{when}
 use Rattle.element_name.specs.Name.{Name}
@@ -7,7 +7,7 @@ use Rattle.coop_request.specs.Edit.{right_of}
 use Rattle.coop_request.specs.Request.{Request, user_of, element_of}
 use Rattle.policy_book.specs.Entry.{Entry}
 use Rattle.policy_book.specs.Policy.{Policy}
-use Rattle.auth_match.specs.Verdict.{matches}
+use Rattle.auth_match.specs.Verdict.{first_match}
 use Rattle.admin_log.specs.Log.{policy_at}
 use Rattle.check_remote.specs.State.{judged_versions}
 use Rattle.audit_cert.specs.declared.grant.Grant.{Grant}
@@ -15,7 +15,7 @@ use Rattle.audit_cert.specs.declared.grant.Grant.{Grant}
 -- the number of the authorization that grants a request: of the first that matches, where that one grants
 abbrev pub granting_auth : List Name → Policy → Request → Option ℕ
 granting_auth names p q =
-    option_and_then (λ a. when a.auth.grant a.number) (find (λ a. matches names p (user_of q) (right_of q.edit) (element_of q) a.auth) p.auths)
+    option_and_then (λ a. when a.auth.grant a.number) (first_match names p (user_of q) (right_of q.edit) (element_of q))
 
 -- the same by the policy of a version
 abbrev pub granting_at : List Name → List Entry → Request → ℕ → Option ℕ
