@@ -31,9 +31,9 @@ use Rattle.audit_cert.specs.Certificate.{certificate_bytes}
 use Rattle.audit_cert.specs.Audit.{IsCertified, is_end_frame, messages_of_frames, IsClosed, IsBroken, IsAuditFault, AreItems, differing_line}
 use Rattle.audit_cert.proofs.Audits.{messages_items, certified_by}
 use Rattle.certificate_form.specs.Certify.{certified_bytes}
-use Rattle.certificate_form.specs.Answer.{breaking_frame, certificate_answer, frames_answer, front_of, told_behind, broken_at, stream_answer, audit_answer}
+use Rattle.certificate_form.specs.Answer.{breaking_frame, certificate_answer, frames_answer, prefix_of, told_behind, broken_at, stream_answer, audit_answer}
 use Rattle.certificate_form.specs.Laws.{IsRightAnswer}
-use Rattle.certificate_form.proofs.Fronts.{stream_one, behind_frames, stream_frames, front_is, GoesOn, goes_on, told_is}
+use Rattle.certificate_form.proofs.Prefixes.{stream_one, behind_frames, stream_frames, prefix_is, GoesOn, goes_on, told_is}
 use Rattle.certificate_form.proofs.NextMessages.{none_breaks, breaks_so, breaks_by, items_by}
 
 answer_is : (bytes : List ℕ) → audit_answer bytes ≡ stream_answer bytes (stream bytes)
@@ -42,11 +42,11 @@ answer_is bytes = refl
 
 -- ---- frames, the first End, and what is told behind it
 
-closed_answer : (bytes : List ℕ) (frames : List Frame) (told : List ℕ) (s : Stream) → list_any is_end_frame s.frames ≡ true → front_of s.frames ≡ frames
+closed_answer : (bytes : List ℕ) (frames : List Frame) (told : List ℕ) (s : Stream) → list_any is_end_frame s.frames ≡ true → prefix_of s.frames ≡ frames
     → told_behind frames bytes ≡ told → stream_answer bytes s ≡ frames_answer frames told
-closed_answer bytes frames told s some front behind =
-    ap (λ (b : Bool). if b then frames_answer (front_of s.frames) (told_behind (front_of s.frames) bytes) else Err (BadFrame (broken_at bytes s))) some
-    ∙ ap (λ (fs : List Frame). frames_answer fs (told_behind fs bytes)) front
+closed_answer bytes frames told s some prefix behind =
+    ap (λ (b : Bool). if b then frames_answer (prefix_of s.frames) (told_behind (prefix_of s.frames) bytes) else Err (BadFrame (broken_at bytes s))) some
+    ∙ ap (λ (fs : List Frame). frames_answer fs (told_behind fs bytes)) prefix
     ∙ ap (frames_answer frames) behind
 
 pub answer_closed : (bytes : List ℕ) (frames : List Frame) (told : List ℕ) → IsClosed bytes frames told → audit_answer bytes ≡ frames_answer frames told
@@ -57,7 +57,7 @@ answer_closed bytes frames told closed =
     let some : list_any is_end_frame s.frames ≡ true = list_any-append is_end_frame frames later ∙ ap (λ b. b || true) closed.before_end in
     answer_is bytes
     ∙ ap (stream_answer bytes) read
-    ∙ closed_answer bytes frames told s some (front_is frames (stream told).frames closed.before_end) (told_is frames bytes told closed.whole)
+    ∙ closed_answer bytes frames told s some (prefix_is frames (stream told).frames closed.before_end) (told_is frames bytes told closed.whole)
 
 -- ---- no End
 
@@ -67,7 +67,7 @@ rest_kind [] kind e = same_kind Truncated kind (sym nothing_waits ∙ e)
 rest_kind (b ∷ bytes) kind e = ap (λ (r : Result Frame FrameKind). unwrap_or (elim r as (λ _. Option FrameKind) [ Ok f ↦ None | Err fault ↦ Some fault ]) Truncated) e
 
 open_answer : (bytes : List ℕ) (s : Stream) → list_any is_end_frame s.frames ≡ false → stream_answer bytes s ≡ Err (BadFrame (broken_at bytes s))
-open_answer bytes s none = ap (λ (b : Bool). if b then frames_answer (front_of s.frames) (told_behind (front_of s.frames) bytes) else Err (BadFrame (broken_at bytes s))) none
+open_answer bytes s none = ap (λ (b : Bool). if b then frames_answer (prefix_of s.frames) (told_behind (prefix_of s.frames) bytes) else Err (BadFrame (broken_at bytes s))) none
 
 -- a fault is its place and its kind
 same_fault : (fault : FrameFault) (offset : ℕ) (kind : FrameKind) → offset ≡ fault.offset → kind ≡ fault.kind → (let f : FrameFault = record { offset = offset; kind = kind } in f) ≡ fault
@@ -183,23 +183,23 @@ frames_right bytes frames told closed = by (breaking_frame [] frames) refl
 
 -- bytes whose frames have an End are closed
 closed_stream : (bytes : List ℕ) (s : Stream) → list_all is_frame s.frames ≡ true → bytes ≡ flat_map spelling s.frames ++ s.rest → list_any is_end_frame s.frames ≡ true
-    → IsClosed bytes (front_of s.frames) (told_behind (front_of s.frames) bytes)
+    → IsClosed bytes (prefix_of s.frames) (told_behind (prefix_of s.frames) bytes)
 closed_stream bytes s formed whole some =
     let on : GoesOn s.frames = goes_on s.frames some in
-    let front : List Frame = front_of s.frames in
+    let prefix : List Frame = prefix_of s.frames in
     let told : List ℕ = flat_map spelling on.later ++ s.rest in
-    let split : bytes ≡ flat_map spelling front ++ (spelling End ++ told) =
+    let split : bytes ≡ flat_map spelling prefix ++ (spelling End ++ told) =
     whole
     ∙ ap (λ (fs : List Frame). flat_map spelling fs ++ s.rest) on.whole
-    ∙ ap (λ (xs : List ℕ). xs ++ s.rest) (flat_map-append spelling front (End ∷ on.later))
-    ∙ ap (λ (xs : List ℕ). (flat_map spelling front ++ xs) ++ s.rest) (flat_map-cons spelling End on.later)
-    ∙ append_assoc (flat_map spelling front) (spelling End ++ flat_map spelling on.later) s.rest
-    ∙ ap (λ (xs : List ℕ). flat_map spelling front ++ xs) (append_assoc (spelling End) (flat_map spelling on.later) s.rest) in
-    let behind : told_behind front bytes ≡ told = told_is front bytes told split in
-    let each : list_all is_frame (front ++ End ∷ on.later) ≡ true = sym (ap (list_all is_frame) on.whole) ∙ formed in
+    ∙ ap (λ (xs : List ℕ). xs ++ s.rest) (flat_map-append spelling prefix (End ∷ on.later))
+    ∙ ap (λ (xs : List ℕ). (flat_map spelling prefix ++ xs) ++ s.rest) (flat_map-cons spelling End on.later)
+    ∙ append_assoc (flat_map spelling prefix) (spelling End ++ flat_map spelling on.later) s.rest
+    ∙ ap (λ (xs : List ℕ). flat_map spelling prefix ++ xs) (append_assoc (spelling End) (flat_map spelling on.later) s.rest) in
+    let behind : told_behind prefix bytes ≡ told = told_is prefix bytes told split in
+    let each : list_all is_frame (prefix ++ End ∷ on.later) ≡ true = sym (ap (list_all is_frame) on.whole) ∙ formed in
     record {
-      whole = split ∙ ap (λ (xs : List ℕ). flat_map spelling front ++ (spelling End ++ xs)) (sym behind);
-      formed = (and_parts (list_all is_frame front) (list_all is_frame (End ∷ on.later)) (sym (list_all-append is_frame front (End ∷ on.later)) ∙ each)).0;
+      whole = split ∙ ap (λ (xs : List ℕ). flat_map spelling prefix ++ (spelling End ++ xs)) (sym behind);
+      formed = (and_parts (list_all is_frame prefix) (list_all is_frame (End ∷ on.later)) (sym (list_all-append is_frame prefix (End ∷ on.later)) ∙ each)).0;
       before_end = on.before_end;
     }
 
@@ -219,10 +219,10 @@ broken_stream bytes s kind formed whole none e =
 right_by : (bytes : List ℕ) → IsBytes bytes → (b : Bool) → list_any is_end_frame (stream bytes).frames ≡ b → IsRightAnswer bytes (stream_answer bytes (stream bytes))
 right_by bytes fits true some =
     let spelled = stream_spelled bytes fits in
-    let front : List Frame = front_of (stream bytes).frames in
-    let told : List ℕ = told_behind front bytes in
-    right_as bytes _ _ (closed_answer bytes front told (stream bytes) some refl refl)
-    (frames_right bytes front told (closed_stream bytes (stream bytes) spelled.0 spelled.1 some))
+    let prefix : List Frame = prefix_of (stream bytes).frames in
+    let told : List ℕ = told_behind prefix bytes in
+    right_as bytes _ _ (closed_answer bytes prefix told (stream bytes) some refl refl)
+    (frames_right bytes prefix told (closed_stream bytes (stream bytes) spelled.0 spelled.1 some))
 right_by bytes fits false none =
     let spelled = stream_spelled bytes fits in
     let rest = stream_rest bytes fits in

@@ -1,4 +1,4 @@
-pub mod Fronts
+pub mod Prefixes
 pub mod NextMessages
 pub mod AuditAnswers
 pub mod CertifyOutputs

@@ -54,9 +54,9 @@ frames_answer frames told = option_map_or (λ k. Err (NotJournal k)) (breaking_f
 
 -- ---- all of it
 
--- the frames in front of the first End
-abbrev pub front_of : List Frame → List Frame
-front_of frames = before_first is_end_frame frames
+-- the frames before the first End
+abbrev pub prefix_of : List Frame → List Frame
+prefix_of frames = before_first is_end_frame frames
 
 -- what stands behind these frames and End
 abbrev pub told_behind : List Frame → List ℕ → List ℕ
@@ -69,7 +69,7 @@ broken_at bytes s = record { offset = length bytes - length s.rest; kind = unwra
 -- what is answered of bytes that are read so
 abbrev pub stream_answer : List ℕ → Stream → Result (ℕ × ℕ) AuditFault
 stream_answer bytes s =
-    if list_any is_end_frame s.frames then frames_answer (front_of s.frames) (told_behind (front_of s.frames) bytes) else Err (BadFrame (broken_at bytes s))
+    if list_any is_end_frame s.frames then frames_answer (prefix_of s.frames) (told_behind (prefix_of s.frames) bytes) else Err (BadFrame (broken_at bytes s))
 
 -- what is answered of bytes: the numbers of requests and entries where the certificate holds, or the first fault
 unfoldable pub audit_answer : List ℕ → Result (ℕ × ℕ) AuditFault

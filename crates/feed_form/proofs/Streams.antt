@@ -8,14 +8,14 @@ use Rattle.edit_frame.specs.Reading.{fault_or, frame_of, length_field, cut_fault
 use Rattle.edit_frame.proofs.Cut.{IsWhole, whole_by, by_whole}
 use Rattle.edit_frame.proofs.Outcomes.{no_frame}
 
--- ---- a frame at the front
+-- ---- a frame that bytes begin with
 
 -- where a frame is read there is no fault of its length
 no_cut : (cut : Option FrameKind) (read : Result Frame FrameKind) (f : Frame) → fault_or cut read ≡ Ok f → cut ≡ None
 no_cut None read f e = refl
 no_cut (Some kind) read f e = absurd (no_frame kind f e)
 
--- a frame at the front is whole
+-- it is whole
 pub frame_whole : (bytes : List ℕ) (f : Frame) → frame_at bytes ≡ Ok f → IsWhole bytes
 unfolding frame_at
 frame_whole bytes f e = whole_by bytes (no_cut (cut_fault bytes) (frame_of false (inner bytes)) f e)
@@ -54,7 +54,7 @@ frame_more bytes more f e =
 
 -- ---- the frames of a stream
 
--- the bytes behind the frame at the front
+-- the bytes behind the frame that they begin with
 abbrev pub behind : List ℕ → List ℕ
 behind bytes = drop (4 + length_field bytes) bytes
 
@@ -68,15 +68,15 @@ behind_more bytes more f e =
     let w = frame_whole bytes f e in
     ap (λ (n : ℕ). drop (4 + n) (bytes ++ more)) (field_more bytes more w) ∙ drop-append-le (4 + length_field bytes) bytes more w.room
 
--- where no frame is at the front, there is none
+-- bytes that begin with no frame have none
 of_none : (n : ℕ) (bytes : List ℕ) (kind : FrameKind) → frame_at bytes ≡ Err kind → stream_of n bytes ≡ record { frames = []; rest = bytes }
 unfolding stream_of
 of_none zero bytes kind e = refl
 of_none (suc n) bytes kind e = ap (λ (r : Result Frame FrameKind). elim r as (λ _. Stream) [ Ok f ↦ stream_with f (stream_of n (behind bytes)) | Err fault ↦ record { frames = []; rest = bytes } ]) e
 
-of_front : (n : ℕ) (bytes : List ℕ) (f : Frame) → frame_at bytes ≡ Ok f → stream_of (suc n) bytes ≡ stream_with f (stream_of n (behind bytes))
+of_prefix : (n : ℕ) (bytes : List ℕ) (f : Frame) → frame_at bytes ≡ Ok f → stream_of (suc n) bytes ≡ stream_with f (stream_of n (behind bytes))
 unfolding stream_of
-of_front n bytes f e = ap (λ (r : Result Frame FrameKind). elim r as (λ _. Stream) [ Ok f ↦ stream_with f (stream_of n (behind bytes)) | Err fault ↦ record { frames = []; rest = bytes } ]) e
+of_prefix n bytes f e = ap (λ (r : Result Frame FrameKind). elim r as (λ _. Stream) [ Ok f ↦ stream_with f (stream_of n (behind bytes)) | Err fault ↦ record { frames = []; rest = bytes } ]) e
 
 -- no bytes are no frame
 no_bytes : (bytes : List ℕ) (f : Frame) → frame_at bytes ≡ Ok f → length bytes ≤ 0 → ⊥
@@ -89,9 +89,9 @@ enough zero m bytes (Ok f) e le lf = absurd (no_bytes bytes f e le)
 enough (suc n) zero bytes (Ok f) e le lf = absurd (no_bytes bytes f e lf)
 enough (suc n) (suc m) bytes (Ok f) e le lf =
     let size = behind_size bytes f e in
-    of_front n bytes f e
+    of_prefix n bytes f e
     ∙ ap (stream_with f) (enough n m (behind bytes) (frame_at (behind bytes)) refl (omega (arith, size, le)) (omega (arith, size, lf)))
-    ∙ sym (of_front m bytes f e)
+    ∙ sym (of_prefix m bytes f e)
 
 -- a stream that begins with no frame has none
 pub stream_none : (bytes : List ℕ) (kind : FrameKind) → frame_at bytes ≡ Err kind → stream bytes ≡ record { frames = []; rest = bytes }
@@ -99,17 +99,17 @@ unfolding stream
 stream_none bytes kind e = of_none (length bytes) bytes kind e
 
 -- a stream that begins with a frame has it, and then those of what stands behind it
-stream_front : (bytes : List ℕ) (f : Frame) → frame_at bytes ≡ Ok f → stream bytes ≡ stream_with f (stream (behind bytes))
+stream_prefix : (bytes : List ℕ) (f : Frame) → frame_at bytes ≡ Ok f → stream bytes ≡ stream_with f (stream (behind bytes))
 unfolding stream
-stream_front bytes f e =
+stream_prefix bytes f e =
     let size = behind_size bytes f e in
     enough (length bytes) (suc (length bytes)) bytes (frame_at bytes) refl (omega arith) (omega arith)
-    ∙ of_front (length bytes) bytes f e
+    ∙ of_prefix (length bytes) bytes f e
     ∙ ap (stream_with f) (enough (length bytes) (length (behind bytes)) (behind bytes) (frame_at (behind bytes)) refl (omega (arith, size)) (omega arith))
 
 pub stream_more : (bytes more : List ℕ) (f : Frame) → frame_at bytes ≡ Ok f → stream (bytes ++ more) ≡ stream_with f (stream (behind bytes ++ more))
 stream_more bytes more f e =
-    stream_front (bytes ++ more) f (frame_more bytes more f e) ∙ ap (λ (xs : List ℕ). stream_with f (stream xs)) (behind_more bytes more f e)
+    stream_prefix (bytes ++ more) f (frame_more bytes more f e) ∙ ap (λ (xs : List ℕ). stream_with f (stream xs)) (behind_more bytes more f e)
 
 -- a rest is no longer than the stream
 of_short : (n : ℕ) (bytes : List ℕ) (read : Result Frame FrameKind) → frame_at bytes ≡ read → length (stream_of n bytes).rest ≤ length bytes
@@ -117,7 +117,7 @@ unfolding stream_of
 of_short zero bytes read e = omega arith
 of_short (suc n) bytes (Err kind) e = omega (arith, ap (λ (s : Stream). length s.rest) (of_none (suc n) bytes kind e))
 of_short (suc n) bytes (Ok f) e =
-    omega (arith, ap (λ (s : Stream). length s.rest) (of_front n bytes f e), of_short n (behind bytes) (frame_at (behind bytes)) refl, behind_size bytes f e)
+    omega (arith, ap (λ (s : Stream). length s.rest) (of_prefix n bytes f e), of_short n (behind bytes) (frame_at (behind bytes)) refl, behind_size bytes f e)
 
 pub rest_short : (bytes : List ℕ) → length (stream bytes).rest ≤ length bytes
 unfolding stream

@@ -21,7 +21,7 @@ pub record SettleRun : Type 0 where
   pub answers : List Answer
   pub peer : Peer
 
--- one more answer in front
+-- one more answer before these
 abbrev pub run_first : Answer → SettleRun → SettleRun
 run_first answer later = record { answers = answer ∷ later.answers; peer = later.peer }
 

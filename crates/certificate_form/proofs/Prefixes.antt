@@ -1,4 +1,4 @@
--- The frames of bytes that begin with spellings, and what stands in front of the first End and behind it.
+-- The frames of bytes that begin with spellings, and what stands before the first End and behind it.
 use Rattle.std.proofs.Common.{◌≡◌, ℕ, ◌+◌, Bool, true, false, not, ◌||◌, List, [], ◌∷◌, ◌++◌, length, drop, Ok, refl, sym, ap, ◌∙◌, append_assoc, arith}
 use Rattle.std.specs.Prelude.{if◌then◌else◌}
 use Rattle.std.specs.Int.{w32, to_be_bytes}
@@ -15,9 +15,9 @@ use Rattle.edit_frame.specs.Reading.{length_field, frame_at, Stream, stream_with
 use Rattle.edit_frame.proofs.Frames.{spelled_again, frame_at_again}
 use Rattle.feed_form.proofs.Streams.{behind, behind_size, stream_more}
 use Rattle.audit_cert.specs.Audit.{is_end_frame}
-use Rattle.certificate_form.specs.Answer.{front_of, told_behind}
+use Rattle.certificate_form.specs.Answer.{prefix_of, told_behind}
 
--- ---- frames at the front
+-- ---- frames that bytes begin with
 
 spelling_size : (f : Frame) → length (spelling f) ≡ 4 + length (body f)
 unfolding spelling
@@ -36,7 +36,7 @@ pub stream_one : (f : Frame) (rest : List ℕ) → is_frame f ≡ true → strea
 stream_one f rest formed =
     stream_more (spelling f) rest f (alone f formed) ∙ ap (λ (xs : List ℕ). stream_with f (stream (xs ++ rest))) (none_behind f formed)
 
--- a stream with more frames in front
+-- a stream with more frames before it
 abbrev pub behind_frames : List Frame → Stream → Stream
 behind_frames frames s = record { frames = frames ++ s.frames; rest = s.rest }
 
@@ -50,34 +50,34 @@ stream_frames (f ∷ frames) rest formed =
     ∙ stream_one f (flat_map spelling frames ++ rest) parts.0
     ∙ ap (stream_with f) (stream_frames frames rest parts.1)
 
--- ---- in front of the first End
+-- ---- before the first End
 
-front_next : (f : Frame) (frames : List Frame) → is_end_frame f ≡ false → front_of (f ∷ frames) ≡ f ∷ front_of frames
-front_next f frames other =
-    take_while-cons (λ (g : Frame). not (is_end_frame g)) f frames ∙ ap (λ (b : Bool). if not b then f ∷ front_of frames else []) other
+prefix_next : (f : Frame) (frames : List Frame) → is_end_frame f ≡ false → prefix_of (f ∷ frames) ≡ f ∷ prefix_of frames
+prefix_next f frames other =
+    take_while-cons (λ (g : Frame). not (is_end_frame g)) f frames ∙ ap (λ (b : Bool). if not b then f ∷ prefix_of frames else []) other
 
-front_end : (frames : List Frame) → front_of (End ∷ frames) ≡ []
-front_end frames = take_while-cons (λ (g : Frame). not (is_end_frame g)) End frames
+prefix_end : (frames : List Frame) → prefix_of (End ∷ frames) ≡ []
+prefix_end frames = take_while-cons (λ (g : Frame). not (is_end_frame g)) End frames
 
-pub front_is : (frames later : List Frame) → list_any is_end_frame frames ≡ false → front_of (frames ++ End ∷ later) ≡ frames
-front_is [] later none = front_end later
-front_is (Item m ∷ frames) later none = front_next (Item m) (frames ++ End ∷ later) refl ∙ ap (λ (fs : List Frame). Item m ∷ fs) (front_is frames later none)
-front_is (Turn ∷ frames) later none = front_next Turn (frames ++ End ∷ later) refl ∙ ap (λ (fs : List Frame). Turn ∷ fs) (front_is frames later none)
-front_is (End ∷ frames) later none = absurd cc
+pub prefix_is : (frames later : List Frame) → list_any is_end_frame frames ≡ false → prefix_of (frames ++ End ∷ later) ≡ frames
+prefix_is [] later none = prefix_end later
+prefix_is (Item m ∷ frames) later none = prefix_next (Item m) (frames ++ End ∷ later) refl ∙ ap (λ (fs : List Frame). Item m ∷ fs) (prefix_is frames later none)
+prefix_is (Turn ∷ frames) later none = prefix_next Turn (frames ++ End ∷ later) refl ∙ ap (λ (fs : List Frame). Turn ∷ fs) (prefix_is frames later none)
+prefix_is (End ∷ frames) later none = absurd cc
 
--- frames among which an End is go on behind the front with it
+-- frames among which an End is go on behind the prefix with it
 pub record GoesOn (frames : List Frame) : Type 0 where
   pub later : List Frame
-  pub whole : frames ≡ front_of frames ++ End ∷ later
-  pub before_end : list_any is_end_frame (front_of frames) ≡ false
+  pub whole : frames ≡ prefix_of frames ++ End ∷ later
+  pub before_end : list_any is_end_frame (prefix_of frames) ≡ false
 
 next_goes_on : (f : Frame) (frames : List Frame) → is_end_frame f ≡ false → GoesOn frames → GoesOn (f ∷ frames)
 next_goes_on f frames other on =
-    let front = front_next f frames other in
+    let prefix = prefix_next f frames other in
     record {
       later = on.later;
-      whole = ap (λ (fs : List Frame). f ∷ fs) on.whole ∙ ap (λ (fs : List Frame). fs ++ End ∷ on.later) (sym front);
-      before_end = ap (list_any is_end_frame) front ∙ ap (λ b. b || list_any is_end_frame (front_of frames)) other ∙ on.before_end;
+      whole = ap (λ (fs : List Frame). f ∷ fs) on.whole ∙ ap (λ (fs : List Frame). fs ++ End ∷ on.later) (sym prefix);
+      before_end = ap (list_any is_end_frame) prefix ∙ ap (λ b. b || list_any is_end_frame (prefix_of frames)) other ∙ on.before_end;
     }
 
 pub goes_on : (frames : List Frame) → list_any is_end_frame frames ≡ true → GoesOn frames
@@ -86,14 +86,14 @@ goes_on (Item m ∷ frames) some = next_goes_on (Item m) frames refl (goes_on fr
 goes_on (Turn ∷ frames) some = next_goes_on Turn frames refl (goes_on frames some)
 goes_on (End ∷ frames) some = record {
   later = frames;
-  whole = ap (λ (fs : List Frame). fs ++ End ∷ frames) (sym (front_end frames));
-  before_end = ap (list_any is_end_frame) (front_end frames);
+  whole = ap (λ (fs : List Frame). fs ++ End ∷ frames) (sym (prefix_end frames));
+  before_end = ap (list_any is_end_frame) (prefix_end frames);
 }
 
 -- ---- behind it
 
 pub told_is : (frames : List Frame) (bytes told : List ℕ) → bytes ≡ flat_map spelling frames ++ (spelling End ++ told) → told_behind frames bytes ≡ told
 told_is frames bytes told whole =
-    let front = flat_map spelling frames in
-    ap (drop (length front + length (spelling End))) (whole ∙ sym (append_assoc front (spelling End) told))
-    ∙ drop_at (front ++ spelling End) told (length front + length (spelling End)) (length-append front (spelling End))
+    let prefix = flat_map spelling frames in
+    ap (drop (length prefix + length (spelling End))) (whole ∙ sym (append_assoc prefix (spelling End) told))
+    ∙ drop_at (prefix ++ spelling End) told (length prefix + length (spelling End)) (length-append prefix (spelling End))
