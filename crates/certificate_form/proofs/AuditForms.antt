@@ -5,18 +5,18 @@ use Rattle.std.proofs.lemmas.Bool.{true≢false}
 use Rattle.line_engine.specs.declared.status.Status.{Status}
 use Rattle.line_engine.specs.declared.status.Status.TheVariants as statuses
 use Rattle.line_engine.specs.Output.{Output, is_whole}
+use Rattle.line_engine.proofs.LineRuns.{written_is}
 use Rattle.audit_cert.specs.declared.fault.AuditFault.{AuditFault}
 use Rattle.audit_cert.specs.declared.fault.AuditFault.TheVariants as faults
 use Rattle.audit_cert.specs.Audit.{IsCertified, IsAuditFault}
 use Rattle.certificate_form.specs.Answer.{audit_answer}
 use Rattle.certificate_form.specs.Audit.{holds_line, told_of}
 use Rattle.certificate_form.proofs.AuditAnswers.{answer_certified, answer_fault}
-use Rattle.certificate_form.proofs.CertifyForms.{written_now}
 
 pub told_holds : (bytes : List ℕ) (counts : ℕ × ℕ) (before now : List ℕ) → IsCertified bytes counts → now ≡ before ++ holds_line counts → before ≡ []
     → told_of (audit_answer bytes) ≡ record { written = now; status = statuses.Done }
 told_holds bytes counts before now certified appended none =
-    written_now _ (holds_line counts) before now statuses.Done (ap told_of (answer_certified bytes counts certified)) appended none
+    written_is _ (holds_line counts) before now statuses.Done (ap told_of (answer_certified bytes counts certified)) appended none
 
 pub told_fault : {E : Type 0} (r : Result Status E) (bytes : List ℕ) (fault : AuditFault) (now : List ℕ) → IsAuditFault bytes fault
     → IfOk r (λ status. told_of (Err fault) ≡ record { written = now; status = status }) → IfOk r (λ status. is_whole status ≡ true)

@@ -1,6 +1,6 @@
 pub mod Prefixes
 pub mod NextMessages
 pub mod AuditAnswers
-pub mod CertifyOutputs
-pub mod CertifyForms
+pub mod Certified
+pub mod CertifierStreams
 pub mod AuditForms

@@ -9,7 +9,8 @@ use Rattle.edit_frame.specs.declared.frame.Frame.TheVariants.{Item, End}
 use Rattle.edit_frame.specs.Spelling.{spelling}
 use Rattle.edit_frame.specs.Reading.{stream}
 use Rattle.peer_core.specs.Peer.{Peer, fresh_peer}
-use Rattle.feed_form.specs.Feed.{counted_fault, closing, stream_ending, peer_fed}
+use Rattle.feed_form.specs.Stream.{counted_fault, closing, stream_ending}
+use Rattle.feed_form.specs.Feed.{peer_fed}
 use Rattle.audit_cert.specs.Certificate.{certificate_bytes}
 
 -- the frames of a journal

@@ -1,20 +1,21 @@
 -- What the two forms mean.
-use Rattle.std.specs.Prelude.{◌++◌, ⊤}
+use Rattle.std.specs.Prelude.{ℕ, List, [], ◌++◌, ⊤}
 use Rattle.line_engine.specs.Form.{Meaning}
-use Rattle.edit_frame.specs.Splitter.{IsWaiting}
-use Rattle.certificate_form.specs.declared.certifying.Certifying.{Certifying}
+use Rattle.edit_frame.specs.declared.frame.Frame.{Frame}
+use Rattle.feed_form.specs.Stream.{FrameTurn}
+use Rattle.feed_form.specs.Turn.{frame_turn}
+use Rattle.certificate_form.specs.declared.certifying.Certifier.{Certifier}
 use Rattle.certificate_form.specs.declared.auditing.Auditing.{Auditing}
-use Rattle.certificate_form.specs.Certify.{certified_from, certify_part}
+use Rattle.certificate_form.specs.Certify.{certified_bytes}
 use Rattle.certificate_form.specs.Audit.{audited, audit_part}
 
--- the bytes that are held come before those that are still to come
-abbrev pub certify_meaning : Meaning Certifying
-certify_meaning = record {
-  output = λ f cut more. certified_from cut f.peer f.splitter.offset (f.splitter.rest ++ more);
-  part = λ f more. certify_part (f.splitter.rest ++ more);
-  leaves = λ f cut more last. ⊤;
-  waits = λ f. IsWaiting f.splitter;
-}
+-- a frame is taken in as `feed` takes it, and nothing is written of it
+abbrev pub certifier_turn : Certifier → Frame → FrameTurn Certifier
+certifier_turn c f = record { reply = []; after = record { peer = (frame_turn c.peer f).after } }
+
+-- at the end the peer's journal is certified
+abbrev pub certifier_closing : Certifier → List ℕ
+certifier_closing c = certified_bytes c.peer.journal
 
 -- nothing is answered before the end
 abbrev pub audit_meaning : Meaning Auditing

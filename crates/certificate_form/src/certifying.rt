@@ -1,66 +1,24 @@
-//! The form that takes a stream of frames in, and certifies the journal that it leaves.
-ghost use Rattle.std.specs.Prelude.{◌≡◌, ◌≢◌, ℕ, ◌+◌, ◌++◌, List, [], true, not, length, OnOk, IfOk, ⊤};
+//! The intake that certifies the journal which a stream leaves.
+ghost use Rattle.std.specs.Prelude.{◌≡◌, ◌≢◌, ℕ, ◌++◌, List, OnOk, IfOk, ⊤};
 ghost use Rattle.line_engine.specs.Engine.{Ran, Reads, StatusCause};
-ghost use Rattle.line_engine.specs.Form.{Rests};
-ghost use Rattle.peer_step.specs.Answers.{is_quiet};
 ghost use Rattle.peer_core.specs.Sound.{IsWithin};
-ghost use Rattle.peer_core.specs.Answers.{answer_settle};
-ghost use Rattle.peer_core.specs.After.{peer_after};
-ghost use Rattle.feed_form.specs.Turn.{all_settle_steps, frame_turn};
 ghost use Rattle.audit_cert.specs.Certificate.{certificate_bytes};
 ghost use Rattle.certificate_form.specs.Certify.{journal_bytes, certified_bytes, certify_output, certify_part};
-ghost use Rattle.certificate_form.specs.Form.{certify_meaning};
+ghost use Rattle.certificate_form.specs.Form.{certifier_turn, certifier_closing};
 
 use audit_cert::{CertFail, certify};
-use edit_frame::{DecodeFail, Frame, Splitter, encode};
+use edit_frame::{Frame, encode};
 use edit_io::{Sink, Source};
 use element_name::NoMemory;
-use line_engine::{Form, Next, Status, run};
+use feed_form::{Intake, feed_intake};
+use line_engine::Status;
 use peer_core::{JournalItem, Peer};
-use peer_step::Step;
-use report_text::frame_fault_line;
-use std::alloc::{AllocError, Global};
+use std::alloc::Global;
 
-/// A peer, and the bytes of the stream that it hasn't taken in yet.
+/// The peer that takes a stream in.
 #[derive(Drop)]
-struct Certifying {
+struct Certifier {
     peer: Peer,
-    splitter: Splitter,
-}
-
-// Settles the first held message that is due, and says whether one was.
-fn settle_one(peer: &mut Peer) -> Result<bool, NoMemory>
-    ensures due { IfOk result (λ due. due ≡ not (is_quiet (answer_settle peer.old))) }
-    ensures peer { OnOk result (peer.new ≡ peer_after peer.old Step.Settle) }
-{
-    let answer = peer.step(Step::Settle)?;
-    Ok(!answer.is_quiet())
-}
-
-// Settles what is due.
-fn settle_due(peer: &mut Peer) -> Result<(), NoMemory>
-    ensures { OnOk result (peer.new ≡ (all_settle_steps peer.old).peer) }
-{
-    'steps: loop {
-        let due = settle_one(peer)?;
-        if !due {
-            return Ok(());
-        }
-    }
-}
-
-// Hands a frame to a peer, and lets go what it answers.
-#[tactic(auto, unfolding(feed_form::specs::Turn::frame_turn))]
-fn take_frame(peer: &mut Peer, frame: Frame) -> Result<(), NoMemory>
-    ensures { OnOk result (peer.new ≡ (frame_turn peer.old frame).peer) }
-{
-    match frame {
-        Frame::Item(message) => {
-            peer.step(Step::Receive(message))?;
-            settle_due(peer)
-        }
-        Frame::Turn | Frame::End => Ok(()),
-    }
 }
 
 // The messages of a peer's journal, in order.
@@ -119,54 +77,21 @@ fn put_certified(alloc: Global, peer: &Peer, out: &mut Vec<u8>) -> Result<(), No
     put_certificate(alloc, &journal, out)
 }
 
-impl Form for Certifying {
-    ghost meaning = { certify_meaning };
+impl Intake for Certifier {
+    ghost turn = { certifier_turn };
 
-    ghost held = { λ f. length f.splitter.rest };
+    ghost closing = { certifier_closing };
 
-    ghost load = { λ f. f.splitter.offset + length f.splitter.rest };
-
-    fn feed(&mut self, _alloc: Global, chunk: &[u8]) -> Result<(), AllocError> {
-        self.splitter.feed(chunk).or(Err(AllocError))
+    // Lets go what the peer answers.
+    fn take_in(&mut self, alloc: Global, frame: Frame, out: &mut Vec<u8>) -> Result<(), NoMemory> {
+        let written = out.len();
+        self.peer.take_in(alloc, frame, out)?;
+        out.truncate(written);
+        Ok(())
     }
 
-    fn next(&mut self, alloc: Global, out: &mut Vec<u8>) -> Result<Next, AllocError> {
-        let frame = match self.splitter.next_frame() {
-            Ok(Some(frame)) => frame,
-            Ok(None) => return Ok(Next::Waiting),
-            Err(DecodeFail::NoMemory) => return Err(AllocError),
-            Err(DecodeFail::Fault(fault)) => {
-                frame_fault_line(alloc, fault, out).or(Err(AllocError))?;
-                return Ok(Next::Bad);
-            }
-        };
-        take_frame(&mut self.peer, frame).or(Err(AllocError))?;
-        Ok(Next::Answered)
-    }
-
-    fn end(&mut self, alloc: Global, cut: bool, out: &mut Vec<u8>) -> Result<Status, AllocError> {
-        if cut {
-            out.extend_from_slice(b"too long\n")?;
-            return Ok(Status::TooLong);
-        }
-        if let Err(fault) = self.splitter.finish() {
-            frame_fault_line(alloc, fault, out).or(Err(AllocError))?;
-            return Ok(Status::BadInput);
-        }
-        put_certified(alloc, &self.peer, out).or(Err(AllocError))?;
-        Ok(Status::Done)
-    }
-}
-
-impl Certifying {
-    fn new(alloc: Global, peer: Peer) -> Certifying
-        ensures value { result ≡ record { peer = peer; splitter = record { offset = 0; rest = [] } } }
-        ensures rests { Rests certify_meaning result }
-    {
-        Certifying {
-            peer,
-            splitter: Splitter::new(alloc),
-        }
+    fn close(&mut self, alloc: Global, out: &mut Vec<u8>) -> Result<(), NoMemory> {
+        put_certified(alloc, &self.peer, out)
     }
 }
 
@@ -195,6 +120,6 @@ pub fn certify_stream<S: Source, K: Sink>(
     let Ok(peer) = Peer::new(alloc, site) else {
         return Status::NoMemory;
     };
-    let mut form = Certifying::new(alloc, peer);
-    run(alloc, &mut form, source, sink)
+    let (_, status) = feed_intake(alloc, Certifier { peer }, source, sink);
+    status
 }

@@ -1,3 +1,4 @@
+pub mod Stream
 pub mod Turn
 pub mod Feed
 pub mod Form

@@ -1,4 +1,4 @@
--- What a peer answers to the frames of a stream, and the peer after them.
+-- What a peer answers to a frame of a stream, and the peer after it.
 use Rattle.std.specs.Prelude.{ℕ, zero, suc, true, false, List, [], ◌∷◌, ◌++◌, None, length, flat_map, if◌then◌else◌}
 use Rattle.edit_message.specs.declared.message.Message.{Message}
 use Rattle.edit_frame.specs.declared.frame.Frame.{Frame}
@@ -11,6 +11,7 @@ use Rattle.peer_core.specs.Answers.{answer_receive, answer_settle}
 use Rattle.peer_core.specs.After.{peer_after}
 use Rattle.step_spelling.specs.Answers.{answer_line}
 use Rattle.report_text.specs.Frame.{turn_line, end_line}
+use Rattle.feed_form.specs.Stream.{FrameTurn}
 
 -- the line of a settle step's answer; none where nothing is due
 abbrev pub settle_line : Answer → List ℕ
@@ -41,28 +42,15 @@ all_settle_steps p = settle_steps (length p.held) p
 abbrev pub answer_lines : List Answer → List ℕ
 answer_lines answers = flat_map (answer_line None) answers
 
--- what is written of frames, and the peer after them
-pub record FeedTurn : Type 0 where
-  pub reply : List ℕ
-  pub peer : Peer
-
 -- a message is received, and what is due then is settled
-abbrev pub message_turn : Peer → Message → FeedTurn
-message_turn p m = let after = all_settle_steps (peer_after p (Receive m)) in record {
-  reply = answer_line None (answer_receive p m) ++ answer_lines after.answers;
-  peer = after.peer;
+abbrev pub message_turn : Peer → Message → FrameTurn Peer
+message_turn p m = let settled = all_settle_steps (peer_after p (Receive m)) in record {
+  reply = answer_line None (answer_receive p m) ++ answer_lines settled.answers;
+  after = settled.peer;
 }
 
 -- one frame: of those that are no messages the peer isn't told
-unfoldable pub frame_turn : Peer → Frame → FeedTurn
+unfoldable pub frame_turn : Peer → Frame → FrameTurn Peer
 frame_turn p (frames.Item m) = message_turn p m
-frame_turn p frames.Turn = record { reply = turn_line; peer = p }
-frame_turn p frames.End = record { reply = end_line; peer = p }
-
--- frames, one after the other
-abbrev pub frames_turn : Peer → List Frame → FeedTurn
-frames_turn p [] = record { reply = []; peer = p }
-frames_turn p (f ∷ fs) = let later = frames_turn (frame_turn p f).peer fs in record {
-  reply = (frame_turn p f).reply ++ later.reply;
-  peer = later.peer;
-}
+frame_turn p frames.Turn = record { reply = turn_line; after = p }
+frame_turn p frames.End = record { reply = end_line; after = p }

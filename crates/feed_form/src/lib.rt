@@ -1,8 +1,12 @@
-//! Feeds a stream of frames to a peer, and answers each frame as soon as it is whole.
+//! Feeds a stream of frames to a peer, or to what else takes frames in, each as soon as it is whole.
 #![tactic(auto)]
 
 mod feeding;
+mod intake;
 pub mod laws;
+mod peer_intake;
 mod turn;
 
-pub use feeding::{feed, feed_peer};
+pub use feeding::feed_intake;
+pub use intake::Intake;
+pub use peer_intake::{feed, feed_peer};

@@ -72,7 +72,7 @@ fn receive(
     out: &mut Vec<u8>,
 ) -> Result<(), NoMemory>
     ensures reply { OnOk result (out.new.items ≡ out.old.items ++ (message_turn peer.old message).reply) }
-    ensures peer { OnOk result (peer.new ≡ (message_turn peer.old message).peer) }
+    ensures peer { OnOk result (peer.new ≡ (message_turn peer.old message).after) }
 {
     step_line(alloc, peer, Step::Receive(message), out)?;
     settle(alloc, peer, out)
@@ -87,7 +87,7 @@ pub(crate) fn answer_frame(
     out: &mut Vec<u8>,
 ) -> Result<(), NoMemory>
     ensures reply { OnOk result (out.new.items ≡ out.old.items ++ (frame_turn peer.old frame).reply) }
-    ensures peer { OnOk result (peer.new ≡ (frame_turn peer.old frame).peer) }
+    ensures peer { OnOk result (peer.new ≡ (frame_turn peer.old frame).after) }
 {
     match frame {
         Frame::Item(message) => receive(alloc, peer, message, out),

@@ -1,4 +1,4 @@
-use Rattle.certificate_form.proofs.CertifyForms.{one_more}
+use Rattle.certificate_form.proofs.Certified.{one_more}
 use Rattle.certificate_form.proofs.certifying.journal_of.Goals as goal
 
 pub loop-i-preserved : goal.loop-i-preserved

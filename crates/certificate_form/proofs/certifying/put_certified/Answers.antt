@@ -1,5 +1,5 @@
 use Rattle.std.proofs.Common.{◌∙◌}
-use Rattle.certificate_form.proofs.CertifyForms.{put_together}
+use Rattle.certificate_form.proofs.Certified.{put_together}
 use Rattle.certificate_form.proofs.certifying.put_certified.Goals as goal
 
 pub returns : goal.returns
