@@ -4,7 +4,7 @@ use Rattle.std.specs.Prelude.{map, unwrap_or, if◌then◌else◌}
 use Rattle.std.specs.Option.{option_map_or}
 use Rattle.std.specs.Str.{bytes_eq}
 use Rattle.std.specs.List.{flat_map, list_all, list_any}
-use Rattle.std.proofs.lemmas.Bool.{and_parts}
+use Rattle.std.proofs.lemmas.Bool.{and_parts, false_from_ne_true}
 use Rattle.std.proofs.lemmas.Slice.Eq.{bytes_eq-Decides}
 use Rattle.std.proofs.lemmas.List.{append-nil}
 use Rattle.std.proofs.lemmas.List.Concat.{flat_map-cons}
@@ -108,11 +108,7 @@ due_answer : (J : List Message) (told : List ℕ) → told ≡ certificate_bytes
 due_answer J told due = tested J told true ((bytes_eq-Decides told (certificate_bytes J)).1 due)
 
 other_answer : (J : List Message) (told : List ℕ) → told ≢ certificate_bytes J → certificate_answer J told ≡ Err (Differs (differing_line (certificate_bytes J) told))
-other_answer J told other = tested J told false (by (bytes_eq told (certificate_bytes J)) (bytes_eq-Decides told (certificate_bytes J)).0)
-  where
-    by : (b : Bool) → (b ≡ true → told ≡ certificate_bytes J) → b ≡ false
-    by true so = absurd (other (so refl))
-    by false so = refl
+other_answer J told other = tested J told false (false_from_ne_true (bytes_eq told (certificate_bytes J)) (λ same. other ((bytes_eq-Decides told (certificate_bytes J)).0 same)))
 
 -- ---- a journal, End and what is told
 

@@ -2,7 +2,7 @@
 use Rattle.std.proofs.Common.{◌≡◌, ℕ, ◌+◌, ◌<◌, ◌≤◌, Bool, true, false, not, List, [], ◌∷◌, ◌++◌, length, Option, Some, None, refl, sym, ap, subst, ◌∙◌, append_assoc, arith, length-append}
 use Rattle.std.specs.Prelude.{◌&&◌, is_none, map}
 use Rattle.std.specs.List.{list_all}
-use Rattle.std.proofs.lemmas.Bool.{and_parts, and_from, true≢false}
+use Rattle.std.proofs.lemmas.Bool.{and_parts, and_from, not-true, false_from_ne_true, true≢false}
 use Rattle.std.proofs.lemmas.Bool.Decides.{nat_tests}
 use Rattle.std.proofs.lemmas.List.{append-nil}
 use Rattle.std.proofs.lemmas.List.Folds.{list_all-append}
@@ -19,21 +19,13 @@ use Rattle.edit_frame.specs.declared.frame.Frame.TheVariants.{Item, Turn, End}
 use Rattle.admin_log.specs.Log.{entry_fault}
 use Rattle.peer_core.specs.Peer.{missing_in, finds_no_room, is_due}
 use Rattle.peer_core.specs.Sound.{has_key_of, IsLegalAfter, FollowsJournal, IsJournal, IsWithin}
-use Rattle.peer_core.proofs.JournalLemmas.{requests_request, requests_entry}
+use Rattle.peer_core.proofs.JournalLemmas.{none_is, requests_request, requests_entry}
 use Rattle.peer_core.proofs.KeptLemmas.Reads.{entries_within}
 use Rattle.audit_cert.specs.Audit.{messages_of_frames, BreaksIn, AreItems}
 use Rattle.audit_cert.proofs.Audits.{within_prefix, same_item}
 use Rattle.certificate_form.specs.Answer.{is_legal_after, may_come_next, breaking_frame}
 
 -- ---- one message
-
-none_is : {A : Type 0} (x : Option A) → is_none x ≡ true → x ≡ None
-none_is None h = refl
-none_is (Some x) h = absurd cc
-
-not_true : (b : Bool) → not b ≡ true → b ≡ false
-not_true true h = absurd cc
-not_true false h = refl
 
 legal_by : (L : List Entry) (m : Message) → is_legal_after L m ≡ true → IsLegalAfter L m
 legal_by L (Coop q) h = none_is (request_fault q) h
@@ -68,7 +60,7 @@ within_next J m within may =
     let here = and_parts (is_none (missing_in J m)) (not (finds_no_room J m)) due.0 in
     let legal = and_parts (is_legal_after (entries_of J) m) (is_message m) due.1 in
     let follows : FollowsJournal J m = record {
-      new = not_true (has_key_of J m) key.0;
+      new = not-true (has_key_of J m) key.0;
       complete = none_is (missing_in J m) here.0;
       legal = legal_by (entries_of J) m legal.0;
     } in
@@ -78,7 +70,7 @@ within_next J m within may =
     record {
       journal_is = journal;
       formed = all;
-      requests = room_by J m within.requests (not_true (finds_no_room J m) here.1);
+      requests = room_by J m within.requests (not-true (finds_no_room J m) here.1);
       entries = entries_within (J ++ m ∷ []) journal all;
     }
 
@@ -118,11 +110,7 @@ none_breaks J (m ∷ K) within =
 -- ---- a frame that breaks it
 
 refused_next : (J : List Message) (m : Message) → IsWithin J → ¬ IsWithin (J ++ m ∷ []) → may_come_next J m ≡ false
-refused_next J m within none = by (may_come_next J m) (within_next J m within)
-  where
-    by : (b : Bool) → (b ≡ true → IsWithin (J ++ m ∷ [])) → b ≡ false
-    by true so = absurd (none (so refl))
-    by false so = refl
+refused_next J m within none = false_from_ne_true (may_come_next J m) (λ may. none (within_next J m within may))
 
 breaks_at : (J : List Message) (next : Frame) (later : List Frame) → IsWithin J → ((m : Message) → next ≡ Item m → ¬ IsWithin (J ++ m ∷ []))
     → breaking_frame J (next ∷ later) ≡ Some (length J + 1)
