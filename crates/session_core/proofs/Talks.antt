@@ -1,5 +1,5 @@
 -- Pieces of sessions, one after another.
-use Rattle.std.proofs.Common.{◌≡◌, ℕ, List, [], ◌∷◌, ◌++◌, Option, Some, None, Result, Ok, Err, refl, sym, ap, ◌∙◌, subst, append_assoc, append-nil}
+use Rattle.std.proofs.Common.{◌≡◌, ℕ, Bool, List, [], ◌∷◌, ◌++◌, Option, Some, None, Result, Ok, Err, refl, sym, ap, ◌∙◌, subst, append_assoc, append-nil}
 use Rattle.edit_io.specs.Link.{with_last}
 use Rattle.edit_message.specs.declared.message.Message.{Message}
 use Rattle.peer_step.specs.declared.step.Step.{Step}
@@ -16,7 +16,7 @@ use Rattle.session_core.specs.Events.{Event, MessageRead, MessageUnread, Message
 use Rattle.session_core.specs.declared.fault.SessionFault.{SessionFault}
 use Rattle.session_core.specs.declared.fault.SessionFault.TheVariants.{LinkFault, Closed, BadFrame, RunFull, NoMemory}
 use Rattle.session_core.specs.Session.{Side, side, Talked, pass_steps, pass_answers, IsStepPhase, IsLinkPhase, IsUnfinished, CutOff}
-use Rattle.session_core.specs.Pieces.{MakesStep, LooksAt, Sending, GetsTo}
+use Rattle.session_core.specs.Pieces.{MakesStep, LooksAt, Sending, GetsTo, TurnIn}
 
 -- no more leaves a list as it is, where it is told
 pub with_last-nil : {A : Type 0} (o : Option (List A)) → with_last o [] ≡ o
@@ -231,3 +231,7 @@ talked_looked mode s t k l g h item looks same looked finds =
 pub cut_look : (mode : Mode) (s : SessionState) (k l : KnownPass) (g h : Option (List (List ℕ))) (fault : SessionFault) → IsStepPhase s.phase → IsSame k l
     → LooksAt k l s.mark (Err fault) → CutOff mode s (side k g h) (side l g h) fault
 cut_look mode s k l g h fault may same looked = cut_step mode s k l g h (Look s.mark) fault may same looked
+
+-- a turn in, with an answer that is this one
+pub turn_in : (validates : Bool) (a b : Side) (q q' : Bool) → q ≡ q' → TurnIn validates a b (Ok q) → TurnIn validates a b (Ok q')
+turn_in validates a b q q' e t = subst (λ (x : Bool). TurnIn validates a b (Ok x)) e t

@@ -1,3 +1,4 @@
 pub mod Events
 pub mod Session
 pub mod Pieces
+pub mod Clearing

@@ -13,7 +13,7 @@ use Rattle.peer_lock.specs.KnownPass.{KnownPass}
 use Rattle.peer_lock.specs.Answers.{IsSame}
 use Rattle.session_core.specs.declared.fault.SessionFault.{SessionFault}
 use Rattle.session_core.specs.declared.fault.SessionFault.TheVariants.{LinkFault, Closed, BadFrame, RunFull, NoMemory}
-use Rattle.session_core.specs.Events.{Listens, Settles, Validates, Looks, Finished, SessionState, in_phase, Mode, turn_done, after_settle, after_validation, item_in, Hears}
+use Rattle.session_core.specs.Events.{Listens, Looks, Finished, SessionState, in_phase, Mode, turn_done, item_in, Hears}
 use Rattle.session_core.specs.Session.{Side, Talked, CutOff, FullIsKnown, pass_steps, pass_answers}
 
 -- a piece of a session went through to this state, or a fault cut it
@@ -59,16 +59,6 @@ MakesStep k l step (Err fault) = ⊥
 abbrev pub LooksAt : KnownPass → KnownPass → ℕ → Result (Option Message) SessionFault → Type 0
 LooksAt k l mark (Ok item) = (a : Answer) × OneMoreStep k l (Look mark) a × (item_in a ≡ Some item)
 LooksAt k l mark (Err fault) = MakesStep k l (Look mark) (Err fault)
-
--- a settle was made, and says whether nothing was due any more
-abbrev pub SettledOnce : Mode → SessionState → Side → Side → Result Bool SessionFault → Type 0
-SettledOnce mode s a b (Ok quiet) = Talked mode (in_phase Settles s) (in_phase (after_settle quiet) s) a b
-SettledOnce mode s a b (Err fault) = CutOff mode (in_phase Settles s) a b fault
-
--- a validation was made, and says whether an entry was issued
-abbrev pub ValidatedOnce : Mode → SessionState → Side → Side → Result Bool SessionFault → Type 0
-ValidatedOnce mode s a b (Ok issued) = Talked mode (in_phase Validates s) (after_validation mode issued (in_phase Validates s)) a b
-ValidatedOnce mode s a b (Err fault) = CutOff mode (in_phase Validates s) a b fault
 
 -- ---- frames
 

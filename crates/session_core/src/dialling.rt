@@ -39,18 +39,12 @@ pub fn dial_link<L: Link, R: Threads + Wait + Sync>(
 {
     let mut mark = 0;
     for round in 0..rounds {
-        match send_turn(rt, alloc, shared, pass, link, mark) {
-            Ok(sent) => mark = sent,
-            Err(fault) => return Err(fault),
-        }
-        match receive_turn(rt, alloc, shared, pass, link, validates) {
-            Ok(true) => {}
-            Ok(false) => return Ok(round),
-            Err(fault) => return Err(fault),
+        mark = send_turn(rt, alloc, shared, pass, link, mark)?;
+        let is_turn = receive_turn(rt, alloc, shared, pass, link, validates)?;
+        if !is_turn {
+            return Ok(round);
         }
     }
-    match send_frame(alloc, link, &Frame::End) {
-        Ok(()) => Ok(rounds),
-        Err(fault) => Err(fault),
-    }
+    send_frame(alloc, link, &Frame::End)?;
+    Ok(rounds)
 }

@@ -5,6 +5,7 @@
 //! where it stands; a fault cuts the row.
 #![tactic(auto)]
 
+mod backlog;
 mod dialling;
 mod fault;
 mod frames;

@@ -38,15 +38,12 @@ pub fn serve_link<L: Link, R: Threads + Wait + Sync>(
     let mut mark = 0;
     let mut turns = 0;
     for _ in rt.forever() {
-        match receive_turn(rt, alloc, shared, pass, link, validates) {
-            Ok(true) => turns += 1,
-            Ok(false) => return Ok(turns),
-            Err(fault) => return Err(fault),
+        let is_turn = receive_turn(rt, alloc, shared, pass, link, validates)?;
+        if !is_turn {
+            return Ok(turns);
         }
-        match send_turn(rt, alloc, shared, pass, link, mark) {
-            Ok(sent) => mark = sent,
-            Err(fault) => return Err(fault),
-        }
+        turns += 1;
+        mark = send_turn(rt, alloc, shared, pass, link, mark)?;
     }
     unreachable!()
 }

@@ -4,9 +4,10 @@ ghost use Rattle.peer_lock.specs.Answers.{IsSame};
 ghost use Rattle.session_core.specs.Session.{side, closed_by, faults_after_session, FullIsKnown};
 ghost use Rattle.session_core.specs.Pieces.{TurnOut, TurnIn};
 
+use crate::backlog::Backlog;
 use crate::fault::SessionFault;
 use crate::frames::{receive_frame, send_frame, send_item};
-use crate::steps::{look, take_item, validate};
+use crate::steps::{clear, look, take_item};
 use edit_frame::Frame;
 use edit_io::Link;
 use peer_lock::{Pass, SharedPeer};
@@ -34,18 +35,16 @@ pub(crate) fn send_turn<L: Link, R: Threads + Wait + Sync>(
 {
     let mut mark = mark;
     for _ in rt.forever() {
-        match look(rt, alloc, shared, pass, mark) {
-            Ok(Some(message)) => match send_item(alloc, link, message) {
-                Ok(()) => mark += 1,
-                Err(fault) => return Err(fault),
-            },
-            Ok(None) => {
-                match send_frame(alloc, link, &Frame::Turn) {
-                    Ok(()) => return Ok(mark),
-                    Err(fault) => return Err(fault),
-                }
+        let found = look(rt, alloc, shared, pass, mark)?;
+        match found {
+            Some(message) => {
+                send_item(alloc, link, message)?;
+                mark += 1;
             }
-            Err(fault) => return Err(fault),
+            None => {
+                send_frame(alloc, link, &Frame::Turn)?;
+                return Ok(mark);
+            }
         }
     }
     unreachable!()
@@ -69,22 +68,17 @@ pub(crate) fn receive_turn<L: Link, R: Threads + Wait + Sync>(
     ensures talk { TurnIn validates (side pass.old (L.got link.old) (L.sent link.old)) (side pass.new (L.got link.new) (L.sent link.new)) result }
 {
     for _ in rt.forever() {
-        match receive_frame(alloc, link) {
-            Ok(Frame::Item(message)) => match take_item(rt, alloc, shared, pass, message) {
-                Ok(()) => {}
-                Err(fault) => return Err(fault),
-            },
-            Ok(Frame::Turn) => {
+        let frame = receive_frame(alloc, link)?;
+        match frame {
+            Frame::Item(message) => take_item(rt, alloc, shared, pass, message)?,
+            Frame::Turn => {
                 if validates {
-                    match validate(rt, alloc, shared, pass) {
-                        Ok(()) => return Ok(true),
-                        Err(fault) => return Err(fault),
-                    }
+                    clear(rt, alloc, shared, pass, Backlog::Unvalidated)?;
+                    return Ok(true);
                 }
                 return Ok(true);
             }
-            Ok(Frame::End) => return Ok(false),
-            Err(fault) => return Err(fault),
+            Frame::End => return Ok(false),
         }
     }
     unreachable!()

@@ -16,4 +16,4 @@ no_other : (k l : KnownPass) (mark : ℕ) (a : Answer) → OneMoreStep k l (Look
 no_other k l mark a m none = let e : Some (slice_get m.peer.journal mark) ≡ None = sym (item_there m.peer mark) ∙ ap item_in (sym m.told) ∙ none in cc
 
 pub unreachable-requires : goal.unreachable-requires
-unreachable-requires g c = no_other c.args.pass.now c.make.new.pass c.args.mark c.in-Ok.answer c.in-Ok.ensures.makes (sym c.item_of.ensures ∙ c.in-None.is)
+unreachable-requires g c = no_other c.args.pass.now c.make.new.pass c.args.mark c.in_ok-answer.answer c.in_ok-answer.ensures.makes (sym c.item_of.ensures ∙ c.in-None.is)

@@ -1,13 +1,16 @@
 use Rattle.std.proofs.Common.{refl}
+use Rattle.std.proofs.lemmas.Result.{err_from_is_err_and}
 use Rattle.peer_step.specs.declared.step.Step.TheVariants.{Receive}
 use Rattle.session_core.specs.Events.{ReceivesItem, Settles, in_phase}
 use Rattle.session_core.proofs.Talks.{talked_made, cut_step}
 use Rattle.session_core.proofs.steps.receive_once.Goals as goal
 
-pub returns-in-Ok-clause-talk : goal.returns-in-Ok-clause-talk
-returns-in-Ok-clause-talk g c = λ mode s got sent.
-    talked_made mode (in_phase (ReceivesItem c.args.message) s) (in_phase Settles s) c.args.pass.now c.make.new.pass got sent (Receive c.args.message) _ c.make.ensures.keeps.same c.in-Ok.ensures.makes.steps_are c.in-Ok.ensures.makes.answers_are (refl, refl)
+pub returns-clause-talk : goal.returns-clause-talk
+returns-clause-talk g c = λ mode s got sent.
+    talked_made mode (in_phase (ReceivesItem c.args.message) s) (in_phase Settles s) c.args.pass.now c.make.new.pass got sent (Receive c.args.message) _ c.make.ensures.keeps.same c.in_ok-answer.ensures.makes.steps_are c.in_ok-answer.ensures.makes.answers_are (refl, refl)
 
-pub returns-in-Err-clause-talk : goal.returns-in-Err-clause-talk
-returns-in-Err-clause-talk g c = λ mode s got sent.
-    cut_step mode (in_phase (ReceivesItem c.args.message) s) c.args.pass.now c.make.new.pass got sent (Receive c.args.message) c.in-Err.fault tt c.make.ensures.keeps.same c.in-Err.ensures.makes
+pub returns-in_err-answer-clause-talk : goal.returns-in_err-answer-clause-talk
+returns-in_err-answer-clause-talk g c =
+    let p = err_from_is_err_and c.from_residual.result c.from_residual.ensures.1 in
+    rw (p.1, p.2) (λ mode s got sent.
+    cut_step mode (in_phase (ReceivesItem c.args.message) s) c.args.pass.now c.make.new.pass got sent (Receive c.args.message) _ tt c.make.ensures.keeps.same c.in_err-answer.ensures.makes)
