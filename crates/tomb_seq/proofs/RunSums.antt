@@ -1,5 +1,5 @@
 -- How many elements the blocks have, and how many of them show.
-use Rattle.std.proofs.Common.{◌≡◌, ℕ, zero, suc, ◌+◌, ◌<◌, ◌≤◌, List, [], ◌∷◌, ◌++◌, false, length, get_or, take, set, insert, remove, map, refl, ap, sym, ◌∙◌, arith, add-one}
+use Rattle.std.proofs.Common.{◌≡◌, ℕ, zero, suc, ◌+◌, ◌<◌, ◌≤◌, List, [], ◌∷◌, length, get_or, take, set, insert, remove, map, refl, ap, sym, ◌∙◌, arith, add-one}
 use Rattle.std.specs.Prelude.{slice_get, slice_index, sum}
 use Rattle.std.proofs.Math.Seq.{map-set_same}
 use Rattle.std.proofs.lemmas.List.{map-set, take-map, length-map}

@@ -1,9 +1,9 @@
-use Rattle.std.proofs.Common.{◌≡◌, ℕ, ◌+◌, ◌<◌, true, false, Some, refl, sym, ap, subst, arith, ne_eqb, eq-eqb, if◌then◌else◌}
+use Rattle.std.proofs.Common.{◌≡◌, ℕ, ◌<◌, true, false, Some, refl, ap, subst, arith, ne_eqb, eq-eqb, if◌then◌else◌}
 use Rattle.std.proofs.lemmas.Result.{err_from_is_err_and}
 use Rattle.edit_frame.specs.declared.frame.Frame.TheVariants as frames
 use Rattle.edit_frame.specs.Spelling.{spelling}
 use Rattle.peer_lock.proofs.Passing.{same_self, same_then}
-use Rattle.session_core.specs.Events.{SessionState, Mode, Phase, Listens, Looks, SendsEnd, Finished, in_phase, dialling, phase_after_turns}
+use Rattle.session_core.specs.Events.{SessionState, Mode, Phase, Looks, SendsEnd, Finished, in_phase, dialling, phase_after_turns}
 use Rattle.session_core.specs.Session.{side, Side, Talked}
 use Rattle.session_core.specs.Pieces.{looking_from, listening_from}
 use Rattle.session_core.proofs.Talks.{talked_none, talked_then, talked_went, cut_then, turn_in}

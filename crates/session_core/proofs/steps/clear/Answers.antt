@@ -1,4 +1,4 @@
-use Rattle.std.proofs.Common.{◌≡◌, ◌∙◌, ap, arith, subst, ℕ, List, Option, Bool}
+use Rattle.std.proofs.Common.{◌≡◌, ◌∙◌, ap, arith, subst, ℕ, List, Option}
 use Rattle.std.proofs.lemmas.Result.{err_from_is_err_and}
 use Rattle.peer_lock.proofs.Passing.{same_then}
 use Rattle.session_core.specs.Events.{SessionState, Mode, in_phase}

@@ -1,4 +1,4 @@
-use Rattle.std.proofs.Common.{◌≡◌, sym, ap, ◌∙◌, subst, Bool}
+use Rattle.std.proofs.Common.{sym, subst, Bool}
 use Rattle.std.proofs.lemmas.Result.{err_from_is_err_and}
 use Rattle.session_core.specs.Events.{in_phase, MayStep}
 use Rattle.session_core.specs.Clearing.{next_step, clearing, after_clearing}
