@@ -1,4 +1,4 @@
--- What the two forms mean.
+-- What the certifier writes of a stream, and what the form that audits means.
 use Rattle.std.specs.Prelude.{ℕ, List, [], ◌++◌, ⊤}
 use Rattle.line_engine.specs.Form.{Meaning}
 use Rattle.edit_frame.specs.declared.frame.Frame.{Frame}
