@@ -41,11 +41,11 @@ messages_append (Item m ∷ fs) gs = ap (λ (K : List Message). m ∷ K) (messag
 messages_append (Turn ∷ fs) gs = messages_append fs gs
 messages_append (End ∷ fs) gs = messages_append fs gs
 
-items_formed : (J : List Message) → list_all is_message J ≡ true → list_all is_frame (map Item J) ≡ true
+pub items_formed : (J : List Message) → list_all is_message J ≡ true → list_all is_frame (map Item J) ≡ true
 items_formed [] h = refl
 items_formed (m ∷ J) h = let p = and_parts (is_message m) (list_all is_message J) h in rw (p.0, items_formed J p.1) refl
 
-items_no_end : (J : List Message) → list_any is_end_frame (map Item J) ≡ false
+pub items_no_end : (J : List Message) → list_any is_end_frame (map Item J) ≡ false
 items_no_end [] = refl
 items_no_end (m ∷ J) = items_no_end J
 

@@ -11,7 +11,6 @@ use Rattle.std.proofs.lemmas.List.Concat.{flat_map-cons}
 use Rattle.std.proofs.lemmas.Grind.{flat_map-append}
 use Rattle.std.proofs.lemmas.List.Folds.{list_any-append, list_all-append}
 use Rattle.edit_message.specs.declared.message.Message.{Message}
-use Rattle.edit_message.specs.Formed.{is_message}
 use Rattle.edit_message.specs.Message.{requests_of, entries_of}
 use Rattle.edit_frame.specs.declared.frame.Frame.{Frame}
 use Rattle.edit_frame.specs.declared.frame.Frame.TheVariants.{Item, End}
@@ -29,7 +28,7 @@ use Rattle.audit_cert.specs.declared.fault.AuditFault.{AuditFault}
 use Rattle.audit_cert.specs.declared.fault.AuditFault.TheVariants.{BadFrame, NotJournal, Differs, NoMemory}
 use Rattle.audit_cert.specs.Certificate.{certificate_bytes}
 use Rattle.audit_cert.specs.Audit.{IsCertified, is_end_frame, messages_of_frames, IsClosed, IsBroken, IsAuditFault, AreItems, differing_line}
-use Rattle.audit_cert.proofs.Audits.{messages_items, certified_by}
+use Rattle.audit_cert.proofs.Audits.{items_formed, items_no_end, messages_items, certified_by}
 use Rattle.certificate_form.specs.Certify.{certified_bytes}
 use Rattle.certificate_form.specs.Answer.{breaking_frame, certificate_answer, frames_answer, prefix_of, told_behind, broken_at, stream_answer, audit_answer}
 use Rattle.certificate_form.specs.Laws.{IsRightAnswer}
@@ -111,14 +110,6 @@ other_answer : (J : List Message) (told : List ℕ) → told ≢ certificate_byt
 other_answer J told other = tested J told false (false_from_ne_true (bytes_eq told (certificate_bytes J)) (λ same. other ((bytes_eq-Decides told (certificate_bytes J)).0 same)))
 
 -- ---- a journal, End and what is told
-
-items_formed : (J : List Message) → list_all is_message J ≡ true → list_all is_frame (map Item J) ≡ true
-items_formed [] h = refl
-items_formed (m ∷ J) h = let p = and_parts (is_message m) (list_all is_message J) h in rw (p.0, items_formed J p.1) refl
-
-items_no_end : (J : List Message) → list_any is_end_frame (map Item J) ≡ false
-items_no_end [] = refl
-items_no_end (m ∷ J) = items_no_end J
 
 closed_so : (bytes : List ℕ) (J : List Message) (told : List ℕ) → IsWithin J → bytes ≡ flat_map spelling (map Item J) ++ (spelling End ++ told) → IsClosed bytes (map Item J) told
 closed_so bytes J told within whole = record { whole = whole; formed = items_formed J within.formed; before_end = items_no_end J }
