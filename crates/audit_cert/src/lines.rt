@@ -6,8 +6,8 @@ ghost use Rattle.std.specs.List.{concat, flat_map, list_all};
 ghost use Rattle.element_name.specs.Name.{has_name};
 ghost use Rattle.coop_request.specs.Request.{element_of};
 ghost use Rattle.line_engine.specs.Output.{line_of};
-ghost use Rattle.step_spelling.specs.Values.{spaced, name_text};
-ghost use Rattle.step_spelling.specs.Answers.{state_words};
+ghost use Rattle.line_spelling.specs.Values.{spaced, name_text};
+ghost use Rattle.line_spelling.specs.Answers.{state_words};
 ghost use Rattle.audit_cert.specs.Audit.{messages_of_frames};
 ghost use Rattle.audit_cert.specs.Basis.{may_be_judged, message_bytes};
 ghost use Rattle.audit_cert.specs.Certificate.{counts_line, element_line, grant_line, request_lines};
@@ -24,7 +24,7 @@ use element_name::{Name, NoMemory, Places};
 use peer_core::JournalItem;
 use request_state::State;
 use std::alloc::Global;
-use step_write::{put, put_name_word, put_number_word, put_state};
+use line_write::{put, put_name_word, put_number_word, put_state};
 
 /// Appends the line of the counts.
 pub(crate) fn put_counts(out: &mut Vec<u8>, requests: u64, entries: u64) -> Result<(), NoMemory>

@@ -4,7 +4,7 @@ use Rattle.std.specs.Prelude.{count_by, filter_map, option_map, codes, decimal}
 use Rattle.std.specs.List.{cons_option, concat}
 use Rattle.tomb_seq.proofs.Has.{Has}
 use Rattle.line_engine.specs.Output.{line_of}
-use Rattle.step_spelling.specs.Values.{spaced}
+use Rattle.line_spelling.specs.Values.{spaced}
 use Rattle.coop_request.specs.Request.{Request}
 use Rattle.coop_request.specs.History.{request_of}
 use Rattle.edit_message.specs.declared.message.Message.{Message}

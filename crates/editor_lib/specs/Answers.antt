@@ -3,7 +3,7 @@ use Rattle.std.specs.Prelude.{ℕ, List, Option, Some, option_map, map, length, 
 use Rattle.std.specs.List.{concat}
 use Rattle.peer_core.specs.Peer.{Peer, state_of_name, text, shown_elements}
 use Rattle.peer_core.specs.Carets.{shown_up_to}
-use Rattle.step_read.specs.Numbers.{read_name}
+use Rattle.line_read.specs.Numbers.{read_name}
 use Rattle.editor_lib.specs.Told.{kept_state_line, element_word, count_word}
 
 -- the bytes of the text

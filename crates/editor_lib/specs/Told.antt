@@ -10,8 +10,8 @@ use Rattle.edit_frame.specs.Spelling.{spelling}
 use Rattle.request_state.specs.declared.state.State.{State}
 use Rattle.peer_step.specs.declared.answer.Answer.{Answer}
 use Rattle.peer_step.specs.declared.answer.Answer.TheVariants.{Done, Issued, Item}
-use Rattle.step_spelling.specs.Values.{spaced, name_text}
-use Rattle.step_spelling.specs.Answers.{state_words, answer_line}
+use Rattle.line_spelling.specs.Values.{spaced, name_text}
+use Rattle.line_spelling.specs.Answers.{state_words, answer_line}
 use Rattle.editor_lib.specs.declared.told.ToldPart.{ToldPart}
 use Rattle.editor_lib.specs.declared.told.ToldPart.TheVariants as parts
 

@@ -2,7 +2,7 @@
 //! that.
 ghost use Rattle.std.specs.Prelude.{◌≡◌, Some, None, IsSomeAnd, length};
 ghost use Rattle.std.specs.Fn.{FnOnceReturnsAtMut};
-ghost use Rattle.step_read.specs.Step.{step_line};
+ghost use Rattle.line_read.specs.Step.{step_line};
 ghost use Rattle.editor_lib.specs.Code.{GivesCode};
 ghost use Rattle.editor_lib.specs.Answers.{text_answer, state_answer, sizes_answer, name_answer, count_answer};
 ghost use Rattle.editor_lib.specs.Desk.{Desk, step_received, Opened, Restored, StepMade, Asked};

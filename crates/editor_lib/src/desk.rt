@@ -1,7 +1,7 @@
 //! A peer, with what it told last.
 ghost use Rattle.std.specs.Prelude.{◌≡◌, List, Some, Err, IfOk, OnErr};
 ghost use Rattle.edit_message.specs.declared.message.Message.{Message};
-ghost use Rattle.step_read.specs.Step.{step_line};
+ghost use Rattle.line_read.specs.Step.{step_line};
 ghost use Rattle.editor_lib.specs.declared.code.Code.TheVariants as ends;
 ghost use Rattle.editor_lib.specs.declared.journal.JournalFail.TheVariants.{Bad as bad};
 ghost use Rattle.editor_lib.specs.Answers.{text_answer, state_answer, sizes_answer, name_answer, count_answer};
@@ -17,7 +17,7 @@ use peer_core::Peer;
 use peer_step::{Answer, Step};
 use std::alloc::Global;
 use std::marker::Model;
-use step_read::{LineFail, read_name, step_line};
+use line_read::{LineFail, read_name, step_line};
 
 /// A peer, and what was told of its last step or question.
 #[derive(Drop)]

@@ -11,7 +11,7 @@ use peer_step::{Answer, Text};
 use request_state::State;
 use std::alloc::Global;
 use std::marker::Model;
-use step_write::{answer_line, put, put_state};
+use line_write::{answer_line, put, put_state};
 
 /// An answer's line and a message's frame, each as bytes, of which either may be empty.
 #[derive(Drop)]

@@ -10,10 +10,10 @@ use Rattle.line_engine.specs.Output.{Output, Ends}
 use Rattle.line_engine.specs.Engine.{Told, Says, Ran}
 use Rattle.edit_make.specs.Schedule.{made_world}
 use Rattle.edit_make.specs.Summary.{summary_text}
-use Rattle.certificate_form.specs.Laws.{IsRightlyAnswered}
+use Rattle.form_certificate.specs.Laws.{IsRightlyAnswered}
 use Rattle.editor_main.specs.declared.command.Command.{Command}
 use Rattle.editor_main.specs.declared.command.Command.TheVariants.{Replay, Audit}
-use Rattle.replay_form.specs.Headline.{Headline}
+use Rattle.form_replay.specs.Headline.{Headline}
 use Rattle.editor_main.specs.Plain.{RanPlain, plain_output, plain_part, is_reader, make_output}
 
 -- what words name, by the name of what was found

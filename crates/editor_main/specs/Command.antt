@@ -2,7 +2,7 @@
 use Rattle.std.specs.Prelude.{ℕ, List, [], ◌∷◌, Option, Some, None, codes}
 use Rattle.std.specs.Str.{bytes_eq}
 use Rattle.element_name.specs.Cases.{when, given, first_of, ◌>>=◌}
-use Rattle.step_read.specs.Numbers.{read_number}
+use Rattle.line_read.specs.Numbers.{read_number}
 use Rattle.edit_make.specs.declared.limits.TheConstants.{MAX_EDITS}
 use Rattle.editor_main.specs.declared.command.TheConstants.{MAX_SITE, MAX_SEED}
 use Rattle.editor_main.specs.declared.command.Command.{Command}

@@ -2,7 +2,7 @@
 use Rattle.std.specs.Prelude.{ℕ, not, ◌==◌, List, [], ◌∷◌, Option, Some, None, codes}
 use Rattle.std.specs.Str.{bytes_eq}
 use Rattle.element_name.specs.Cases.{when, given, first_of, ◌>>=◌}
-use Rattle.step_read.specs.Numbers.{read_number}
+use Rattle.line_read.specs.Numbers.{read_number}
 use Rattle.editor_main.specs.declared.command.TheConstants.{MAX_SITE, MAX_PORT, MAX_LINKS, MAX_ROUNDS, MAX_READS}
 use Rattle.editor_main.specs.declared.command.ConcurrentCommand.{ConcurrentCommand}
 use Rattle.editor_main.specs.declared.command.ConcurrentCommand.TheVariants.{Race, Serve, Dial, Watch}

@@ -5,12 +5,12 @@ use Rattle.line_engine.specs.declared.status.Status.TheVariants.{ReadFault, Writ
 use Rattle.line_engine.specs.Engine.{StatusCause}
 use Rattle.peer_step.specs.declared.step.Step.{Step}
 use Rattle.peer_lock.specs.declared.call.Call.{Call}
-use Rattle.race_form.specs.Race.{RanRace}
-use Rattle.watch_form.specs.Watch.{Watches}
-use Rattle.step_input.specs.declared.reading.InputEnd.{InputEnd}
-use Rattle.step_input.specs.Steps.{ReadSteps, EndCause}
+use Rattle.form_race.specs.Race.{RanRace}
+use Rattle.form_watch.specs.Watch.{Watches}
+use Rattle.line_input.specs.declared.reading.InputEnd.{InputEnd}
+use Rattle.line_input.specs.Steps.{ReadSteps, EndCause}
 use Rattle.link_report.specs.Report.{SinkCause}
-use Rattle.link_form.specs.Form.{DoorState, Serves, Dials, RunEnds, RanOrNot, HasLinkCause}
+use Rattle.form_link.specs.Form.{DoorState, Serves, Dials, RunEnds, RanOrNot, HasLinkCause}
 use Rattle.editor_main.specs.declared.command.ConcurrentCommand.{ConcurrentCommand}
 use Rattle.editor_main.specs.declared.command.ConcurrentCommand.TheVariants.{Race, Serve, Dial, Watch}
 use Rattle.editor_main.specs.Command.{command_of}

@@ -6,12 +6,12 @@ use Rattle.line_engine.specs.declared.status.Status.{Status}
 use Rattle.line_engine.specs.declared.status.Status.TheVariants.{Done, Usage, ReadFault}
 use Rattle.line_engine.specs.Output.{Output, Ends, line_of}
 use Rattle.line_engine.specs.Engine.{Told}
-use Rattle.replay_form.specs.Replay.{replay_output, replay_part}
-use Rattle.replay_form.specs.Headline.{Headline}
-use Rattle.feed_form.specs.Feed.{feed_output, feed_part}
-use Rattle.certificate_form.specs.Certify.{certify_output, certify_part}
-use Rattle.certificate_form.specs.Audit.{audit_output, audit_part}
-use Rattle.certificate_form.specs.Laws.{IsRightlyAnswered}
+use Rattle.form_replay.specs.Replay.{replay_output, replay_part}
+use Rattle.form_replay.specs.Headline.{Headline}
+use Rattle.form_feed.specs.Feed.{feed_output, feed_part}
+use Rattle.form_certificate.specs.Certify.{certify_output, certify_part}
+use Rattle.form_certificate.specs.Audit.{audit_output, audit_part}
+use Rattle.form_certificate.specs.Laws.{IsRightlyAnswered}
 use Rattle.edit_make.specs.Schedule.{made_world}
 use Rattle.edit_make.specs.Summary.{summary_text}
 use Rattle.editor_main.specs.declared.command.Command.{Command}

@@ -2,7 +2,7 @@
 use Rattle.std.specs.Prelude.{ℕ, Bool, ◌&&◌, not, ◌==◌, List, [], ◌∷◌, length, Option, None, codes, nat_le}
 use Rattle.std.specs.Str.{bytes_eq, is_utf8}
 use Rattle.element_name.specs.Cases.{when, given, ◌>>=◌}
-use Rattle.step_read.specs.Numbers.{read_number}
+use Rattle.line_read.specs.Numbers.{read_number}
 use Rattle.editor_main.specs.declared.command.TheConstants.{MAX_SITE}
 use Rattle.editor_main.specs.declared.stored_call.TheConstants.{MAX_FILE_NAME}
 

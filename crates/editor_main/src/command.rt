@@ -1,13 +1,13 @@
 //! The commands, by their words.
 ghost use Rattle.std.specs.Prelude.{◌≡◌, ◌<◌, ◌≤◌, ◌^◌, ℕ, Some, IfSome};
 ghost use Rattle.edit_make.specs.declared.limits.TheConstants.{MAX_EDITS};
-ghost use Rattle.step_read.specs.Numbers.{read_number};
+ghost use Rattle.line_read.specs.Numbers.{read_number};
 ghost use Rattle.editor_main.specs.Command.{command_of, alone_by, site_by, make_by};
 ghost use Rattle.editor_main.specs.Concurrent.{race_by, read_positive, serve_by, dial_by, watch_by, concurrent_command_of};
 
 use crate::word::Word;
 use edit_make::MAX_EDITS;
-use step_read::read_number;
+use line_read::read_number;
 
 /// The greatest number of a site.
 pub(crate) const MAX_SITE: u64 = u16::MAX as u64;

@@ -1,7 +1,7 @@
 //! The top call that may start threads and talk to other programs.
 ghost use Rattle.std.specs.Prelude.{◌≡◌};
 ghost use Rattle.line_engine.specs.Engine.{Reads};
-ghost use Rattle.link_form.specs.Form.{door_state};
+ghost use Rattle.form_link.specs.Form.{door_state};
 ghost use Rattle.editor_main.specs.Concurrent.{concurrent_command_of};
 ghost use Rattle.editor_main.specs.Editor.{stream_state, EditorEnds};
 
@@ -10,13 +10,13 @@ use crate::plain_call::plain;
 use crate::word::Word;
 use edit_io::{Door, Sink, Source};
 use line_engine::Status;
-use link_form::{dial_form, serve_form};
-use race_form::race_form;
+use form_link::{dial_form, serve_form};
+use form_race::race_form;
 use race_run::Gate;
 use std::alloc::Global;
 use std::sync::Wait;
 use std::thread::Threads;
-use watch_form::watch_form;
+use form_watch::watch_form;
 
 /// Runs the command that the words name over a source and a sink, a door to other programs that wasn't asked yet, and a
 /// gate that the workers of a race or of a watch pass.

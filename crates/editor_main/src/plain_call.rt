@@ -7,12 +7,12 @@ ghost use Rattle.editor_main.specs.Plain.{RanPlain, make_output};
 
 use crate::command::{Command, command_of};
 use crate::word::Word;
-use certificate_form::{audit_input, certify_stream};
+use form_certificate::{audit_input, certify_stream};
 use edit_io::{Sink, Source};
 use edit_make::summary;
-use feed_form::feed;
+use form_feed::feed;
 use line_engine::{Status, say};
-use replay_form::replay;
+use form_replay::replay;
 use std::alloc::Global;
 
 /// What is written where the words name no command.
@@ -49,14 +49,14 @@ pub fn plain<S: Source, K: Sink>(
 {
     match command_of(words) {
         Some(Command::Replay) => {
-            replay_form::laws::headline();
+            form_replay::laws::headline();
             replay(alloc, source, sink)
         }
         Some(Command::Feed(site)) => feed(alloc, site, source, sink),
         Some(Command::Make { seed, edits }) => make(alloc, seed, edits, sink),
         Some(Command::Certify(site)) => certify_stream(alloc, site, source, sink),
         Some(Command::Audit) => {
-            certificate_form::laws::answer_is_right();
+            form_certificate::laws::answer_is_right();
             audit_input(alloc, source, sink)
         }
         None => say(sink, USAGE, Status::Usage),

@@ -2,7 +2,7 @@
 ghost use Rattle.std.specs.Prelude.{◌≡◌, ℕ, List, IfSome, IsNone, Some};
 ghost use Rattle.std.specs.Str.{is_utf8};
 ghost use Rattle.line_engine.specs.Engine.{Reads, Says, StatusCause};
-ghost use Rattle.keep_form.specs.Run.{RanKeep, DiskCause};
+ghost use Rattle.form_keep.specs.Run.{RanKeep, DiskCause};
 ghost use Rattle.editor_main.specs.Plain.{usage_output};
 ghost use Rattle.editor_main.specs.Stored.{is_file_name, keep_site_of};
 
@@ -11,7 +11,7 @@ use crate::plain_call::USAGE;
 use crate::word::Word;
 use bstr::ByteSlice;
 use edit_io::{Sink, Source};
-use keep_form::keep;
+use form_keep::keep;
 use line_engine::{Status, say};
 use peer_disk::Disk;
 use std::alloc::Global;

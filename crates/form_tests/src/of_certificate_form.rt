@@ -1,5 +1,5 @@
 //! A certificate of forty-one lines of which one is changed: the first line that differs is named.
-use certificate_form::{audit_input, certify_stream};
+use form_certificate::{audit_input, certify_stream};
 use edit_io::{MemSink, MemSource};
 use line_engine::Status;
 use std::alloc::{AllocError, Global};

@@ -6,7 +6,7 @@ use peer_step::Step;
 use std::alloc::Global;
 use std::process::Abort;
 use std::test::Fail;
-use step_write::step_text;
+use line_write::step_text;
 
 // The bytes that pairs of hexadecimal digits stand for; spaces are left out.
 fn bytes_of(alloc: Global, text: &str) -> Result<Vec<u8>, Fail> {

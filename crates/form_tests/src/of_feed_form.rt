@@ -1,6 +1,6 @@
 //! Worked streams, over a source and a sink that come in pieces.
 use edit_io::{MemSink, MemSource};
-use feed_form::feed;
+use form_feed::feed;
 use line_engine::Status;
 use std::alloc::{AllocError, Global};
 use std::test::Fail;

@@ -7,7 +7,7 @@ mod rows;
 
 use edit_io::{MemSink, MemSource};
 use line_engine::Status;
-use replay_form::replay;
+use form_replay::replay;
 use std::alloc::{AllocError, Global};
 
 /// At how many bytes a call a source gives and a sink takes, and which call of each fails; 0 for none.

@@ -1,6 +1,6 @@
 //! A peer that is kept, run by run: what is written, and the file that is left.
 use edit_io::{MemSink, MemSource};
-use keep_form::keep;
+use form_keep::keep;
 use line_engine::Status;
 use peer_disk::MemDisk;
 use std::alloc::{AllocError, Global};

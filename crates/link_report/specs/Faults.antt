@@ -3,8 +3,8 @@ use Rattle.std.specs.Prelude.{ℕ, ◌+◌, Bool, List, [], ◌∷◌, ◌++◌,
 use Rattle.serve_core.specs.declared.own.OwnEnd.{OwnEnd}
 use Rattle.serve_core.specs.declared.own.OwnEnd.TheVariants as own_end
 use Rattle.session_core.specs.declared.fault.SessionFault.{SessionFault}
-use Rattle.step_input.specs.declared.reading.InputEnd.{InputEnd}
-use Rattle.step_input.specs.declared.reading.InputEnd.TheVariants as input_end
+use Rattle.line_input.specs.declared.reading.InputEnd.{InputEnd}
+use Rattle.line_input.specs.declared.reading.InputEnd.TheVariants as input_end
 use Rattle.link_report.specs.declared.faults.Fault.{Fault}
 use Rattle.link_report.specs.declared.faults.Fault.TheVariants.{Door, BadLine, TooLong, Read, NoMemory, Link}
 

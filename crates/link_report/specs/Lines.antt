@@ -5,7 +5,7 @@ use Rattle.line_engine.specs.declared.status.Status.{Status}
 use Rattle.line_engine.specs.declared.status.Status.TheVariants as status
 use Rattle.line_engine.specs.Output.{line_of, bad_line_text, too_long_text}
 use Rattle.edit_frame.specs.declared.frame.FrameFault.{FrameFault}
-use Rattle.step_spelling.specs.Values.{spaced}
+use Rattle.line_spelling.specs.Values.{spaced}
 use Rattle.report_text.specs.Frame.{frame_kind_words}
 use Rattle.session_core.specs.declared.fault.SessionFault.{SessionFault}
 use Rattle.session_core.specs.declared.fault.SessionFault.TheVariants as session

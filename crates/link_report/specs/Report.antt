@@ -5,7 +5,7 @@ use Rattle.line_engine.specs.declared.status.Status.{Status}
 use Rattle.line_engine.specs.declared.status.Status.TheVariants.{WriteFault, NoMemory}
 use Rattle.line_engine.specs.Output.{Output}
 use Rattle.peer_lock.specs.declared.call.Call.{Call}
-use Rattle.run_report.specs.Report.{report}
+use Rattle.report_run.specs.Report.{report}
 use Rattle.link_report.specs.declared.faults.Fault.{Fault}
 use Rattle.link_report.specs.Lines.{fault_line, faults_status}
 

@@ -6,7 +6,7 @@ use element_name::NoMemory;
 use serve_core::OwnEnd;
 use session_core::SessionFault;
 use std::alloc::Global;
-use step_input::InputEnd;
+use line_input::InputEnd;
 
 /// What kept the door, the caller's own steps or a session from going on.
 #[derive(Clone, Copy, Debug)]

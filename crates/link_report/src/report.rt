@@ -1,7 +1,7 @@
 //! The report of a run, and the faults behind it.
 ghost use Rattle.std.specs.Prelude.{◌≡◌, ◌≢◌, ◌++◌, ℕ, List};
 ghost use Rattle.line_engine.specs.Engine.{Says, StatusCause};
-ghost use Rattle.run_report.specs.Report.{report};
+ghost use Rattle.report_run.specs.Report.{report};
 ghost use Rattle.link_report.specs.Report.{link_output, SinkCause};
 
 use crate::faults::Fault;
@@ -9,7 +9,7 @@ use crate::telling::{fault_lines, faults_status};
 use edit_io::Sink;
 use line_engine::{Status, say};
 use peer_lock::History;
-use run_report::report;
+use report_run::report;
 use std::alloc::Global;
 
 // Writes the report of a run and then lines, and gives a status.
@@ -35,7 +35,7 @@ fn tell_then<K: Sink>(
 /// Writes the report of a run and behind it the lines of the faults that were met, and gives their status.
 ///
 /// Where memory was wanting among the faults, that is the status, also where the sink fails. It costs what
-/// [`report`](run_report::report) does.
+/// [`report`](report_run::report) does.
 pub fn tell_run<K: Sink>(
     alloc: Global,
     site: u16,

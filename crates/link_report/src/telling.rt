@@ -1,6 +1,6 @@
 //! What is told of faults.
 ghost use Rattle.std.specs.Prelude.{◌≡◌, ◌++◌, OnOk, IfOk, flat_map};
-ghost use Rattle.step_spelling.specs.Values.{behind_spaces};
+ghost use Rattle.line_spelling.specs.Values.{behind_spaces};
 ghost use Rattle.link_report.specs.Lines.{session_fault_words, link_line, fault_line, session_status, fault_status, wants_memory, first_status, faults_status};
 ghost use Rattle.std.specs.List.{list_any};
 
@@ -10,7 +10,7 @@ use line_engine::{Status, put_bad_line};
 use report_text::put_frame_kind;
 use session_core::SessionFault;
 use std::alloc::Global;
-use step_write::{put, put_number_word};
+use line_write::{put, put_number_word};
 
 // ---- lines
 

@@ -4,7 +4,7 @@ ghost use Rattle.edit_io.specs.Lobby.{IsUnusedPlace};
 
 use edit_io::{MemDoor, MemLink, MemSink, MemSource};
 use line_engine::Status;
-use link_form::{dial_form, serve_form};
+use form_link::{dial_form, serve_form};
 use std::alloc::{AllocError, Global};
 use std::sync::Wait;
 use std::test::Fail;

@@ -4,7 +4,7 @@ ghost use Rattle.std.specs.Prelude.{None};
 use crate::of_link_form::{END, TURN};
 use edit_io::{Door, Failed, Link, MemSink, MemSource, OutFail};
 use line_engine::Status;
-use link_form::serve_form;
+use form_link::serve_form;
 use std::alloc::Global;
 use std::sync::atomic::{AtomicU64, Ordering};
 use std::test::Fail;

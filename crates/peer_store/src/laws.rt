@@ -17,7 +17,7 @@ pub fn one_list()
     ensures { (site : ℕ) (file : List ℕ) (first second : List Step) → StandsFor site first file → StandsFor site second file → first ≡ second }
 {
     record_file::laws::one_reading();
-    step_body::laws::one_step();
+    record_step::laws::one_step();
 }
 
 /// A file that is no store from some offset on stands for no steps.
@@ -25,5 +25,5 @@ pub fn no_store()
     ensures { (site offset : ℕ) (file : List ℕ) (steps : List Step) → IsNoStoreFrom site offset file → StandsFor site steps file → ⊥ }
 {
     record_file::laws::broken_has_none();
-    step_body::laws::one_step();
+    record_step::laws::one_step();
 }

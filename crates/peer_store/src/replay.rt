@@ -13,7 +13,7 @@ use element_name::NoMemory;
 use peer_core::Peer;
 use record_file::{BESIDE_BODY, Ending, FIRST_GATE, Loaded};
 use std::alloc::Global;
-use step_body::read_body;
+use record_step::read_body;
 
 // Makes the step of a body, and says whether it is one that changes the peer.
 fn make_body(alloc: Global, peer: &mut Peer, body: &[u8]) -> Result<bool, NoMemory>

@@ -9,7 +9,7 @@ use peer_core::Peer;
 use peer_step::Step;
 use record_file::Record;
 use std::alloc::Global;
-use step_body::body_of;
+use record_step::body_of;
 
 /// The version that an operation of this peer would make.
 pub(crate) fn next_version(peer: &Peer) -> u32
@@ -29,7 +29,7 @@ pub(crate) fn step_record(
     ensures some { IfOk result (λ found. IfSome found (λ body. IsBodyFor peer.now step.now body)) }
     ensures none { IfOk result (λ found. IsNone found → changes peer.now step.now ≡ false) }
 {
-    step_body::laws::short_bodies();
+    record_step::laws::short_bodies();
     let Some(body) = body_of(alloc, next_version(peer), step)? else {
         return Ok(None);
     };

@@ -3,8 +3,8 @@ use peer_core::{OneThread, Peer};
 use peer_step::Step;
 use std::alloc::Global;
 use std::test::Fail;
-use step_read::step_line;
-use step_write::step_text;
+use line_read::step_line;
+use line_write::step_text;
 use text_change::step_told;
 
 /// A step line, and the lines of its rows.

@@ -8,7 +8,7 @@ use Rattle.line_engine.specs.declared.status.Status.TheVariants.{Done}
 use Rattle.line_engine.specs.Output.{Output, after_bytes, after_part, bad_line}
 use Rattle.line_engine.specs.Run.{LineTurn, turn_of_line, output_of_lines, part_of_lines}
 use Rattle.peer_step.specs.declared.step.Step.{Step}
-use Rattle.step_read.specs.Step.{step_line}
+use Rattle.line_read.specs.Step.{step_line}
 use Rattle.peer_lock.specs.declared.limits.TheConstants.{MAX_RUN}
 use Rattle.race_input.specs.Lists.{WorkLists, step_count, with_step, list_turn}
 use Rattle.race_input.specs.Laws.{IsAlone}

@@ -6,7 +6,7 @@ use Rattle.line_engine.specs.Input.{is_cut, counted_bytes}
 use Rattle.line_engine.specs.Run.{LineTurn, output_of, part_of, world_of}
 use Rattle.peer_step.specs.declared.step.Step.{Step}
 use Rattle.peer_step.specs.declared.step.Step.TheVariants.{Edit, Administer, Receive, Settle, ValidateNext, Look, Show}
-use Rattle.step_read.specs.Step.{step_line}
+use Rattle.line_read.specs.Step.{step_line}
 use Rattle.race_input.specs.declared.worker.Worker.{Worker}
 use Rattle.race_input.specs.declared.worker.Worker.TheVariants.{Editor, Receiver, Administrator}
 use Rattle.peer_lock.specs.declared.limits.TheConstants.{MAX_RUN}

@@ -13,7 +13,7 @@ use peer_lock::MAX_RUN;
 use peer_step::Step;
 use std::alloc::Global;
 use std::marker::Model;
-use step_read::step_line;
+use line_read::step_line;
 
 /// The steps that three workers run, each in its order, and packed.
 #[derive(Drop)]

@@ -5,8 +5,8 @@ use Rattle.edit_message.specs.declared.message.Message.{Message}
 use Rattle.edit_message.specs.declared.message.Message.TheVariants.{Coop, Admin}
 use Rattle.peer_step.specs.declared.answer.Answer.TheVariants.{Shown}
 use Rattle.peer_core.specs.Peer.{Peer, text, missing, finds_no_room}
-use Rattle.step_spelling.specs.Values.{spaced, name_text}
-use Rattle.step_spelling.specs.Answers.{answer_line, missing_words}
+use Rattle.line_spelling.specs.Values.{spaced, name_text}
+use Rattle.line_spelling.specs.Answers.{answer_line, missing_words}
 
 -- what waits: a request of this name, or an entry that makes this version
 abbrev pub waiting_words : Message → List (List ℕ)

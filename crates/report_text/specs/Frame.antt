@@ -6,7 +6,7 @@ use Rattle.coop_request.specs.declared.request.RequestFault.TheVariants.{BadVers
 use Rattle.edit_frame.specs.declared.frame.FrameKind.{FrameKind}
 use Rattle.edit_frame.specs.declared.frame.FrameKind.TheVariants.{BadLength, BadKind, BadField, LeftOver, Truncated, BadRequest}
 use Rattle.edit_frame.specs.declared.frame.FrameFault.{FrameFault}
-use Rattle.step_spelling.specs.Values.{spaced}
+use Rattle.line_spelling.specs.Values.{spaced}
 
 -- the number of a request's fault
 abbrev pub request_fault_text : RequestFault → List ℕ

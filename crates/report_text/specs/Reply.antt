@@ -4,8 +4,8 @@ use Rattle.line_engine.specs.Output.{line_of}
 use Rattle.request_state.specs.declared.state.State.{State}
 use Rattle.replay_net.specs.declared.reply.Reply.{Reply}
 use Rattle.replay_net.specs.declared.reply.Reply.TheVariants.{Answered, NoMessage, StateIs}
-use Rattle.step_spelling.specs.Values.{spaced}
-use Rattle.step_spelling.specs.Answers.{state_words, answer_line}
+use Rattle.line_spelling.specs.Values.{spaced}
+use Rattle.line_spelling.specs.Answers.{state_words, answer_line}
 
 -- a state that is kept, or none
 abbrev pub kept_words : Option State → List (List ℕ)

@@ -1,6 +1,6 @@
 //! The lines of what a peer holds.
 ghost use Rattle.std.specs.Prelude.{◌≡◌, ◌++◌, flat_map, OnOk, OnErr};
-ghost use Rattle.step_spelling.specs.Values.{behind_spaces};
+ghost use Rattle.line_spelling.specs.Values.{behind_spaces};
 ghost use Rattle.peer_core.specs.Peer.{finds_no_room};
 ghost use Rattle.report_text.specs.Closing.{waiting_words, reason_words, waits_line, held_lines};
 
@@ -9,7 +9,7 @@ use edit_message::Message;
 use element_name::NoMemory;
 use peer_core::Peer;
 use std::alloc::Global;
-use step_write::{put, put_missing, put_name_word, put_number_word};
+use line_write::{put, put_missing, put_name_word, put_number_word};
 
 fn finds_no_room(peer: &Peer, message: &Message) -> bool
     ensures { result ≡ finds_no_room peer.now.journal message.now }

@@ -1,13 +1,13 @@
 //! The lines of frames that are no messages, and of a stream's fault.
 ghost use Rattle.std.specs.Prelude.{◌≡◌, ◌++◌, OnOk, OnErr};
-ghost use Rattle.step_spelling.specs.Values.{behind_spaces};
+ghost use Rattle.line_spelling.specs.Values.{behind_spaces};
 ghost use Rattle.report_text.specs.Frame.{request_fault_text, frame_kind_words, frame_fault_line, turn_line, end_line};
 
 use coop_request::RequestFault;
 use edit_frame::{FrameFault, FrameKind};
 use element_name::NoMemory;
 use std::alloc::Global;
-use step_write::{put, put_number_word};
+use line_write::{put, put_number_word};
 
 fn put_request_fault(line: &mut Vec<u8>, fault: RequestFault) -> Result<(), NoMemory>
     ensures { OnOk result (line.new.items ≡ line.old.items ++ request_fault_text fault) }

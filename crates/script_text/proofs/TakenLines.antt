@@ -1,9 +1,9 @@
 -- What a script's lines are for the world that they are read for.
 use Rattle.std.proofs.Common.{true, false}
 use Rattle.replay_net.specs.Line.{is_opening, is_world_line, is_formed_line}
-use Rattle.step_read.specs.Words.{is_line, words}
+use Rattle.line_read.specs.Words.{is_line, words}
 use Rattle.script_text.specs.Laws.{FormedLaw, OpeningLaw, TakenLaw}
-use Rattle.step_read.proofs.Passing.{allowed}
+use Rattle.line_read.proofs.Passing.{allowed}
 use Rattle.script_text.proofs.WorldLines.{later-formed, later-taken, read_first-first, first-formed}
 
 pub formed_law : FormedLaw

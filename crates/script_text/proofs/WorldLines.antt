@@ -12,15 +12,15 @@ use Rattle.replay_net.specs.declared.line.TheConstants.{MAX_PEERS}
 use Rattle.replay_net.specs.declared.line.Line.{Line}
 use Rattle.replay_net.specs.declared.line.Line.TheVariants.{Peers, Local, Give, Hand, StateOf}
 use Rattle.replay_net.specs.Line.{is_receive, is_opening, is_world_line, is_formed_line}
-use Rattle.step_read.specs.declared.numbers.TheConstants.{MAX_WIDE}
-use Rattle.step_read.specs.Words.{is_alone}
-use Rattle.step_read.specs.Numbers.{read_number, read_wide, read_name}
-use Rattle.step_read.specs.Operation.{read_operation}
-use Rattle.step_read.specs.Step.{read_local_edit}
+use Rattle.line_read.specs.declared.numbers.TheConstants.{MAX_WIDE}
+use Rattle.line_read.specs.Words.{is_alone}
+use Rattle.line_read.specs.Numbers.{read_number, read_wide, read_name}
+use Rattle.line_read.specs.Operation.{read_operation}
+use Rattle.line_read.specs.Step.{read_local_edit}
 use Rattle.script_text.specs.Peers.{read_count, read_peer, one_peer}
 use Rattle.script_text.specs.Line.{read_own, read_local, read_give, read_hand, read_look, read_state, read_later, one_count, read_first}
-use Rattle.step_read.proofs.Passing.{Passes, none, some, where_, tested, either, first, then, mapped, alone}
-use Rattle.step_read.proofs.FormedSteps.{number_low, operation, message, local_edit}
+use Rattle.line_read.proofs.Passing.{Passes, none, some, where_, tested, either, first, then, mapped, alone}
+use Rattle.line_read.proofs.FormedSteps.{number_low, operation, message, local_edit}
 
 -- ---- peers and their own steps
 

@@ -6,12 +6,12 @@ use Rattle.peer_step.specs.declared.step.Step.TheVariants.{Edit, Administer, Set
 use Rattle.replay_net.specs.declared.line.TheConstants.{MAX_PEERS}
 use Rattle.replay_net.specs.declared.line.Line.{Line}
 use Rattle.replay_net.specs.declared.line.Line.TheVariants.{Peers, Local, Give, Hand, StateOf}
-use Rattle.step_read.specs.declared.numbers.TheConstants.{MAX_WIDE}
-use Rattle.step_read.specs.Words.{is_line, words, beside, is_alone}
-use Rattle.step_read.specs.Numbers.{read_wide, read_name}
-use Rattle.step_read.specs.Operation.{read_operation}
-use Rattle.step_read.specs.Message.{read_message}
-use Rattle.step_read.specs.Step.{read_local_edit}
+use Rattle.line_read.specs.declared.numbers.TheConstants.{MAX_WIDE}
+use Rattle.line_read.specs.Words.{is_line, words, beside, is_alone}
+use Rattle.line_read.specs.Numbers.{read_wide, read_name}
+use Rattle.line_read.specs.Operation.{read_operation}
+use Rattle.line_read.specs.Message.{read_message}
+use Rattle.line_read.specs.Step.{read_local_edit}
 use Rattle.script_text.specs.Peers.{read_count, read_peer, one_peer}
 
 -- a step of a peer's own: an edit, `validatenext` or an operation

@@ -1,7 +1,7 @@
 -- Numbers of peers and of messages, as words.
 use Rattle.std.specs.Prelude.{ℕ, List, [], ◌∷◌, Option, None, nat_lt}
 use Rattle.element_name.specs.Cases.{when, ◌>>=◌}
-use Rattle.step_read.specs.Numbers.{read_number, read_wide}
+use Rattle.line_read.specs.Numbers.{read_number, read_wide}
 
 -- a number from 1
 abbrev pub read_count : ℕ → List ℕ → Option ℕ

@@ -1,7 +1,7 @@
 //! Script lines.
 ghost use Rattle.std.specs.Prelude.{◌≡◌, IfOk, IsErrOf, Some, None, IsTrue, true, false};
 ghost use Rattle.replay_net.specs.Line.{is_opening, is_world_line};
-ghost use Rattle.step_read.specs.Words.{bytes_of};
+ghost use Rattle.line_read.specs.Words.{bytes_of};
 ghost use Rattle.script_text.specs.Line.{read_own, read_local, read_give, read_hand, read_look, read_state, read_later, one_count, read_first, script_line};
 
 use crate::peers::{one_peer, read_count, read_peer};
@@ -10,7 +10,7 @@ use line_engine::LineFail;
 use peer_step::Step;
 use replay_net::{Line, MAX_PEERS};
 use std::alloc::Global;
-use step_read::{
+use line_read::{
     is_alone, is_line, read_local_edit, read_message, read_name, read_operation, read_wide,
     words_of,
 };

@@ -1,9 +1,9 @@
 //! Numbers of peers and of messages, as words.
 ghost use Rattle.std.specs.Prelude.{◌≡◌};
-ghost use Rattle.step_read.specs.Words.{bytes_of};
+ghost use Rattle.line_read.specs.Words.{bytes_of};
 ghost use Rattle.script_text.specs.Peers.{read_count, read_peer, one_peer};
 
-use step_read::{read_number, read_wide};
+use line_read::{read_number, read_wide};
 
 /// A number from 1 to the limit.
 pub(crate) fn read_count(limit: u32, word: &[u8]) -> Option<u32>

@@ -2,7 +2,7 @@
 use coop_request::Piece;
 use peer_step::{LocalEdit, Step};
 use std::test::Fail;
-use step_body::{body_of, read_body};
+use record_step::{body_of, read_body};
 
 const BODY: &[u8] = b"\x01\x00\x00\x00\x00\x01\x61";
 

@@ -4,8 +4,8 @@ use line_engine::Status;
 use std::alloc::{Alloc, AllocError, Global};
 use std::process::Abort;
 use std::test::Fail;
-use step_read::{LineFail, step_line};
-use step_write::step_text;
+use line_read::{LineFail, step_line};
+use line_write::step_text;
 
 // First lines of a script.
 const GOOD_FIRST_LINES: [&str; 2] = ["peers 1", "peers 64"];

@@ -2,10 +2,10 @@ use Rattle.std.proofs.Common.{◌≡◌, ℕ, List, Some, None, ap, sym, ◌∙�
 use Rattle.std.specs.Bool.{⊤}
 use Rattle.std.specs.declared.option.Option.{Option}
 use Rattle.line_engine.specs.Input.{counted_bytes}
-use Rattle.replay_form.specs.Replay.{replay_output, replay_part}
-use Rattle.feed_form.specs.Feed.{feed_output, feed_part}
-use Rattle.certificate_form.specs.Certify.{certify_output, certify_part}
-use Rattle.certificate_form.specs.Audit.{audit_output, audit_part}
+use Rattle.form_replay.specs.Replay.{replay_output, replay_part}
+use Rattle.form_feed.specs.Feed.{feed_output, feed_part}
+use Rattle.form_certificate.specs.Certify.{certify_output, certify_part}
+use Rattle.form_certificate.specs.Audit.{audit_output, audit_part}
 use Rattle.editor_main.specs.declared.command.Command.{Command}
 use Rattle.editor_main.specs.declared.command.Command.TheVariants.{Replay, Feed, Make, Certify, Audit}
 use Rattle.editor_main.specs.Command.{command_of}

@@ -1,4 +1,4 @@
-use Rattle.step_read.proofs.TextTests.{is_utf8-from_iff}
+use Rattle.line_read.proofs.TextTests.{is_utf8-from_iff}
 use Rattle.editor_main.proofs.stored_call.is_text.Goals as goal
 
 pub returns : goal.returns

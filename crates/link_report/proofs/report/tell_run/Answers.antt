@@ -1,5 +1,5 @@
 use Rattle.std.proofs.Common.{refl, ◌∙◌}
-use Rattle.run_report.specs.Report.{report}
+use Rattle.report_run.specs.Report.{report}
 use Rattle.link_report.proofs.Tellings.{says_wanting, says_of, caused_told}
 use Rattle.link_report.proofs.report.tell_run.Goals as goal
 

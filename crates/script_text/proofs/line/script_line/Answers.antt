@@ -1,5 +1,5 @@
 use Rattle.std.proofs.Common.{◌∙◌, sym}
-use Rattle.step_read.specs.Words.{bytes_of}
+use Rattle.line_read.specs.Words.{bytes_of}
 use Rattle.script_text.proofs.WorldLines.{later-taken, read_first-first}
 use Rattle.script_text.proofs.line.script_line.Goals as goal
 

@@ -1,7 +1,0 @@
-//! Laws of feeding. The functions do nothing: each stands for its statement.
-ghost use Rattle.feed_form.specs.Laws.{QuietLaw};
-
-/// The settle steps after a message go on until nothing that is held is due.
-pub fn settled_is_quiet()
-    ensures { QuietLaw }
-{}

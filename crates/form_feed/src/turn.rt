@@ -1,0 +1,97 @@
+//! What a peer answers to a frame.
+ghost use Rattle.std.specs.Prelude.{◌≡◌, ◌++◌, not, None, OnOk, IfOk};
+ghost use Rattle.peer_step.specs.Answers.{is_quiet};
+ghost use Rattle.peer_core.specs.Answers.{answer_of, answer_settle};
+ghost use Rattle.peer_core.specs.After.{peer_after};
+ghost use Rattle.line_spelling.specs.Answers.{answer_line};
+ghost use Rattle.form_feed.specs.Turn.{settle_line, all_settle_steps, answer_lines, message_turn, frame_turn};
+
+use edit_frame::Frame;
+use edit_message::Message;
+use element_name::NoMemory;
+use peer_core::Peer;
+use peer_step::{Answer, Step};
+use report_text::{end_line, turn_line};
+use std::alloc::Global;
+use line_write::answer_line;
+
+/// Makes a step, and appends the line of its answer.
+pub(crate) fn step_line(
+    alloc: Global,
+    peer: &mut Peer,
+    step: Step,
+    out: &mut Vec<u8>,
+) -> Result<(), NoMemory>
+    ensures line { OnOk result (out.new.items ≡ out.old.items ++ answer_line None (answer_of peer.old step)) }
+    ensures peer { OnOk result (peer.new ≡ peer_after peer.old step) }
+{
+    let answer = peer.step(step)?;
+    answer_line(alloc, None, &answer, out)
+}
+
+// Appends the line of a settle step's answer but for Quiet, and says whether it is another one.
+fn put_settled(alloc: Global, answer: &Answer, out: &mut Vec<u8>) -> Result<bool, NoMemory>
+    ensures due { IfOk result (λ due. due ≡ not (is_quiet answer.now)) }
+    ensures line { OnOk result (out.new.items ≡ out.old.items ++ settle_line answer.now) }
+{
+    if answer.is_quiet() {
+        return Ok(false);
+    }
+    answer_line(alloc, None, answer, out)?;
+    Ok(true)
+}
+
+// Settles the first held message that is due, and says whether one was.
+fn settle_first(alloc: Global, peer: &mut Peer, out: &mut Vec<u8>) -> Result<bool, NoMemory>
+    ensures due { IfOk result (λ due. due ≡ not (is_quiet (answer_settle peer.old))) }
+    ensures line { OnOk result (out.new.items ≡ out.old.items ++ settle_line (answer_settle peer.old)) }
+    ensures peer { OnOk result (peer.new ≡ peer_after peer.old Step.Settle) }
+{
+    let answer = peer.step(Step::Settle)?;
+    put_settled(alloc, &answer, out)
+}
+
+// Settles what is due, and appends the answers.
+fn settle(alloc: Global, peer: &mut Peer, out: &mut Vec<u8>) -> Result<(), NoMemory>
+    ensures reply { OnOk result (out.new.items ≡ out.old.items ++ answer_lines (all_settle_steps peer.old).answers) }
+    ensures peer { OnOk result (peer.new ≡ (all_settle_steps peer.old).peer) }
+{
+    'steps: loop {
+        let due = settle_first(alloc, peer, out)?;
+        if !due {
+            return Ok(());
+        }
+    }
+}
+
+// Hands a message to the peer, and appends the answers.
+fn receive(
+    alloc: Global,
+    peer: &mut Peer,
+    message: Message,
+    out: &mut Vec<u8>,
+) -> Result<(), NoMemory>
+    ensures reply { OnOk result (out.new.items ≡ out.old.items ++ (message_turn peer.old message).reply) }
+    ensures peer { OnOk result (peer.new ≡ (message_turn peer.old message).after) }
+{
+    step_line(alloc, peer, Step::Receive(message), out)?;
+    settle(alloc, peer, out)
+}
+
+/// Answers a frame.
+#[tactic(auto, unfolding(crate::specs::Turn::frame_turn))]
+pub(crate) fn answer_frame(
+    alloc: Global,
+    peer: &mut Peer,
+    frame: Frame,
+    out: &mut Vec<u8>,
+) -> Result<(), NoMemory>
+    ensures reply { OnOk result (out.new.items ≡ out.old.items ++ (frame_turn peer.old frame).reply) }
+    ensures peer { OnOk result (peer.new ≡ (frame_turn peer.old frame).after) }
+{
+    match frame {
+        Frame::Item(message) => receive(alloc, peer, message, out),
+        Frame::Turn => turn_line(out),
+        Frame::End => end_line(out),
+    }
+}

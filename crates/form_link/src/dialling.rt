@@ -1,0 +1,93 @@
+//! The form that dials.
+ghost use Rattle.std.specs.Prelude.{◌≡◌, ◌≢◌, ◌≤◌, ◌+◌, ℕ, List, IfOk, OnErr};
+ghost use Rattle.edit_io.specs.Door.{HasRoom};
+ghost use Rattle.line_engine.specs.Engine.{Reads};
+ghost use Rattle.peer_step.specs.declared.step.Step.{Step};
+ghost use Rattle.link_run.specs.Counts.{links_given, links_hurt, door_failures};
+ghost use Rattle.line_input.specs.declared.reading.InputEnd.{InputEnd};
+ghost use Rattle.line_input.specs.Steps.{ReadSteps, EndCause};
+ghost use Rattle.link_report.specs.Report.{SinkCause};
+ghost use Rattle.form_link.specs.Form.{door_state, Dials, RanOrNot, HasLinkCause};
+
+use crate::telling::tell;
+use edit_io::{Door, Sink, Source};
+use element_name::NoMemory;
+use line_engine::Status;
+use link_run::{LinkRun, dial, run_alone};
+use peer_step::Step;
+use std::alloc::Global;
+use std::sync::Wait;
+use std::thread::Threads;
+use line_input::{InputEnd, StepInput, read_steps};
+
+// Makes the steps of an input, and then dials, if the input has no fault.
+fn dial_behind<R: Threads + Wait + Sync, D: Door>(
+    rt: &R,
+    alloc: Global,
+    site: u16,
+    port: u16,
+    rounds: u32,
+    steps: &[Step],
+    end: InputEnd,
+    door: &mut D,
+) -> Result<LinkRun, NoMemory>
+    requires room { HasRoom (D.faults door.old) (D.given door.old) }
+    requires back { D.returned door.old ≤ D.given door.old }
+    ensures ends { IfOk result (λ r.
+        Dials D.Line.got D.Line.sent D.Line.faults D.Line.closes site rounds end steps.now
+        (door_state (D.faults door.old) (D.given door.old) (D.returned door.old) (D.hurt door.old) (D.used door.old))
+        (door_state (D.faults door.new) (D.given door.new) (D.returned door.new) (D.hurt door.new) (D.used door.new))
+        r.own r.door_failed r.links.items r.history) }
+    ensures given { D.given door.new ≡ D.given door.old + links_given result }
+    ensures returned { D.returned door.new ≡ D.returned door.old + links_given result }
+    ensures hurt { D.hurt door.new ≡ D.hurt door.old + links_hurt result }
+    ensures faults { D.faults door.new ≡ D.faults door.old + door_failures result }
+    ensures used { OnErr result (D.used door.new ≡ D.used door.old) }
+{
+    match end {
+        InputEnd::Whole => dial(rt, alloc, site, port, rounds, steps, door),
+        _ => run_alone(rt, alloc, site, steps),
+    }
+}
+
+/// Makes the steps of the step lines that a source gives on a peer of a site, then connects to a port and has a session
+/// of so many rounds, and writes the report of the run and the faults that were met.
+///
+/// The input is read first, to its end or to its first fault, and the steps that were read are made. Where the input had
+/// a fault, or the run was full, it doesn't connect. Where memory is wanting before the run, nothing is written.
+///
+/// It waits for the other side. It takes the time of the steps twice, in the run and in the report, and the memory of
+/// the steps, of the run and of the peer.
+pub fn dial_form<R: Threads + Wait + Sync, S: Source, K: Sink, D: Door>(
+    rt: &R,
+    alloc: Global,
+    site: u16,
+    port: u16,
+    rounds: u32,
+    source: &mut S,
+    sink: &mut K,
+    door: &mut D,
+) -> Status
+    requires room { HasRoom (D.faults door.old) (D.given door.old) }
+    requires back { D.returned door.old ≤ D.given door.old }
+    // The steps are those that were read; the link stands to the caller in the run as a session does, behind them, and
+    // came back; and the report was written, and a line for each fault.
+    ensures ran { (input : List ℕ) × (steps : List Step) × (end : InputEnd) ×
+        ReadSteps (S.left source.old) (S.left source.new) input steps end ×
+        EndCause (S.faults source.old) (S.faults source.new) end ×
+        (let before = door_state (D.faults door.old) (D.given door.old) (D.returned door.old) (D.hurt door.old) (D.used door.old) in
+        let after = door_state (D.faults door.new) (D.given door.new) (D.returned door.new) (D.hurt door.new) (D.used door.new) in
+        RanOrNot (Dials D.Line.got D.Line.sent D.Line.faults D.Line.closes site rounds end steps before after) site end before after (K.written sink.old) (K.written sink.new) result) }
+    ensures reads { Reads (S.left source.old) (S.left source.new) }
+    ensures write_cause { SinkCause (K.faults sink.old) (K.faults sink.new) result }
+    ensures link_cause { HasLinkCause (D.faults door.old) (D.faults door.new) (D.hurt door.old) (D.hurt door.new) result }
+{
+    let StepInput { steps, end } = read_steps(alloc, source);
+    if let InputEnd::NoMemory = end {
+        return Status::NoMemory;
+    }
+    match dial_behind(rt, alloc, site, port, rounds, &steps, end, door) {
+        Ok(run) => tell(alloc, site, run, end, sink),
+        Err(_) => Status::NoMemory,
+    }
+}

@@ -1,0 +1,39 @@
+//! What is written of a run.
+ghost use Rattle.std.specs.Prelude.{◌≡◌, ℕ, List};
+ghost use Rattle.line_engine.specs.Engine.{Says};
+ghost use Rattle.link_report.specs.Faults.{faults_of};
+ghost use Rattle.link_report.specs.Report.{link_output, SinkCause};
+
+use edit_io::Sink;
+use line_engine::Status;
+use link_report::{faults_of, tell_run};
+use link_run::LinkRun;
+use std::alloc::Global;
+use line_input::InputEnd;
+
+/// Writes the report of a run whose own steps came from an input that ended so, and the faults that were met. The peer
+/// is let go before.
+pub(crate) fn tell<K: Sink>(
+    alloc: Global,
+    site: u16,
+    run: LinkRun,
+    end: InputEnd,
+    sink: &mut K,
+) -> Status
+    ensures says { (written : List ℕ) ×
+        Says (K.written sink.old) (K.written sink.new) result (link_output site run.history (faults_of run.door_failed end run.own run.links.items)) written }
+    ensures cause { SinkCause (K.faults sink.old) (K.faults sink.new) result }
+{
+    let LinkRun {
+        peer,
+        history,
+        own,
+        door_failed,
+        links,
+    } = run;
+    drop(peer);
+    match faults_of(alloc, door_failed, end, own, &links) {
+        Ok(faults) => tell_run(alloc, site, &history, &faults, sink),
+        Err(_) => Status::NoMemory,
+    }
+}

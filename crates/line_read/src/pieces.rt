@@ -1,0 +1,68 @@
+//! Pieces of text, as words.
+ghost use Rattle.std.specs.Prelude.{◌≡◌, ◌==◌, IfOk, option_map, false};
+ghost use Rattle.std.specs.List.{list_any};
+ghost use Rattle.line_read.specs.Pieces.{escape_byte, unescaped_bytes, read_piece};
+
+use coop_request::Piece;
+use element_name::NoMemory;
+use line_engine::LINE_END;
+use std::alloc::Global;
+use line_spelling::{BACKSLASH, LINE_END_LETTER, SPACE, SPACE_LETTER};
+
+// The byte that `\` and this byte stand for.
+fn escape_byte(b: u8) -> Option<u8>
+    ensures { result ≡ escape_byte b }
+{
+    match b {
+        LINE_END_LETTER => Some(LINE_END),
+        SPACE_LETTER => Some(SPACE),
+        BACKSLASH => Some(BACKSLASH),
+        _ => None,
+    }
+}
+
+// The bytes that a word stands for.
+fn unescaped_bytes(alloc: Global, word: &[u8]) -> Result<Option<Vec<u8>>, NoMemory>
+    ensures { IfOk result (λ found. option_map (λ v. v.items) found ≡ unescaped_bytes false word.now) }
+{
+    let mut bytes = Vec::new(alloc);
+    let mut behind = false;
+    for b in word {
+        let b = *b;
+        if behind {
+            let Some(byte) = escape_byte(b) else {
+                return Ok(None);
+            };
+            bytes.push(byte)?;
+            behind = false;
+        } else if b == BACKSLASH {
+            behind = true;
+        } else {
+            bytes.push(b)?;
+        }
+    }
+    if behind {
+        return Ok(None);
+    }
+    Ok(Some(bytes))
+}
+
+fn has_backslash(word: &[u8]) -> bool
+    ensures { result ≡ list_any (λ b. b == BACKSLASH) word.now }
+{
+    word.iter().any(|b| *b == BACKSLASH)
+}
+
+/// The piece that a word spells. Takes no memory where the word has no `\`.
+#[tactic(auto, unfolding(crate::specs::Pieces::read_piece))]
+pub(crate) fn read_piece(alloc: Global, word: &[u8]) -> Result<Option<Piece>, NoMemory>
+    ensures { IfOk result (λ found. found ≡ read_piece word.now) }
+{
+    if !has_backslash(word) {
+        return Ok(Piece::checked(word));
+    }
+    let Some(bytes) = unescaped_bytes(alloc, word)? else {
+        return Ok(None);
+    };
+    Ok(Piece::checked(&bytes))
+}

@@ -1,0 +1,120 @@
+//! Lists of numbers and names, users, rights and signs, as words.
+ghost use Rattle.std.specs.Prelude.{◌≡◌, IfOk, option_map, map};
+ghost use Rattle.line_read.specs.Words.{bytes_of, each_some};
+ghost use Rattle.line_read.specs.Numbers.{read_short, read_name};
+ghost use Rattle.line_read.specs.Sets.{read_numbers, read_names, read_users, read_rights, read_sign};
+
+use crate::numbers::{read_name, read_short};
+use crate::words::parts;
+use element_name::{Name, NoMemory};
+use policy_book::{NameList, NumList, Rights, UserSet};
+use std::alloc::Global;
+use line_spelling::{COMMA, GROUP_SIGN};
+
+fn read_each_short(alloc: Global, words: &[&[u8]]) -> Result<Option<Vec<u16>>, NoMemory>
+    ensures { IfOk result (λ found. option_map (λ v. v.items) found ≡ each_some (map read_short (bytes_of words.now))) }
+{
+    let mut numbers = Vec::with_capacity(alloc, words.len())?;
+    for word in words {
+        let Some(number) = read_short(word) else {
+            return Ok(None);
+        };
+        numbers.push(number)?;
+    }
+    Ok(Some(numbers))
+}
+
+fn read_each_name(alloc: Global, words: &[&[u8]]) -> Result<Option<Vec<Name>>, NoMemory>
+    ensures { IfOk result (λ found. option_map (λ v. v.items) found ≡ each_some (map read_name (bytes_of words.now))) }
+{
+    let mut names = Vec::with_capacity(alloc, words.len())?;
+    for word in words {
+        let Some(name) = read_name(word) else {
+            return Ok(None);
+        };
+        names.push(name)?;
+    }
+    Ok(Some(names))
+}
+
+/// Numbers joined by `,`.
+#[tactic(auto, unfolding(crate::specs::Sets::read_numbers))]
+pub(crate) fn read_numbers(alloc: Global, word: &[u8]) -> Result<Option<NumList>, NoMemory>
+    ensures { IfOk result (λ found. found ≡ read_numbers word.now) }
+{
+    let words = parts(alloc, COMMA, word)?;
+    let Some(numbers) = read_each_short(alloc, &words)? else {
+        return Ok(None);
+    };
+    Ok(NumList::checked(numbers))
+}
+
+/// Names joined by `,`.
+#[tactic(auto, unfolding(crate::specs::Sets::read_names))]
+pub(crate) fn read_names(alloc: Global, word: &[u8]) -> Result<Option<NameList>, NoMemory>
+    ensures { IfOk result (λ found. found ≡ read_names word.now) }
+{
+    let words = parts(alloc, COMMA, word)?;
+    let Some(names) = read_each_name(alloc, &words)? else {
+        return Ok(None);
+    };
+    Ok(NameList::checked(names))
+}
+
+/// Everyone, numbers of users, or numbers of groups behind `@`.
+#[tactic(auto, unfolding(crate::specs::Sets::read_users))]
+pub(crate) fn read_users(alloc: Global, word: &[u8]) -> Result<Option<UserSet>, NoMemory>
+    ensures { IfOk result (λ found. found ≡ read_users word.now) }
+{
+    if word == b"all".as_slice() {
+        return Ok(Some(UserSet::All));
+    }
+    match word {
+        [] => Ok(None),
+        [GROUP_SIGN, groups @ ..] => Ok(read_numbers(alloc, groups)?.map(UserSet::Groups)),
+        _ => Ok(read_numbers(alloc, word)?.map(UserSet::Listed)),
+    }
+}
+
+/// Some of the letters `i`, `d`, `u`, in this order.
+#[tactic(auto, unfolding(crate::specs::Sets::read_rights))]
+pub(crate) fn read_rights(word: &[u8]) -> Option<Rights>
+    ensures { result ≡ read_rights word.now }
+{
+    if word == b"i".as_slice() {
+        return Rights::checked(true, false, false);
+    }
+    if word == b"d".as_slice() {
+        return Rights::checked(false, true, false);
+    }
+    if word == b"u".as_slice() {
+        return Rights::checked(false, false, true);
+    }
+    if word == b"id".as_slice() {
+        return Rights::checked(true, true, false);
+    }
+    if word == b"iu".as_slice() {
+        return Rights::checked(true, false, true);
+    }
+    if word == b"du".as_slice() {
+        return Rights::checked(false, true, true);
+    }
+    if word == b"idu".as_slice() {
+        return Rights::checked(true, true, true);
+    }
+    None
+}
+
+/// `+` or `-`: whether it grants.
+#[tactic(auto, unfolding(crate::specs::Sets::read_sign))]
+pub(crate) fn read_sign(word: &[u8]) -> Option<bool>
+    ensures { result ≡ read_sign word.now }
+{
+    if word == b"+".as_slice() {
+        return Some(true);
+    }
+    if word == b"-".as_slice() {
+        return Some(false);
+    }
+    None
+}

@@ -1,0 +1,64 @@
+//! Lines and their words.
+ghost use Rattle.std.specs.Prelude.{◌≡◌, ◌==◌, IfOk};
+ghost use Rattle.std.specs.List.{list_any};
+ghost use Rattle.std.specs.Str.{is_utf8};
+ghost use Rattle.line_read.specs.Words.{is_line, parts, words, are_none, is_alone, bytes_of};
+
+use bstr::ByteSlice;
+use element_name::NoMemory;
+use line_engine::{LINE_END, MAX_LINE};
+use std::alloc::{AllocError, Global};
+use line_spelling::SPACE;
+
+fn is_text(bytes: &[u8]) -> bool
+    ensures { result ≡ is_utf8 bytes.now }
+{
+    bytes.is_utf8()
+}
+
+fn has_line_end(bytes: &[u8]) -> bool
+    ensures { result ≡ list_any (λ b. b == LINE_END) bytes.now }
+{
+    bytes.iter().any(|b| *b == LINE_END)
+}
+
+/// Whether the bytes can be a line: text without a line end, and not too long. Takes time in their number.
+pub fn is_line(bytes: &[u8]) -> bool
+    ensures { result ≡ is_line bytes.now }
+{
+    bytes.len() <= MAX_LINE && !has_line_end(bytes) && is_text(bytes)
+}
+
+/// The parts between the separators.
+pub(crate) fn parts<'a>(
+    alloc: Global,
+    separator: u8,
+    bytes: &'a [u8],
+) -> Result<Vec<&'a [u8]>, AllocError>
+    ensures { IfOk result (λ found. bytes_of found.items ≡ parts separator bytes.now) }
+{
+    bytes.split(|b| *b == separator).collect(alloc)
+}
+
+/// The words of a line. Takes time and memory in the number of its bytes.
+pub fn words_of<'a>(alloc: Global, line: &'a [u8]) -> Result<Vec<&'a [u8]>, NoMemory>
+    ensures { IfOk result (λ found. bytes_of found.items ≡ words line.now) }
+{
+    Ok(parts(alloc, SPACE, line)?)
+}
+
+pub(crate) fn are_none(words: &[&[u8]]) -> bool
+    ensures { result ≡ are_none (bytes_of words.now) }
+{
+    words.is_empty()
+}
+
+/// Whether there is one word, and this one.
+pub fn is_alone(word: &[u8], words: &[&[u8]]) -> bool
+    ensures { result ≡ is_alone word.now (bytes_of words.now) }
+{
+    match words {
+        [w] => *w == word,
+        _ => false,
+    }
+}

@@ -1,0 +1,149 @@
+//! The lines of answers.
+ghost use Rattle.std.specs.Prelude.{◌≡◌, ◌++◌, OnOk, OnErr};
+ghost use Rattle.line_spelling.specs.Values.{spaced};
+ghost use Rattle.line_spelling.specs.Answers.{item_words, answer_words, answer_line};
+
+use crate::parts::{
+    put_by, put_fault, put_missing, put_outcome, put_settled, put_shown, put_state, put_told,
+    put_undone,
+};
+use crate::steps::put_message;
+use crate::values::{put, put_name_word, put_number_word};
+use coop_request::Request;
+use edit_message::Message;
+use element_name::NoMemory;
+use peer_step::Answer;
+use policy_book::Entry;
+use request_state::Undone;
+use std::alloc::Global;
+
+fn put_done(line: &mut Vec<u8>, number: Option<u32>, request: Request) -> Result<(), NoMemory>
+    ensures { OnOk result (line.new.items ≡ line.old.items ++ spaced (answer_words number (Answer.Done request))) }
+{
+    put(line, b"done")?;
+    put_told(line, number)?;
+    put_name_word(line, request.id())?;
+    put_number_word(line, u64::from(request.version()))
+}
+
+fn put_issued(
+    line: &mut Vec<u8>,
+    number: Option<u32>,
+    entry: &Entry,
+    undone: Undone,
+) -> Result<(), NoMemory>
+    ensures { OnOk result (line.new.items ≡ line.old.items ++ spaced (answer_words number (Answer.Issued entry.now undone))) }
+{
+    put(line, b"entry")?;
+    put_told(line, number)?;
+    put_number_word(line, u64::from(entry.version()))?;
+    put_undone(line, undone)
+}
+
+fn put_item(line: &mut Vec<u8>, item: &Option<Message>) -> Result<(), NoMemory>
+    ensures { OnOk result (line.new.items ≡ line.old.items ++ spaced (item_words item.now)) }
+{
+    match item {
+        Some(message) => {
+            put(line, b"item ")?;
+            put_message(line, message)
+        }
+        None => put(line, b"no item"),
+    }
+}
+
+// Appends an answer, without a line end.
+fn put_answer(line: &mut Vec<u8>, number: Option<u32>, answer: &Answer) -> Result<(), NoMemory>
+    ensures { OnOk result (line.new.items ≡ line.old.items ++ spaced (answer_words number answer.now)) }
+{
+    match answer {
+        Answer::BadPlace(len) => {
+            put(line, b"no place")?;
+            put_number_word(line, u64::from(*len))
+        }
+        Answer::ClockEnd => put(line, b"clock end"),
+        Answer::HistoryFull => put(line, b"history full"),
+        Answer::Denied { version, by } => {
+            put(line, b"denied")?;
+            put_number_word(line, u64::from(*version))?;
+            put_by(line, *by)
+        }
+        Answer::Done(request) => put_done(line, number, *request),
+        Answer::NotAdministrator => put(line, b"not administrator"),
+        Answer::LogFull => put(line, b"log full"),
+        Answer::Refused(fault) => {
+            put(line, b"refused")?;
+            put_fault(line, *fault)
+        }
+        Answer::NotHere(missing) => {
+            put(line, b"not here")?;
+            put_missing(line, *missing)
+        }
+        Answer::NeedsNone => put(line, b"needs none"),
+        Answer::AlreadyInvalid(state) => {
+            put(line, b"already")?;
+            put_state(line, *state)
+        }
+        Answer::NothingTentative => put(line, b"nothing tentative"),
+        Answer::Issued(entry, undone) => put_issued(line, number, entry, *undone),
+        Answer::Repeat => put(line, b"repeat"),
+        Answer::Conflict(kept) => {
+            put(line, b"conflict ")?;
+            put_message(line, kept)
+        }
+        Answer::OwnSite => put(line, b"own site"),
+        Answer::OwnLog => put(line, b"own log"),
+        Answer::Illegal(fault) => {
+            put(line, b"illegal")?;
+            put_fault(line, *fault)
+        }
+        Answer::HoldFull => put(line, b"hold full"),
+        Answer::Held(missing) => {
+            put(line, b"held")?;
+            put_missing(line, *missing)
+        }
+        Answer::Taken(state) => {
+            put(line, b"taken")?;
+            put_state(line, *state)
+        }
+        Answer::Advanced(entry, undone) => {
+            put(line, b"version")?;
+            put_number_word(line, u64::from(entry.version()))?;
+            put_undone(line, *undone)
+        }
+        Answer::Quiet => put(line, b"quiet"),
+        Answer::Dropped(entry, fault) => {
+            put(line, b"dropped")?;
+            put_number_word(line, u64::from(entry.version()))?;
+            put_fault(line, *fault)
+        }
+        Answer::Settled(message, outcome) => {
+            put(line, b"settled")?;
+            put_settled(line, message)?;
+            put_outcome(line, *outcome)
+        }
+        Answer::Item(item) => put_item(line, item),
+        Answer::Shown(text) => {
+            put(line, b"show")?;
+            put_shown(line, text.as_str().as_bytes())
+        }
+    }
+}
+
+/// Appends the line of an answer, with the number of the message that it issues where that is told.
+/// Takes time in the length of the line.
+pub fn answer_line(
+    alloc: Global,
+    number: Option<u32>,
+    answer: &Answer,
+    out: &mut Vec<u8>,
+) -> Result<(), NoMemory>
+    ensures ok { OnOk result (out.new.items ≡ out.old.items ++ answer_line number answer.now) }
+    ensures unchanged { OnErr result (out.new.items ≡ out.old.items) }
+{
+    let mut line = Vec::new(alloc);
+    put_answer(&mut line, number, answer)?;
+    put(&mut line, b"\n")?;
+    out.extend_from_slice(&line)?;
+    Ok(())
+}

@@ -1,0 +1,144 @@
+//! The parts of answers.
+ghost use Rattle.std.specs.Prelude.{◌≡◌, ◌++◌, ◌∷◌, [], OnOk, decimal};
+ghost use Rattle.line_spelling.specs.Values.{behind_spaces};
+ghost use Rattle.line_spelling.specs.Answers.{by_words, state_words, missing_words, fault_words, number_words, undone_words, settled_words, outcome_words, shown_words};
+
+use crate::values::{put, put_name_word, put_number_word, put_text};
+use edit_message::{Message, Missing};
+use element_name::NoMemory;
+use peer_step::Outcome;
+use policy_book::EntryFault;
+use request_state::{State, Undone};
+
+// Each of these appends words, each behind a space.
+
+/// By which authorization something is denied.
+pub(crate) fn put_by(line: &mut Vec<u8>, by: Option<u32>) -> Result<(), NoMemory>
+    ensures { OnOk result (line.new.items ≡ line.old.items ++ behind_spaces (by_words by)) }
+{
+    match by {
+        Some(number) => {
+            put(line, b" by")?;
+            put_number_word(line, u64::from(number))
+        }
+        None => put(line, b" none"),
+    }
+}
+
+/// Appends the words of a state, each behind a space. Takes time in their length. Fails where memory is wanting; a part
+/// may then stand in the line.
+pub fn put_state(line: &mut Vec<u8>, state: State) -> Result<(), NoMemory>
+    ensures { OnOk result (line.new.items ≡ line.old.items ++ behind_spaces (state_words state)) }
+{
+    match state {
+        State::Tentative => put(line, b" tentative"),
+        State::Valid { at } => {
+            put(line, b" valid")?;
+            put_number_word(line, u64::from(at))
+        }
+        State::Invalid { at, by } => {
+            put(line, b" invalid")?;
+            put_number_word(line, u64::from(at))?;
+            put_by(line, by)
+        }
+    }
+}
+
+/// Appends the words of what is missing, each behind a space. Takes time in their length. Fails where memory is wanting;
+/// a part may then stand in the line.
+pub fn put_missing(line: &mut Vec<u8>, missing: Missing) -> Result<(), NoMemory>
+    ensures { OnOk result (line.new.items ≡ line.old.items ++ behind_spaces (missing_words missing)) }
+{
+    match missing {
+        Missing::Element(name) => {
+            put(line, b" element")?;
+            put_name_word(line, name)
+        }
+        Missing::Version(version) => {
+            put(line, b" version")?;
+            put_number_word(line, u64::from(version))
+        }
+    }
+}
+
+// A fault's number, and the number that it carries.
+fn put_carried(line: &mut Vec<u8>, fault: &[u8], carried: u32) -> Result<(), NoMemory>
+    ensures { OnOk result (line.new.items ≡ line.old.items ++ behind_spaces (fault.now ∷ decimal carried ∷ [])) }
+{
+    put(line, b" ")?;
+    put(line, fault)?;
+    put_number_word(line, u64::from(carried))
+}
+
+/// A fault.
+pub(crate) fn put_fault(line: &mut Vec<u8>, fault: EntryFault) -> Result<(), NoMemory>
+    ensures { OnOk result (line.new.items ≡ line.old.items ++ behind_spaces (fault_words fault)) }
+{
+    match fault {
+        EntryFault::UserThere => put(line, b" 1"),
+        EntryFault::NoUser => put(line, b" 2"),
+        EntryFault::IsAdministrator => put(line, b" 3"),
+        EntryFault::ObjectThere => put(line, b" 4"),
+        EntryFault::NoObject => put(line, b" 5"),
+        EntryFault::BadPlace(len) => put_carried(line, b"6", len),
+        EntryFault::TooMany(limit) => put_carried(line, b"7", limit),
+        EntryFault::ValidatedAt(version) => put_carried(line, b"8", version),
+        EntryFault::GroupThere => put(line, b" 9"),
+        EntryFault::NoGroup => put(line, b" 10"),
+        EntryFault::MemberThere => put(line, b" 11"),
+        EntryFault::NoMember => put(line, b" 12"),
+    }
+}
+
+/// The number of an issued message, where it is told.
+pub(crate) fn put_told(line: &mut Vec<u8>, number: Option<u32>) -> Result<(), NoMemory>
+    ensures { OnOk result (line.new.items ≡ line.old.items ++ behind_spaces (number_words number)) }
+{
+    match number {
+        Some(number) => put_number_word(line, u64::from(number)),
+        None => Ok(()),
+    }
+}
+
+/// How many were undone.
+pub(crate) fn put_undone(line: &mut Vec<u8>, undone: Undone) -> Result<(), NoMemory>
+    ensures { OnOk result (line.new.items ≡ line.old.items ++ behind_spaces (undone_words undone)) }
+{
+    put(line, b" undone")?;
+    put_number_word(line, u64::from(undone.count))
+}
+
+/// What was settled.
+pub(crate) fn put_settled(line: &mut Vec<u8>, message: &Message) -> Result<(), NoMemory>
+    ensures { OnOk result (line.new.items ≡ line.old.items ++ behind_spaces (settled_words message.now)) }
+{
+    match message {
+        Message::Coop(request) => put_name_word(line, request.id()),
+        Message::Admin(entry) => {
+            put(line, b" version")?;
+            put_number_word(line, u64::from(entry.version()))
+        }
+    }
+}
+
+/// What became of it.
+pub(crate) fn put_outcome(line: &mut Vec<u8>, outcome: Outcome) -> Result<(), NoMemory>
+    ensures { OnOk result (line.new.items ≡ line.old.items ++ behind_spaces (outcome_words outcome)) }
+{
+    match outcome {
+        Outcome::Taken(state) => put_state(line, state),
+        Outcome::Advanced(undone) => put_undone(line, undone),
+    }
+}
+
+/// Appends a space and a text, unless the text is empty. Takes time in its bytes. Fails where memory is wanting; a
+/// part may then stand in the line.
+pub fn put_shown(line: &mut Vec<u8>, text: &[u8]) -> Result<(), NoMemory>
+    ensures { OnOk result (line.new.items ≡ line.old.items ++ behind_spaces (shown_words text.now)) }
+{
+    if text.is_empty() {
+        return Ok(());
+    }
+    put(line, b" ")?;
+    put_text(line, text)
+}

@@ -1,5 +1,0 @@
-use Rattle.replay_form.proofs.Samples.{shows_of_script, text_of_script}
-use Rattle.replay_form.proofs.laws.sample_shows.Goals as goal
-
-pub returns : goal.returns
-returns c = record { shows = shows_of_script; texts = text_of_script }

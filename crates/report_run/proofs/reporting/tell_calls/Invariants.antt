@@ -1,0 +1,12 @@
+use Rattle.std.proofs.Common.{◌≡◌, ℕ, List, ◌++◌, drop}
+use Rattle.std.specs.Io.KnownBytes.{Appends}
+use Rattle.peer_lock.specs.Run.{peer_after_run}
+use Rattle.report_run.specs.Report.{call_lines}
+use Rattle.report_run.proofs.reporting.tell_calls.Given as goal
+
+abbrev pub invariant-loop-i : goal.invariant-loop-i
+invariant-loop-i g l = record {
+  told : (said : List ℕ) × Appends (g.K.Sink.written l.fn.sink) (g.K.Sink.written l.sink) said × (l.fn.out.items ++ call_lines l.fn.peer l.history ≡ (said ++ l.out.items) ++ call_lines l.peer (drop l.i l.history));
+  peer : peer_after_run l.peer (drop l.i l.history) ≡ peer_after_run l.fn.peer l.history;
+  faults : g.K.Sink.faults l.sink ≡ g.K.Sink.faults l.fn.sink;
+}

@@ -1,0 +1,59 @@
+//! The lines of a report.
+ghost use Rattle.std.specs.Prelude.{◌≡◌, ◌++◌, OnOk, decimal};
+ghost use Rattle.peer_core.specs.After.{peer_after};
+ghost use Rattle.report_text.specs.Closing.{closing_lines};
+ghost use Rattle.report_run.specs.Report.{run_line, call_line};
+
+use element_name::NoMemory;
+use itoa::Buffer;
+use peer_core::Peer;
+use peer_step::Step;
+use report_text::held_lines;
+use std::alloc::Global;
+use line_write::{answer_line, put, put_number_word, step_text};
+
+/// Appends the line that says how many steps a run has.
+pub(crate) fn put_run(steps: u64, out: &mut Vec<u8>) -> Result<(), NoMemory>
+    ensures { OnOk result (out.new.items ≡ out.old.items ++ run_line steps) }
+{
+    put(out, b"run")?;
+    put_number_word(out, steps)?;
+    put(out, b"\n")
+}
+
+// Appends a number in digits.
+fn put_number(number: u32, out: &mut Vec<u8>) -> Result<(), NoMemory>
+    ensures { OnOk result (out.new.items ≡ out.old.items ++ decimal number) }
+{
+    let mut buffer = Buffer::new();
+    let digits = buffer.format(number);
+    put(out, digits.as_bytes())
+}
+
+/// Makes a step of a run, and appends its line.
+pub(crate) fn put_call(
+    alloc: Global,
+    peer: &mut Peer,
+    caller: u32,
+    step: Step,
+    out: &mut Vec<u8>,
+) -> Result<(), NoMemory>
+    ensures line { OnOk result (out.new.items ≡ out.old.items ++ call_line peer.old (record { caller = caller; step = step })) }
+    ensures peer { OnOk result (peer.new ≡ peer_after peer.old step) }
+{
+    put_number(caller, out)?;
+    put(out, b" ")?;
+    step_text(alloc, &step, out)?;
+    put(out, b" => ")?;
+    let answer = peer.step(step)?;
+    answer_line(alloc, None, &answer, out)
+}
+
+/// Appends the text that a peer shows, and what it holds.
+pub(crate) fn put_closing(alloc: Global, peer: &mut Peer, out: &mut Vec<u8>) -> Result<(), NoMemory>
+    ensures { OnOk result (out.new.items ≡ out.old.items ++ closing_lines peer.old) }
+{
+    let answer = peer.step(Step::Show)?;
+    answer_line(alloc, None, &answer, out)?;
+    held_lines(alloc, peer, out)
+}

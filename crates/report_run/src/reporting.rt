@@ -1,0 +1,139 @@
+//! Writing the report of a run.
+ghost use Rattle.std.specs.Prelude.{◌≡◌, [], ◌++◌, ℕ, List, OnOk};
+ghost use Rattle.line_engine.specs.Engine.{StatusCause, Says};
+ghost use Rattle.peer_core.specs.After.{peer_after};
+ghost use Rattle.peer_lock.specs.Run.{call, peer_after_run};
+ghost use Rattle.report_text.specs.Closing.{closing_lines};
+ghost use Rattle.report_run.specs.Report.{call_line, call_lines, report, report_output};
+ghost use Rattle.report_run.specs.Telling.{Gathers, Tells, TellsCause};
+
+use crate::lines::{put_call, put_closing, put_run};
+use edit_io::Sink;
+use line_engine::{BATCH_BYTES, Status, say};
+use packed_step::PackedStep;
+use peer_core::Peer;
+use peer_lock::History;
+use std::alloc::Global;
+
+// Offers lines to the sink, and empties the buffer.
+fn tell<K: Sink>(lines: &mut Vec<u8>, sink: &mut K) -> Result<(), Status>
+    ensures tells { Tells (K.written sink.old) (K.written sink.new) lines.old.items result }
+    ensures empty { lines.new.items ≡ [] }
+    ensures cause { TellsCause (K.faults sink.old) (K.faults sink.new) result }
+{
+    let status = say(sink, lines, Status::Done);
+    lines.clear();
+    match status {
+        Status::Done => Ok(()),
+        status => Err(status),
+    }
+}
+
+// Offers the lines that were gathered once they are many.
+fn tell_many<K: Sink>(lines: &mut Vec<u8>, sink: &mut K) -> Result<(), Status>
+    ensures gathers { Gathers (K.written sink.old) (K.written sink.new) lines.old.items lines.new.items result }
+    ensures cause { TellsCause (K.faults sink.old) (K.faults sink.new) result }
+{
+    if lines.len() < BATCH_BYTES {
+        return Ok(());
+    }
+    tell(lines, sink)
+}
+
+// Makes a step, and gathers its line.
+fn tell_call<K: Sink>(
+    alloc: Global,
+    peer: &mut Peer,
+    caller: u32,
+    step: &PackedStep,
+    out: &mut Vec<u8>,
+    sink: &mut K,
+) -> Result<(), Status>
+    ensures gathers { Gathers (K.written sink.old) (K.written sink.new) (out.old.items ++ call_line peer.old (call caller step.now)) out.new.items result }
+    ensures peer { OnOk result (peer.new ≡ peer_after peer.old step.now) }
+    ensures cause { TellsCause (K.faults sink.old) (K.faults sink.new) result }
+{
+    let Ok(step) = step.copied() else {
+        return Err(Status::NoMemory);
+    };
+    if let Err(_) = put_call(alloc, peer, caller, step, out) {
+        return Err(Status::NoMemory);
+    }
+    tell_many(out, sink)
+}
+
+// Makes the steps of a run, and gathers their lines.
+fn tell_calls<K: Sink>(
+    alloc: Global,
+    peer: &mut Peer,
+    history: &History,
+    out: &mut Vec<u8>,
+    sink: &mut K,
+) -> Result<(), Status>
+    ensures gathers { Gathers (K.written sink.old) (K.written sink.new) (out.old.items ++ call_lines peer.old history.now) out.new.items result }
+    ensures peer { OnOk result (peer.new ≡ peer_after_run peer.old history.now) }
+    ensures cause { TellsCause (K.faults sink.old) (K.faults sink.new) result }
+{
+    for i in 0..history.len() {
+        let Some(caller) = history.caller(i) else {
+            unreachable!()
+        };
+        let Some(step) = history.step_at(i) else {
+            unreachable!()
+        };
+        tell_call(alloc, peer, caller, step, out, sink)?;
+    }
+    Ok(())
+}
+
+// Tells the lines that were gathered, the text, and what is held.
+fn tell_closing<K: Sink>(
+    alloc: Global,
+    peer: &mut Peer,
+    out: &mut Vec<u8>,
+    sink: &mut K,
+) -> Result<(), Status>
+    ensures tells { Tells (K.written sink.old) (K.written sink.new) (out.old.items ++ closing_lines peer.old) result }
+    ensures cause { TellsCause (K.faults sink.old) (K.faults sink.new) result }
+{
+    if let Err(_) = put_closing(alloc, peer, out) {
+        return Err(Status::NoMemory);
+    }
+    tell(out, sink)
+}
+
+// Tells it all.
+fn tell_all<K: Sink>(
+    alloc: Global,
+    site: u16,
+    history: &History,
+    sink: &mut K,
+) -> Result<(), Status>
+    ensures tells { Tells (K.written sink.old) (K.written sink.new) (report site history.now) result }
+    ensures cause { TellsCause (K.faults sink.old) (K.faults sink.new) result }
+{
+    let Ok(mut peer) = Peer::new(alloc, site) else {
+        return Err(Status::NoMemory);
+    };
+    let mut out = Vec::new(alloc);
+    if let Err(_) = put_run(history.len(), &mut out) {
+        return Err(Status::NoMemory);
+    }
+    tell_calls(alloc, &mut peer, history, &mut out, sink)?;
+    tell_closing(alloc, &mut peer, &mut out, sink)
+}
+
+/// Writes the report of a history: its steps, each with the answer that the plain peer of the site gives it there,
+/// then the text, and what is held.
+///
+/// The steps are made once more on a fresh peer of the site, so it takes the time of the peer's steps, and the memory
+/// of that peer, a step, a line and 64 KiB of lines. Lines are gathered, and then offered to the sink one by one.
+pub fn report<K: Sink>(alloc: Global, site: u16, history: &History, sink: &mut K) -> Status
+    ensures says { (written : List ℕ) × Says (K.written sink.old) (K.written sink.new) result (report_output site history.now) written }
+    ensures cause { StatusCause (K.faults sink.old) (K.faults sink.new) result Status.WriteFault }
+{
+    match tell_all(alloc, site, history, sink) {
+        Ok(()) => Status::Done,
+        Err(status) => status,
+    }
+}

@@ -1,8 +1,0 @@
-use Rattle.run_report.proofs.Tellings.{says_all, says_part}
-use Rattle.run_report.proofs.reporting.report.Goals as goal
-
-pub returns-in-Ok-clause-says : goal.returns-in-Ok-clause-says
-returns-in-Ok-clause-says g c = says_all _ _ _ c.in-Ok.ensures.tells
-
-pub returns-in-Err-clause-says : goal.returns-in-Err-clause-says
-returns-in-Err-clause-says g c = says_part _ _ _ _ c.in-Err.ensures.tells

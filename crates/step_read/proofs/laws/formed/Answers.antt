@@ -1,5 +1,0 @@
-use Rattle.step_read.proofs.FormedSteps.{formed_step_law}
-use Rattle.step_read.proofs.laws.formed.Goals as goal
-
-pub returns : goal.returns
-returns c = formed_step_law

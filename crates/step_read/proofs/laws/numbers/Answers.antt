@@ -1,5 +1,0 @@
-use Rattle.step_read.proofs.SpelledWords.{read_number-decimal}
-use Rattle.step_read.proofs.laws.numbers.Goals as goal
-
-pub returns : goal.returns
-returns c = read_number-decimal

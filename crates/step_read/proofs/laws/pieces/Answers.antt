@@ -1,5 +1,0 @@
-use Rattle.step_read.proofs.SpelledWords.{read_piece-piece_text}
-use Rattle.step_read.proofs.laws.pieces.Goals as goal
-
-pub returns : goal.returns
-returns c = read_piece-piece_text

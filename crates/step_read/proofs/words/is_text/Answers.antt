@@ -1,5 +1,0 @@
-use Rattle.step_read.proofs.TextTests.{is_utf8-from_iff}
-use Rattle.step_read.proofs.words.is_text.Goals as goal
-
-pub returns : goal.returns
-returns c = is_utf8-from_iff _ _ c.is_utf8.ensures

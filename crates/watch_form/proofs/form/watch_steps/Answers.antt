@@ -1,9 +1,0 @@
-use Rattle.step_input.specs.declared.reading.InputEnd.TheVariants.{Whole}
-use Rattle.watch_form.proofs.Forms.{watched_wrote, nothing_wrote}
-use Rattle.watch_form.proofs.form.watch_steps.Goals as goal
-
-pub returns-in-Ok-clause-wrote : goal.returns-in-Ok-clause-wrote
-returns-in-Ok-clause-wrote g c = watched_wrote c.args.site c.args.reads c.args.steps.now _ _ _ _ _ _ c.in-Ok.ensures.run c.in-Ok.ensures.pages c.tell_watched.ensures.says
-
-pub returns-in-Err-clause-wrote : goal.returns-in-Err-clause-wrote
-returns-in-Err-clause-wrote g c = nothing_wrote c.args.site c.args.reads c.args.steps.now Whole _
