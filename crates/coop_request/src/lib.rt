@@ -1,11 +1,15 @@
-//! Requests to edit a shared text, and which lists of them are histories.
+//! Requests to edit a shared text, which lists of them are histories, and requests and pieces in little memory.
 #![tactic(auto)]
 
 mod edit;
 pub mod laws;
+mod packed_piece;
+mod packed_request;
 mod piece;
 mod request;
 
 pub use edit::{Edit, Right};
+pub use packed_piece::{PackedPiece, SHORT_PIECE};
+pub use packed_request::PackedRequest;
 pub use piece::{MAX_PIECE, Piece};
 pub use request::{MAX_REQUESTS, Request, RequestFault};

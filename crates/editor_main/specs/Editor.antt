@@ -9,7 +9,7 @@ use Rattle.form_race.specs.Race.{RanRace}
 use Rattle.form_watch.specs.Watch.{Watches}
 use Rattle.line_input.specs.declared.reading.InputEnd.{InputEnd}
 use Rattle.line_input.specs.Steps.{ReadSteps, EndCause}
-use Rattle.link_report.specs.Report.{SinkCause}
+use Rattle.form_link.specs.Report.{SinkCause}
 use Rattle.form_link.specs.Form.{DoorState, Serves, Dials, RunEnds, RanOrNot, HasLinkCause}
 use Rattle.editor_main.specs.declared.command.ConcurrentCommand.{ConcurrentCommand}
 use Rattle.editor_main.specs.declared.command.ConcurrentCommand.TheVariants.{Race, Serve, Dial, Watch}

@@ -9,14 +9,14 @@ use crate::command::{ConcurrentCommand, concurrent_command_of};
 use crate::plain_call::plain;
 use crate::word::Word;
 use edit_io::{Door, Sink, Source};
-use line_engine::Status;
 use form_link::{dial_form, serve_form};
 use form_race::race_form;
+use form_watch::watch_form;
+use line_engine::Status;
 use race_run::Gate;
 use std::alloc::Global;
 use std::sync::Wait;
 use std::thread::Threads;
-use form_watch::watch_form;
 
 /// Runs the command that the words name over a source and a sink, a door to other programs that wasn't asked yet, and a
 /// gate that the workers of a race or of a watch pass.

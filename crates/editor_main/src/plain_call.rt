@@ -7,12 +7,12 @@ ghost use Rattle.editor_main.specs.Plain.{RanPlain, make_output};
 
 use crate::command::{Command, command_of};
 use crate::word::Word;
-use form_certificate::{audit_input, certify_stream};
 use edit_io::{Sink, Source};
 use edit_make::summary;
+use form_certificate::{audit_input, certify_stream};
 use form_feed::feed;
-use line_engine::{Status, say};
 use form_replay::replay;
+use line_engine::{Status, say};
 use std::alloc::Global;
 
 /// What is written where the words name no command.

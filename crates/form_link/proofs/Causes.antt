@@ -12,15 +12,15 @@ use Rattle.line_engine.specs.Engine.{Says}
 use Rattle.peer_lock.specs.declared.call.Call.{Call}
 use Rattle.session_core.specs.declared.fault.SessionFault.{SessionFault}
 use Rattle.session_core.specs.declared.fault.SessionFault.TheVariants as session
-use Rattle.serve_core.specs.declared.own.OwnEnd.{OwnEnd}
-use Rattle.serve_core.specs.declared.own.OwnEnd.TheVariants as own_end
+use Rattle.link_run.specs.declared.own.OwnEnd.{OwnEnd}
+use Rattle.link_run.specs.declared.own.OwnEnd.TheVariants as own_end
 use Rattle.line_input.specs.declared.reading.InputEnd.{InputEnd}
 use Rattle.line_input.specs.declared.reading.InputEnd.TheVariants as input_end
 use Rattle.link_run.specs.Counts.{failures_in}
-use Rattle.link_report.specs.declared.faults.Fault.{Fault}
-use Rattle.link_report.specs.Faults.{own_fault, link_faults, faults_of}
-use Rattle.link_report.specs.Lines.{wants_memory, first_status, faults_status}
-use Rattle.link_report.specs.Report.{link_output}
+use Rattle.form_link.specs.declared.faults.Fault.{Fault}
+use Rattle.form_link.specs.Faults.{own_fault, link_faults, faults_of}
+use Rattle.form_link.specs.Lines.{wants_memory, first_status, faults_status}
+use Rattle.form_link.specs.Report.{link_output}
 use Rattle.form_link.specs.Form.{DoorState, DoorAfter, HasLinkCause}
 
 -- some link has failed

@@ -14,8 +14,8 @@ use Rattle.line_input.specs.Steps.{ReadSteps, EndCause}
 use Rattle.link_run.specs.declared.left.LinkRun.{LinkRun}
 use Rattle.link_run.specs.Ends.{DialEnds, AloneEnds}
 use Rattle.link_run.specs.Counts.{failures_in, links_given, links_hurt, door_failures}
-use Rattle.link_report.specs.Faults.{faults_of}
-use Rattle.link_report.specs.Report.{link_output}
+use Rattle.form_link.specs.Faults.{faults_of}
+use Rattle.form_link.specs.Report.{link_output}
 use Rattle.form_link.specs.Form.{DoorState, DoorAfter, RunEnds, Dials, RanOrNot}
 
 -- ---- the door

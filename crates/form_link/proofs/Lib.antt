@@ -1,2 +1,5 @@
 mod Causes
 mod Doors
+mod Listing
+mod Statuses
+mod Tellings

@@ -6,13 +6,13 @@ use Rattle.line_engine.specs.Engine.{Says}
 use Rattle.peer_step.specs.declared.step.Step.{Step}
 use Rattle.peer_lock.specs.declared.call.Call.{Call}
 use Rattle.session_core.specs.declared.fault.SessionFault.{SessionFault}
-use Rattle.serve_core.specs.declared.own.OwnEnd.{OwnEnd}
+use Rattle.link_run.specs.declared.own.OwnEnd.{OwnEnd}
 use Rattle.line_input.specs.declared.reading.InputEnd.{InputEnd}
 use Rattle.line_input.specs.declared.reading.InputEnd.TheVariants.{Whole}
 use Rattle.link_run.specs.Ends.{ServeEnds, DialEnds, AloneEnds}
 use Rattle.link_run.specs.Counts.{failures_in}
-use Rattle.link_report.specs.Faults.{faults_of}
-use Rattle.link_report.specs.Report.{link_output}
+use Rattle.form_link.specs.Faults.{faults_of}
+use Rattle.form_link.specs.Report.{link_output}
 
 -- what a door has counted, and the links that came back to it
 pub record DoorState (L : Type 0) : Type 0 where

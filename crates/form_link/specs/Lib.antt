@@ -1,1 +1,4 @@
 pub mod Form
+pub mod Faults
+pub mod Lines
+pub mod Report

@@ -6,19 +6,19 @@ ghost use Rattle.peer_step.specs.declared.step.Step.{Step};
 ghost use Rattle.link_run.specs.Counts.{links_given, links_hurt, door_failures};
 ghost use Rattle.line_input.specs.declared.reading.InputEnd.{InputEnd};
 ghost use Rattle.line_input.specs.Steps.{ReadSteps, EndCause};
-ghost use Rattle.link_report.specs.Report.{SinkCause};
+ghost use Rattle.form_link.specs.Report.{SinkCause};
 ghost use Rattle.form_link.specs.Form.{door_state, Dials, RanOrNot, HasLinkCause};
 
 use crate::telling::tell;
 use edit_io::{Door, Sink, Source};
 use element_name::NoMemory;
 use line_engine::Status;
+use line_input::{InputEnd, StepInput, read_steps};
 use link_run::{LinkRun, dial, run_alone};
 use peer_step::Step;
 use std::alloc::Global;
 use std::sync::Wait;
 use std::thread::Threads;
-use line_input::{InputEnd, StepInput, read_steps};
 
 // Makes the steps of an input, and then dials, if the input has no fault.
 fn dial_behind<R: Threads + Wait + Sync, D: Door>(

@@ -3,20 +3,20 @@ ghost use Rattle.std.specs.Prelude.{◌≤◌, ◌<◌, ℕ, List};
 ghost use Rattle.line_engine.specs.Engine.{Reads};
 ghost use Rattle.peer_step.specs.declared.step.Step.{Step};
 ghost use Rattle.peer_lock.specs.declared.limits.TheConstants.{MAX_PASSES};
-ghost use Rattle.serve_core.specs.Taken.{HasRoomForLinks};
+ghost use Rattle.link_run.specs.Taken.{HasRoomForLinks};
 ghost use Rattle.line_input.specs.declared.reading.InputEnd.{InputEnd};
 ghost use Rattle.line_input.specs.Steps.{ReadSteps, EndCause};
-ghost use Rattle.link_report.specs.Report.{SinkCause};
+ghost use Rattle.form_link.specs.Report.{SinkCause};
 ghost use Rattle.form_link.specs.Form.{door_state, Serves, RanOrNot, HasLinkCause};
 
 use crate::telling::tell;
 use edit_io::{Door, Sink, Source};
 use line_engine::Status;
+use line_input::{InputEnd, StepInput, read_steps};
 use link_run::serve;
 use std::alloc::Global;
 use std::sync::Wait;
 use std::thread::Threads;
-use line_input::{InputEnd, StepInput, read_steps};
 
 /// Serves so many links on a port, beside the step lines that a source gives, on a peer of a site, and writes the report
 /// of the run and the faults that were met.

@@ -1,15 +1,16 @@
 //! What is written of a run.
 ghost use Rattle.std.specs.Prelude.{◌≡◌, ℕ, List};
 ghost use Rattle.line_engine.specs.Engine.{Says};
-ghost use Rattle.link_report.specs.Faults.{faults_of};
-ghost use Rattle.link_report.specs.Report.{link_output, SinkCause};
+ghost use Rattle.form_link.specs.Faults.{faults_of};
+ghost use Rattle.form_link.specs.Report.{link_output, SinkCause};
 
+use crate::faults::faults_of;
+use crate::report::tell_run;
 use edit_io::Sink;
 use line_engine::Status;
-use link_report::{faults_of, tell_run};
+use line_input::InputEnd;
 use link_run::LinkRun;
 use std::alloc::Global;
-use line_input::InputEnd;
 
 /// Writes the report of a run whose own steps came from an input that ended so, and the faults that were met. The peer
 /// is let go before.

@@ -1,3 +1,4 @@
 mod Phases
 mod InTurn
 mod Races
+pub mod Silence

@@ -11,8 +11,8 @@ use Rattle.line_engine.specs.Output.{Output, Begins, Ends, is_whole}
 use Rattle.line_engine.specs.Input.{is_cut, counted_bytes, lines_of, parts_of}
 use Rattle.line_engine.specs.Engine.{Ran, RanLines, Says, StatusCause}
 use Rattle.line_engine.proofs.Bytes.{begun_none}
-use Rattle.race_input.specs.Lists.{WorkLists, no_work, list_turn, list_closing, lists_of, output_with, list_part}
-use Rattle.race_input.proofs.Silence.{DifferAtEnd, differ_lines, nothing_part}
+use Rattle.form_race.specs.Lists.{WorkLists, no_work, list_turn, list_closing, lists_of, output_with, list_part}
+use Rattle.form_race.proofs.Silence.{DifferAtEnd, differ_lines, nothing_part}
 
 -- an output with these bytes
 abbrev ended : List ℕ → Output

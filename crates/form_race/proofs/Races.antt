@@ -8,7 +8,7 @@ use Rattle.line_engine.specs.Input.{is_cut, counted_bytes}
 use Rattle.line_engine.specs.Engine.{RanLines, Says, StatusCause}
 use Rattle.peer_step.specs.declared.step.Step.{Step}
 use Rattle.peer_lock.specs.declared.call.Call.{Call}
-use Rattle.race_input.specs.Lists.{WorkLists, no_work, list_turn, list_closing, lists_of}
+use Rattle.form_race.specs.Lists.{WorkLists, no_work, list_turn, list_closing, lists_of}
 use Rattle.race_run.specs.Race.{IsRaceOf}
 use Rattle.report_run.specs.Report.{report, report_output}
 use Rattle.form_race.specs.Race.{IsRaceOn, RanRace, race_output}

@@ -2,7 +2,7 @@
 use Rattle.std.specs.Prelude.{ℕ, List}
 use Rattle.peer_lock.specs.declared.call.Call.{Call}
 use Rattle.report_run.specs.Report.{report}
-use Rattle.race_input.specs.Laws.{IsAlone}
+use Rattle.form_race.specs.SilenceLaws.{IsAlone}
 use Rattle.form_race.specs.Race.{race_output}
 
 -- the report alone, or the line alone that says which line is bad or that the input is too long

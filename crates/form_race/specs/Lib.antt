@@ -1,2 +1,4 @@
 pub mod Race
 pub mod Laws
+pub mod Lists
+pub mod SilenceLaws

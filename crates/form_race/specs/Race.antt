@@ -5,7 +5,7 @@ use Rattle.line_engine.specs.declared.status.Status.TheVariants.{ReadFault}
 use Rattle.line_engine.specs.Output.{Output}
 use Rattle.line_engine.specs.Engine.{Ran}
 use Rattle.peer_lock.specs.declared.call.Call.{Call}
-use Rattle.race_input.specs.Lists.{WorkLists, lists_of, output_with, list_part}
+use Rattle.form_race.specs.Lists.{WorkLists, lists_of, output_with, list_part}
 use Rattle.race_run.specs.Race.{IsRaceOf}
 use Rattle.report_run.specs.Report.{report}
 

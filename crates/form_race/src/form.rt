@@ -6,9 +6,9 @@ ghost use Rattle.race_run.specs.Race.{IsRaceOf};
 ghost use Rattle.report_run.specs.Report.{report_output};
 ghost use Rattle.form_race.specs.Race.{RanRace};
 
+use crate::lists::{WorkLists, read_lists};
 use edit_io::{Sink, Source};
 use line_engine::Status;
-use race_input::{WorkLists, read_lists};
 use race_run::{Gate, race};
 use report_run::report;
 use std::alloc::Global;

@@ -6,5 +6,5 @@ ghost use Rattle.form_race.specs.Laws.{AloneLaw};
 pub fn alone()
     ensures { AloneLaw }
 {
-    race_input::laws::silence();
+    crate::silence_laws::silence();
 }

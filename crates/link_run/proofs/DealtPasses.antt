@@ -15,11 +15,11 @@ use Rattle.peer_lock.specs.Laws.{steps_below}
 use Rattle.peer_lock.specs.Answers.{ClosesRun}
 use Rattle.peer_lock.proofs.ByCaller.{all_owned}
 use Rattle.peer_lock.specs.Dealt.{Dealt, Others, IsDealt}
-use Rattle.serve_core.specs.declared.job.Job.{Job}
-use Rattle.serve_core.specs.Gathered.{EachOf}
-use Rattle.serve_core.specs.Jobs.{passes_of}
-use Rattle.serve_core.specs.Served.{HaveDealtPasses}
-use Rattle.serve_core.proofs.Wholly.{has_one}
+use Rattle.link_run.specs.declared.job.Job.{Job}
+use Rattle.link_run.specs.Gathered.{EachOf}
+use Rattle.link_run.specs.Jobs.{passes_of}
+use Rattle.link_run.specs.Served.{HaveDealtPasses}
+use Rattle.link_run.proofs.Wholly.{has_one}
 
 pub same_some : {A : Type 0} (x y : A) → Some x ≡ Some y → x ≡ y
 same_some x y e = get_or_from_slice_get (x ∷ []) 0 y x e

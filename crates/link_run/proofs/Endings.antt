@@ -16,16 +16,16 @@ use Rattle.session_core.specs.declared.fault.SessionFault.{SessionFault}
 use Rattle.session_core.specs.declared.fault.SessionFault.TheVariants as session_faults
 use Rattle.session_core.specs.Events.{Mode, serving}
 use Rattle.session_core.specs.Session.{side, Session, pass_steps, pass_answers, closed_by, faults_after_session, FullIsKnown}
-use Rattle.serve_core.specs.declared.job.Job.{Job}
-use Rattle.serve_core.specs.declared.own.OwnEnd.{OwnEnd}
-use Rattle.serve_core.specs.declared.own.OwnEnd.TheVariants.{Done}
-use Rattle.serve_core.specs.Gathered.{EachOf, IsIn}
-use Rattle.serve_core.specs.Jobs.{links_of}
-use Rattle.serve_core.specs.Taken.{IsUnservedJob}
-use Rattle.serve_core.specs.Worked.{MakesOwn}
-use Rattle.serve_core.specs.Served.{OwnIn, IsFullRun, HaveDealtPasses, LinksIn}
-use Rattle.serve_core.proofs.Gathering.{joins_none, length-outcomes}
-use Rattle.serve_core.proofs.Wholly.{has_one, own_steps_in_run, steps_in_run, answers_in_run}
+use Rattle.link_run.specs.declared.job.Job.{Job}
+use Rattle.link_run.specs.declared.own.OwnEnd.{OwnEnd}
+use Rattle.link_run.specs.declared.own.OwnEnd.TheVariants.{Done}
+use Rattle.link_run.specs.Gathered.{EachOf, IsIn}
+use Rattle.link_run.specs.Jobs.{links_of}
+use Rattle.link_run.specs.Taken.{IsUnservedJob}
+use Rattle.link_run.specs.Worked.{MakesOwn}
+use Rattle.link_run.specs.Served.{OwnIn, IsFullRun, HaveDealtPasses, LinksIn}
+use Rattle.link_run.proofs.Gathering.{joins_none, length-outcomes}
+use Rattle.link_run.proofs.Wholly.{has_one, own_steps_in_run, steps_in_run, answers_in_run}
 use Rattle.link_run.specs.Passes.{IsSolePass}
 use Rattle.link_run.specs.Standing.{SessionInRun, LinksInRun}
 use Rattle.link_run.specs.Ends.{DialEnds}

@@ -21,12 +21,12 @@ use Rattle.session_core.specs.declared.fault.SessionFault.{SessionFault}
 use Rattle.session_core.specs.declared.fault.SessionFault.TheVariants as session_faults
 use Rattle.session_core.specs.Events.{SessionState, Mode, serving, first_state, messages_in, messages_out, steps_in}
 use Rattle.session_core.specs.Session.{side, Talked, pass_steps, pass_answers, closed_by, faults_after_session}
-use Rattle.serve_core.specs.declared.job.Job.{Job}
-use Rattle.serve_core.specs.Gathered.{EachOf}
-use Rattle.serve_core.specs.Jobs.{links_of, outcomes_of}
-use Rattle.serve_core.specs.Taken.{IsUnservedJob, hurt_among}
-use Rattle.serve_core.specs.Worked.{EndedSo, Worked}
-use Rattle.serve_core.specs.Served.{IsFullRun, HaveDealtPasses}
+use Rattle.link_run.specs.declared.job.Job.{Job}
+use Rattle.link_run.specs.Gathered.{EachOf}
+use Rattle.link_run.specs.Jobs.{links_of, outcomes_of}
+use Rattle.link_run.specs.Taken.{IsUnservedJob, hurt_among}
+use Rattle.link_run.specs.Worked.{EndedSo, Worked}
+use Rattle.link_run.specs.Served.{IsFullRun, HaveDealtPasses}
 use Rattle.link_run.specs.Standing.{IsWhereTold, EndsIn, SessionInRun, ServedInRun, LinksUntouched}
 use Rattle.link_run.specs.Counts.{failures_in}
 use Rattle.link_run.proofs.DealtPasses.{same_some}

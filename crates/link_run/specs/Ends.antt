@@ -5,9 +5,9 @@ use Rattle.peer_step.specs.declared.step.Step.{Step}
 use Rattle.peer_lock.specs.declared.call.Call.{Call}
 use Rattle.session_core.specs.declared.fault.SessionFault.{SessionFault}
 use Rattle.session_core.specs.Events.{serving, dialling}
-use Rattle.serve_core.specs.declared.own.OwnEnd.{OwnEnd}
-use Rattle.serve_core.specs.declared.own.OwnEnd.TheVariants.{Done, RunFull, NoMemory}
-use Rattle.serve_core.specs.Served.{OwnIn}
+use Rattle.link_run.specs.declared.own.OwnEnd.{OwnEnd}
+use Rattle.link_run.specs.declared.own.OwnEnd.TheVariants.{Done, RunFull, NoMemory}
+use Rattle.link_run.specs.Served.{OwnIn}
 use Rattle.link_run.specs.Standing.{SessionInRun, LinksInRun, LinksUntouched}
 
 -- the own steps in the run are those of the list, or, where they were cut, the first ones

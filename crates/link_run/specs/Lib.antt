@@ -2,3 +2,8 @@ pub mod Passes
 pub mod Standing
 pub mod Ends
 pub mod Counts
+pub mod Worked
+pub mod Gathered
+pub mod Jobs
+pub mod Taken
+pub mod Served

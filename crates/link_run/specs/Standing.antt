@@ -12,7 +12,7 @@ use Rattle.session_core.specs.declared.fault.SessionFault.{SessionFault}
 use Rattle.session_core.specs.declared.fault.SessionFault.TheVariants as session_faults
 use Rattle.session_core.specs.Events.{Event, Finished, SessionState, Mode, first_state, LeadsTo, messages_in, messages_out, steps_in, answers_in}
 use Rattle.session_core.specs.Session.{StopsAt, closed_by, faults_after_session}
-use Rattle.serve_core.specs.Served.{IsFullRun}
+use Rattle.link_run.specs.Served.{IsFullRun}
 
 -- a list is this one, where it is told
 abbrev pub IsWhereTold : {A : Type 0} → Option (List A) → List A → Type 0

@@ -11,11 +11,11 @@ ghost use Rattle.link_run.specs.Counts.{links_given, links_hurt, door_failures, 
 
 use crate::dealing::deal_one;
 use crate::left::LinkRun;
+use crate::own::{OwnEnd, make_own};
 use edit_io::{Door, Failed};
 use element_name::NoMemory;
 use peer_lock::{Pass, SharedPeer};
 use peer_step::Step;
-use serve_core::{OwnEnd, make_own};
 use session_core::{SessionFault, dial_link};
 use std::alloc::Global;
 use std::sync::Wait;

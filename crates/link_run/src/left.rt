@@ -1,8 +1,8 @@
 //! What is left of a peer that was run over links.
 
+use crate::own::OwnEnd;
 use peer_core::Peer;
 use peer_lock::History;
-use serve_core::OwnEnd;
 use session_core::SessionFault;
 
 /// The peer, its run, and how all that took part in it ended.

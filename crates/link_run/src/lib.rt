@@ -1,12 +1,24 @@
 //! A peer that is run over links: from the caller's own steps and a door to the peer, its run, and how all that took
-//! part ended.
+//! part ended. Many workers run over one shared peer: one with the steps of the caller, and one for each link.
 #![tactic(auto)]
 
+mod all;
 mod dealing;
 mod dialling;
+mod ending;
+mod job;
 mod left;
+mod own;
+mod run;
 mod serving;
+mod taking;
+mod work;
 
+pub use all::{LeftByWorkers, serve_jobs};
 pub use dialling::{dial, run_alone};
+pub use ending::finish_jobs;
+pub use job::Job;
 pub use left::LinkRun;
+pub use own::{OwnEnd, make_own};
 pub use serving::serve;
+pub use taking::take_links;

@@ -9,8 +9,8 @@ use Rattle.ghost_list.proofs.ghost_list.GhostList.TheSendSync as ghost_list
 use Rattle.policy_book.specs.contracts.op.AdminOp as AdminOp
 use Rattle.policy_book.specs.contracts.op.Entry as Entry
 use Rattle.policy_book.specs.contracts.policy.Policy as Policy
-use Rattle.packed_message.specs.contracts.message.PackedMessage as PackedMessage
-use Rattle.packed_step.specs.contracts.step.PackedStep as PackedStep
+use Rattle.edit_message.specs.contracts.packed_message.PackedMessage as PackedMessage
+use Rattle.peer_step.specs.contracts.packed_step.PackedStep as PackedStep
 use Rattle.admin_log.specs.contracts.log.AdminLog as AdminLog
 use Rattle.request_state.specs.contracts.table.StateTable as StateTable
 use Rattle.elem_show.specs.contracts.table.ElemTable as ElemTable

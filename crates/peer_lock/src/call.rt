@@ -1,7 +1,6 @@
 //! The steps of a run.
 
-use packed_step::PackedStep;
-use peer_step::Answer;
+use peer_step::{Answer, PackedStep};
 
 /// A step that was counted, and the number of the pass that made it.
 #[derive(Drop)]

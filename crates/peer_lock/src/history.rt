@@ -3,7 +3,7 @@ ghost use Rattle.std.specs.Prelude.{◌≡◌, ◌≤◌, length, MatchOption};
 ghost use Rattle.peer_lock.specs.Run.{caller_at, StepAt};
 
 use crate::call::Call;
-use packed_step::PackedStep;
+use peer_step::PackedStep;
 use std::marker::Model;
 
 /// The run of a shared peer that was closed: its steps in their order, each with the number of the pass that made it.

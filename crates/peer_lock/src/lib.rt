@@ -11,14 +11,18 @@ mod history;
 pub mod laws;
 mod limits;
 mod lock_table;
+mod many_threads;
 mod pass;
 mod recorder;
 mod rule;
 mod shared_peer;
 mod view;
+mod wide_step;
 
 pub use fail::{StepFail, TryFail};
 pub use history::History;
 pub use limits::{MAX_PASSES, MAX_RUN};
+pub use many_threads::ManyThreads;
 pub use pass::Pass;
 pub use shared_peer::SharedPeer;
+pub use wide_step::step_wide;

@@ -6,9 +6,8 @@ ghost use Rattle.peer_lock.specs.Run.{call, peer_after_run, recorded};
 
 use crate::call::Call;
 use element_name::NoMemory;
-use packed_step::PackedStep;
 use peer_core::{Peer, Sweep};
-use peer_step::{Answer, Step};
+use peer_step::{Answer, PackedStep, Step};
 use std::alloc::Global;
 use std::marker::Model;
 

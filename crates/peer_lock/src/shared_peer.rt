@@ -8,6 +8,7 @@ use crate::fail::{StepFail, TryFail};
 use crate::history::History;
 use crate::limits::MAX_PASSES;
 use crate::lock_table::LockTable;
+use crate::many_threads::ManyThreads;
 use crate::pass::Pass;
 use crate::rule::Unite;
 use element_name::NoMemory;
@@ -18,7 +19,6 @@ use std::marker::Model;
 use std::sync::Wait;
 use std::thread;
 use std::thread::Threads;
-use wide_step::ManyThreads;
 
 /// One peer that threads share. Each steps it by a pass of its own, one step at a time: what a step is answered is the
 /// answer at its place in one run of all steps.

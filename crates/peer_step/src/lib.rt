@@ -1,10 +1,12 @@
-//! The steps of a peer and their answers.
+//! The steps of a peer and their answers, and steps in little memory.
 #![tactic(auto)]
 
 mod answer;
+mod packed_step;
 mod step;
 mod text;
 
 pub use answer::{Answer, Outcome};
+pub use packed_step::PackedStep;
 pub use step::{LocalEdit, Step};
 pub use text::Text;

@@ -1,6 +1,5 @@
 //! What no clause says: how much a table keeps of each message.
-use edit_message::Message;
-use packed_message::PackedMessage;
+use edit_message::{Message, PackedMessage};
 
 #[test]
 fn little_memory(rt: HostRuntime) {

@@ -1,6 +1,5 @@
 //! What no clause says: how much a packed piece and a packed request take.
-use coop_request::{Piece, Request};
-use packed_request::{PackedPiece, PackedRequest};
+use coop_request::{PackedPiece, PackedRequest, Piece, Request};
 
 #[test]
 fn little_memory(rt: HostRuntime) {

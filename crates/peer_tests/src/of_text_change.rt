@@ -1,10 +1,10 @@
 //! What no clause says: which rows tell of some steps, worked out by hand.
+use line_read::step_line;
+use line_write::step_text;
 use peer_core::{OneThread, Peer};
 use peer_step::Step;
 use std::alloc::Global;
 use std::test::Fail;
-use line_read::step_line;
-use line_write::step_text;
 use text_change::step_told;
 
 /// A step line, and the lines of its rows.

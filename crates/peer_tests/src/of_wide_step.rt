@@ -1,9 +1,9 @@
 //! What no clause says: that a step which may start threads is made where there is memory.
 use coop_request::Piece;
 use peer_core::Peer;
+use peer_lock::step_wide;
 use peer_step::{LocalEdit, Step};
 use std::test::Fail;
-use wide_step::step_wide;
 
 #[test]
 fn an_edit_shows(rt: HostRuntime) -> Result<(), Fail> {

@@ -3,8 +3,8 @@ use denote.Param.Send.{IsSync, sendable}
 use Rattle.std.proofs.Crossing.{crosses}
 use Rattle.policy_book.specs.contracts.op.AdminOp as AdminOp
 use Rattle.policy_book.specs.contracts.op.Entry as Entry
-use Rattle.packed_message.specs.contracts.message.PackedMessage as PackedMessage
-use Rattle.packed_step.specs.contracts.step.PackedStep as PackedStep
+use Rattle.edit_message.specs.contracts.packed_message.PackedMessage as PackedMessage
+use Rattle.peer_step.specs.contracts.packed_step.PackedStep as PackedStep
 
 AdminOp-sync : IsSync AdminOp.the_row
 AdminOp-sync = search (sendable, crosses) depth 100 fits 100000

@@ -5,8 +5,8 @@ ghost use Rattle.peer_lock.specs.Answers.{IsSame};
 ghost use Rattle.race_run.specs.Work.{Works};
 
 use crate::gate::Gate;
-use packed_step::PackedStep;
 use peer_lock::{Pass, SharedPeer, StepFail};
+use peer_step::PackedStep;
 use std::alloc::Global;
 use std::sync::Wait;
 use std::thread::Threads;

@@ -6,11 +6,11 @@ ghost use Rattle.report_run.specs.Report.{run_line, call_line};
 
 use element_name::NoMemory;
 use itoa::Buffer;
+use line_write::{answer_line, put, put_number_word, step_text};
 use peer_core::Peer;
 use peer_step::Step;
 use report_text::held_lines;
 use std::alloc::Global;
-use line_write::{answer_line, put, put_number_word, step_text};
 
 /// Appends the line that says how many steps a run has.
 pub(crate) fn put_run(steps: u64, out: &mut Vec<u8>) -> Result<(), NoMemory>

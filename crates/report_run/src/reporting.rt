@@ -10,9 +10,9 @@ ghost use Rattle.report_run.specs.Telling.{Gathers, Tells, TellsCause};
 use crate::lines::{put_call, put_closing, put_run};
 use edit_io::Sink;
 use line_engine::{BATCH_BYTES, Status, say};
-use packed_step::PackedStep;
 use peer_core::Peer;
 use peer_lock::History;
+use peer_step::PackedStep;
 use std::alloc::Global;
 
 // Offers lines to the sink, and empties the buffer.

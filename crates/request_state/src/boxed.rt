@@ -3,9 +3,8 @@ ghost use Rattle.std.specs.Prelude.{◌≡◌, IfOk};
 
 use crate::kept::Kept;
 use crate::state::State;
-use coop_request::Request;
+use coop_request::{PackedRequest, Request};
 use element_name::NoMemory;
-use packed_request::PackedRequest;
 use std::alloc::Global;
 use std::marker::Model;
 

@@ -6,9 +6,8 @@ ghost use Rattle.text_change.specs.Rows.{row_of};
 ghost use Rattle.text_change.specs.Seen.{seen_of, with_seen, seen_at, row_by};
 
 use crate::row::{piece_at, row_of};
-use coop_request::Piece;
+use coop_request::{PackedPiece, Piece};
 use element_name::{Name, NoMemory};
-use packed_request::PackedPiece;
 use peer_core::Peer;
 use peer_step::LocalEdit;
 use std::alloc::Global;

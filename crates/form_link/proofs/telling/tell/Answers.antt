@@ -2,7 +2,7 @@ use Rattle.std.proofs.Common.{ℕ, List, ap, ◌∙◌}
 use Rattle.std.specs.declared.option.Option.{Option}
 use Rattle.std.specs.declared.result.Result.{Result}
 use Rattle.session_core.specs.declared.fault.SessionFault.{SessionFault}
-use Rattle.link_report.specs.Faults.{faults_of}
+use Rattle.form_link.specs.Faults.{faults_of}
 use Rattle.form_link.proofs.Causes.{told_so}
 use Rattle.form_link.proofs.telling.tell.Goals as goal
 

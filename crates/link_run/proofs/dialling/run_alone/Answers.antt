@@ -1,5 +1,5 @@
 use Rattle.std.proofs.Common.{Option, sym, ◌∙◌, subst}
-use Rattle.serve_core.specs.declared.own.OwnEnd.{OwnEnd}
+use Rattle.link_run.specs.declared.own.OwnEnd.{OwnEnd}
 use Rattle.link_run.specs.Ends.{OwnEnds}
 use Rattle.link_run.proofs.Endings.{fresh_sole, sole_same, stands_for_all, peer_of_run, own_in_run}
 use Rattle.link_run.proofs.dialling.run_alone.Goals as goal

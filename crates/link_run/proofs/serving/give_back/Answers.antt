@@ -1,7 +1,7 @@
 use Rattle.std.proofs.Common.{◌≡◌, ◌++◌, length, refl, sym, ap, ◌∙◌, subst, arith}
 use Rattle.std.specs.Prelude.{sum_by}
-use Rattle.serve_core.specs.Jobs.{outcomes_of}
-use Rattle.serve_core.proofs.Gathering.{length-outcomes}
+use Rattle.link_run.specs.Jobs.{outcomes_of}
+use Rattle.link_run.proofs.Gathering.{length-outcomes}
 use Rattle.link_run.specs.Standing.{LinksUntouched}
 use Rattle.link_run.specs.Counts.{failures_in}
 use Rattle.link_run.proofs.Standings.{links_untouched, hurt_untouched, no_failures}

@@ -4,9 +4,9 @@ use Rattle.peer_lock.specs.declared.call.Call.{Call}
 use Rattle.peer_lock.specs.KnownPass.{KnownPass}
 use Rattle.peer_lock.specs.Rule.{newcomer}
 use Rattle.session_core.specs.declared.fault.SessionFault.{SessionFault}
-use Rattle.serve_core.specs.declared.own.OwnEnd.{OwnEnd}
-use Rattle.serve_core.specs.Gathered.{EachOf}
-use Rattle.serve_core.specs.Jobs.{passes_of}
+use Rattle.link_run.specs.declared.own.OwnEnd.{OwnEnd}
+use Rattle.link_run.specs.Gathered.{EachOf}
+use Rattle.link_run.specs.Jobs.{passes_of}
 use Rattle.link_run.specs.Ends.{ServedAll, ServeEnds}
 use Rattle.link_run.proofs.DealtPasses.{jobs_dealt, length-passes_of, each_front, tables_of, made_of}
 use Rattle.link_run.proofs.serving.serve.Goals as goal

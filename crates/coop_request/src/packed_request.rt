@@ -1,0 +1,127 @@
+//! Packed requests.
+ghost use Rattle.std.specs.Prelude.{◌≡◌, IfOk};
+ghost use Rattle.element_name.specs.Name.{IsName};
+ghost use Rattle.coop_request.specs.Edit.{anchor_or_target};
+ghost use Rattle.coop_request.specs.PackedEdit.{edit_in};
+
+use crate::edit::Edit;
+use crate::packed_piece::PackedPiece;
+use crate::request::Request;
+use element_name::{Name, NoMemory};
+use std::alloc::Global;
+use std::marker::Model;
+
+/// A request as a table keeps it, seen as the request. It takes 56 bytes, and a piece that isn't short a box more.
+#[derive(Drop)]
+pub struct PackedRequest {
+    // The stamps of its name and of its anchor or target, and then their sites, so that no room lies between.
+    stamp: u64,
+    other_stamp: u64,
+    site: u16,
+    other_site: u16,
+    version: u32,
+    edit: PackedEdit,
+}
+
+// An edit without its anchor or target.
+#[derive(Drop)]
+enum PackedEdit {
+    Insert { letter: PackedPiece },
+    Delete,
+    Update { letter: PackedPiece },
+}
+
+impl Model for PackedRequest {
+    ghost use Rattle.coop_request.specs.Request.{Request};
+
+    ghost Value = { Request };
+
+    ghost use Rattle.coop_request.specs.PackedEdit.{HoldsRequest, request_of_parts};
+
+    ghost view = { λ q. request_of_parts (record { stamp = q.stamp; site = q.site }) (record { stamp = q.other_stamp; site = q.other_site }) q.version q.edit };
+
+    ghost invariant = { λ q. HoldsRequest (record { stamp = q.stamp; site = q.site }) (record { stamp = q.other_stamp; site = q.other_site }) q.version q.edit };
+}
+
+// The name of its parts.
+fn name_of(stamp: u64, site: u16) -> Name
+    requires { IsName (record { stamp = stamp; site = site }) }
+    ensures { result ≡ record { stamp = stamp; site = site } }
+{
+    match Name::read(stamp, site) {
+        Some(name) => name,
+        None => unreachable!(),
+    }
+}
+
+// The anchor of an insert, or the target.
+fn anchor_or_target(edit: &Edit) -> Name
+    ensures { result ≡ anchor_or_target edit.now }
+{
+    match edit {
+        Edit::Insert { after, .. } => *after,
+        Edit::Delete { target } | Edit::Update { target, .. } => *target,
+    }
+}
+
+fn packed_edit(alloc: Global, edit: Edit) -> Result<PackedEdit, NoMemory>
+    ensures { IfOk result (λ e. edit_in (anchor_or_target edit) e ≡ edit) }
+{
+    match edit {
+        Edit::Insert { letter, .. } => {
+            let letter = PackedPiece::of(alloc, letter)?;
+            Ok(PackedEdit::Insert { letter })
+        }
+        Edit::Delete { .. } => Ok(PackedEdit::Delete),
+        Edit::Update { letter, .. } => {
+            let letter = PackedPiece::of(alloc, letter)?;
+            Ok(PackedEdit::Update { letter })
+        }
+    }
+}
+
+fn edit_of(other: Name, edit: &PackedEdit) -> Edit
+    ensures { result ≡ edit_in other edit.now }
+{
+    match edit {
+        PackedEdit::Insert { letter } => Edit::Insert {
+            after: other,
+            letter: letter.piece(),
+        },
+        PackedEdit::Delete => Edit::Delete { target: other },
+        PackedEdit::Update { letter } => Edit::Update {
+            target: other,
+            letter: letter.piece(),
+        },
+    }
+}
+
+impl PackedRequest {
+    /// A request, packed.
+    pub fn of(alloc: Global, request: Request) -> Result<PackedRequest, NoMemory>
+        ensures { IfOk result (λ q. q ≡ request) }
+    {
+        let id = request.id();
+        let other = anchor_or_target(&request.edit());
+        Ok(PackedRequest {
+            stamp: id.stamp(),
+            other_stamp: other.stamp(),
+            site: id.site(),
+            other_site: other.site(),
+            version: request.version(),
+            edit: packed_edit(alloc, request.edit())?,
+        })
+    }
+
+    /// The request. Takes no memory.
+    pub fn request(&self) -> Request
+        ensures { result ≡ self.now }
+    {
+        let id = name_of(self.stamp, self.site);
+        let other = name_of(self.other_stamp, self.other_site);
+        match Request::checked(id, self.version, edit_of(other, &self.edit)) {
+            Ok(request) => request,
+            Err(_) => unreachable!(),
+        }
+    }
+}

@@ -1,3 +1,0 @@
-mod Listing
-mod Statuses
-mod Tellings

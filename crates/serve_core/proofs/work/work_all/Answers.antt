@@ -1,9 +1,0 @@
-use denote.Param.Send.{sendable}
-use Rattle.serve_core.proofs.Crossing.{of_workers}
-use Rattle.serve_core.proofs.work.work_all.Goals as goal
-
-pub for_each_mut-requires-send-T : goal.for_each_mut-requires-send-T
-for_each_mut-requires-send-T g c κs within = search (sendable, of_workers) depth 20
-
-pub for_each_mut-requires-sync-F : goal.for_each_mut-requires-sync-F
-for_each_mut-requires-sync-F g c κs within = search (sendable, of_workers) depth 20
