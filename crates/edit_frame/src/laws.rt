@@ -3,7 +3,7 @@ ghost use Rattle.std.specs.Prelude.{◌≡◌, ℕ, List, ◌++◌, ◌+◌, tak
 ghost use Rattle.std.specs.List.{flat_map, list_all};
 ghost use Rattle.edit_frame.specs.declared.frame.Frame.{Frame};
 ghost use Rattle.edit_frame.specs.declared.frame.FrameKind.{FrameKind};
-ghost use Rattle.edit_frame.specs.declared.limits.TheConstants.{LENGTH_BYTES};
+ghost use Rattle.edit_frame.specs.declared.limits.TheConstants.{LENGTH_BYTES, MIN_LENGTH, MAX_LENGTH, SITES};
 ghost use Rattle.edit_frame.specs.Spelling.{spelling};
 ghost use Rattle.edit_frame.specs.Spells.{IsBytes, is_frame, Spells};
 ghost use Rattle.edit_frame.specs.Reading.{decoded_frame, length_field, frame_at, stream};
@@ -41,4 +41,12 @@ pub fn one_spelling()
 pub fn fault_stays()
     ensures { (bytes more : List ℕ) (kind : FrameKind)
         → frame_at bytes ≡ Err kind → is_truncated kind ≡ false → frame_at (bytes ++ more) ≡ Err kind }
+{}
+
+/// The lengths and ranges in numbers.
+pub fn limits()
+    ensures length_bytes { LENGTH_BYTES ≡ 4 }
+    ensures least { MIN_LENGTH ≡ 2 }
+    ensures greatest { MAX_LENGTH ≡ 276 }
+    ensures sites { SITES ≡ 65536 }
 {}

@@ -7,6 +7,7 @@ ghost use Rattle.line_spelling.specs.Values.{piece_text, name_text};
 ghost use Rattle.line_read.specs.Numbers.{read_number, read_name};
 ghost use Rattle.line_read.specs.Pieces.{read_piece};
 ghost use Rattle.line_read.specs.Laws.{FormedStepLaw};
+ghost use Rattle.line_read.specs.declared.numbers.TheConstants.{MAX_SHORT, MAX_WIDE};
 
 /// A piece is read back from its spelling.
 pub fn pieces()
@@ -26,4 +27,10 @@ pub fn names()
 /// What a step line says is well formed: each piece is one, and each operation and message is in its ranges.
 pub fn formed()
     ensures { FormedStepLaw }
+{}
+
+/// The limits in numbers.
+pub fn limits()
+    ensures short { MAX_SHORT ≡ 65535 }
+    ensures wide { MAX_WIDE ≡ 4294967295 }
 {}
