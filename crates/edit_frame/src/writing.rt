@@ -1,8 +1,10 @@
 //! The bytes of frames.
 ghost use Rattle.std.specs.Prelude.{◌≡◌, ◌+◌, ◌≤◌, true, ◌∷◌, ◌++◌, length, OnOk, OnErr, IfOk};
 ghost use Rattle.std.specs.List.{flat_map};
-ghost use Rattle.edit_frame.specs.Spelling.{short_bytes, name_bytes, extent_bytes, user_set_bytes, flag, rights_bytes, auth_bytes, operation_number, operation_fields};
-ghost use Rattle.edit_frame.specs.Spelling.{letter_bytes, letter_version, edit_version, edit_kind, edit_bytes, request_fields, entry_fields};
+ghost use Rattle.edit_frame.specs.Spelling.{short_bytes, name_bytes, extent_bytes, user_set_bytes, flag, rights_bytes};
+ghost use Rattle.edit_frame.specs.Spelling.{auth_bytes, operation_number, operation_fields};
+ghost use Rattle.edit_frame.specs.Spelling.{letter_bytes, letter_version, edit_version, edit_kind, edit_bytes, request_fields};
+ghost use Rattle.edit_frame.specs.Spelling.{entry_fields};
 ghost use Rattle.edit_frame.specs.Spelling.{body, spelling};
 ghost use Rattle.edit_frame.specs.Spells.{is_frame, Spells};
 

@@ -39,7 +39,8 @@ pub trait Door {
     /// Gives a link to the next program that connects to the port that it listens on. It may wait for one.
     fn accept(&mut self) -> Result<Self::Line, Failed>
         requires { HasRoom (faults self.old) (given self.old) }
-        ensures unused { IfOk result (λ line. IsUnused (Self.Line.faults line) (Self.Line.closes line) (Self.Line.got line) (Self.Line.sent line)) }
+        ensures unused { IfOk result (λ line. IsUnused (Self.Line.faults line) (Self.Line.closes line)
+            (Self.Line.got line) (Self.Line.sent line)) }
         ensures faults { faults self.new ≡ faults self.old + failed_by result }
         ensures given { given self.new ≡ given self.old + given_by result }
         ensures returned { returned self.new ≡ returned self.old }
@@ -49,7 +50,8 @@ pub trait Door {
     /// Gives a link to the program that listens on this port.
     fn connect(&mut self, port: u16) -> Result<Self::Line, Failed>
         requires { HasRoom (faults self.old) (given self.old) }
-        ensures unused { IfOk result (λ line. IsUnused (Self.Line.faults line) (Self.Line.closes line) (Self.Line.got line) (Self.Line.sent line)) }
+        ensures unused { IfOk result (λ line. IsUnused (Self.Line.faults line) (Self.Line.closes line)
+            (Self.Line.got line) (Self.Line.sent line)) }
         ensures faults { faults self.new ≡ faults self.old + failed_by result }
         ensures given { given self.new ≡ given self.old + given_by result }
         ensures returned { returned self.new ≡ returned self.old }

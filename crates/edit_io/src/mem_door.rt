@@ -1,5 +1,6 @@
 //! A door over memory.
-ghost use Rattle.std.specs.Prelude.{◌≡◌, ℕ, ◌+◌, ◌≤◌, ◌<◌, ◌↔◌, ◌∷◌, [], Some, All, Contains, IsErr, IfOk, IfSome, IfNone, length, vec_len, slice_get, slice_set};
+ghost use Rattle.std.specs.Prelude.{◌≡◌, ℕ, ◌+◌, ◌≤◌, ◌<◌, ◌↔◌, ◌∷◌, [], Some, All, Contains, IsErr, IfOk, IfSome, IfNone};
+ghost use Rattle.std.specs.Prelude.{length, vec_len, slice_get, slice_set};
 ghost use Rattle.edit_io.specs.Causes.{next_count};
 ghost use Rattle.edit_io.specs.Link.{with_last};
 ghost use Rattle.edit_io.specs.Door.{failed_by, given_by, hurt_by, IsUnused, HasRoom};
@@ -29,7 +30,16 @@ impl Model for MemDoor {
 
     ghost Value = { Lobby };
 
-    ghost view = { λ s. record { used = standing (take s.returned s.links.items); waiting = standing (drop s.given s.links.items); given = s.given; returned = s.returned; fails = s.fails.items; calls = s.calls; faults = s.faults; hurt = s.hurt } };
+    ghost view = { λ s. record {
+      used = standing (take s.returned s.links.items);
+      waiting = standing (drop s.given s.links.items);
+      given = s.given;
+      returned = s.returned;
+      fails = s.fails.items;
+      calls = s.calls;
+      faults = s.faults;
+      hurt = s.hurt;
+    } };
 
     ghost invariant = { λ s. IsLobby s.links.items s.given s.returned s.hurt };
 }
@@ -39,7 +49,16 @@ impl MemDoor {
     /// together from 1, are listed in `fails` fail. It takes no memory.
     pub fn new(links: Vec<Option<MemLink>>, fails: Vec<u64>) -> MemDoor
         requires { All IsUnusedPlace links.items }
-        ensures { result ≡ record { used = []; waiting = standing links.items; given = 0; returned = 0; fails = fails.items; calls = 0; faults = 0; hurt = 0 } }
+        ensures { result ≡ record {
+          used = [];
+          waiting = standing links.items;
+          given = 0;
+          returned = 0;
+          fails = fails.items;
+          calls = 0;
+          faults = 0;
+          hurt = 0;
+        } }
     {
         MemDoor {
             links,

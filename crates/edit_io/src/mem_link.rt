@@ -28,7 +28,15 @@ impl Model for MemLink {
 
     ghost Value = { Wire };
 
-    ghost view = { λ s. record { coming = drop s.at (messages s.incoming.items); got = take s.at (messages s.incoming.items); sent = messages s.sent.items; fails = s.fails.items; calls = s.calls; faults = s.faults; closes = s.closes } };
+    ghost view = { λ s. record {
+      coming = drop s.at (messages s.incoming.items);
+      got = take s.at (messages s.incoming.items);
+      sent = messages s.sent.items;
+      fails = s.fails.items;
+      calls = s.calls;
+      faults = s.faults;
+      closes = s.closes;
+    } };
 
     ghost invariant = { λ s. s.at ≤ vec_len s.incoming };
 }
@@ -56,7 +64,15 @@ impl MemLink {
     /// A link over which these messages come. The calls of `recv` and `send` whose numbers, counted
     /// together from 1, are listed in `fails` fail. It takes no memory yet.
     pub fn new(alloc: Global, incoming: Vec<Vec<u8>>, fails: Vec<u64>) -> MemLink
-        ensures { result ≡ record { coming = messages incoming.items; got = []; sent = []; fails = fails.items; calls = 0; faults = 0; closes = 0 } }
+        ensures { result ≡ record {
+          coming = messages incoming.items;
+          got = [];
+          sent = [];
+          fails = fails.items;
+          calls = 0;
+          faults = 0;
+          closes = 0;
+        } }
     {
         MemLink {
             incoming,

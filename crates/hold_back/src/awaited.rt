@@ -46,7 +46,8 @@ impl Awaited {
     /// A message waits under the need.
     pub(crate) fn enter(&mut self, need: &Need)
         ensures known { self.new.known ≡ true → self.old.known ≡ true }
-        ensures entered { self.new.known ≡ true → (other : Need) → is_awaited self.new other ≡ (need_eq need.now other || is_awaited self.old other) }
+        ensures entered { self.new.known ≡ true → (other : Need)
+            → is_awaited self.new other ≡ (need_eq need.now other || is_awaited self.old other) }
     {
         match *need {
             Need::Element(name) => match self.elements.insert(name) {

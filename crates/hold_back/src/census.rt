@@ -40,7 +40,8 @@ impl Census {
     /// So many more.
     pub(crate) fn add(&mut self, need: &Option<Need>, more: u32)
         requires { in_census self.old need.now + more ≤ u32.MAX }
-        ensures { (other : Option Need) → in_census self.new other ≡ in_census self.old other + (if is_like need.now other then more else 0) }
+        ensures { (other : Option Need) → in_census self.new other
+            ≡ in_census self.old other + (if is_like need.now other then more else 0) }
     {
         match need {
             None => self.woken += more,
@@ -52,7 +53,8 @@ impl Census {
     /// So many fewer.
     pub(crate) fn sub(&mut self, need: &Option<Need>, fewer: u32)
         requires { fewer ≤ in_census self.old need.now }
-        ensures { (other : Option Need) → in_census self.new other + (if is_like need.now other then fewer else 0) ≡ in_census self.old other }
+        ensures { (other : Option Need) → in_census self.new other + (if is_like need.now other then fewer else 0)
+            ≡ in_census self.old other }
     {
         match need {
             None => self.woken -= fewer,

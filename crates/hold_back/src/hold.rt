@@ -6,7 +6,8 @@ ghost use Rattle.std.specs.Option.{option_copied};
 ghost use Rattle.hold_back.specs.declared.fault.HoldFault.TheVariants.{NoMemory as no_memory};
 ghost use Rattle.element_name.specs.Growing.{EachAfter};
 ghost use Rattle.edit_message.specs.Message.{key_of, key_eq};
-ghost use Rattle.hold_back.specs.Hold.{find_held, keep_fault, woken_by, waiting_at, woken_from, waiting_from, due_at, only_woken_due, is_woken, waits_for, IsNewKey, keys_of};
+ghost use Rattle.hold_back.specs.Hold.{find_held, keep_fault, woken_by, waiting_at, woken_from, waiting_from, due_at};
+ghost use Rattle.hold_back.specs.Hold.{only_woken_due, is_woken, waits_for, IsNewKey, keys_of};
 
 use crate::awaited::Awaited;
 use crate::census::Census;

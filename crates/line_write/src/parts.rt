@@ -1,7 +1,8 @@
 //! The parts of answers.
 ghost use Rattle.std.specs.Prelude.{◌≡◌, ◌++◌, ◌∷◌, [], OnOk, decimal};
 ghost use Rattle.line_spelling.specs.Values.{behind_spaces};
-ghost use Rattle.line_spelling.specs.Answers.{by_words, state_words, missing_words, fault_words, number_words, undone_words, settled_words, outcome_words, shown_words};
+ghost use Rattle.line_spelling.specs.Answers.{by_words, state_words, missing_words, fault_words, number_words, undone_words};
+ghost use Rattle.line_spelling.specs.Answers.{settled_words, outcome_words, shown_words};
 
 use crate::values::{put, put_name_word, put_number_word, put_text};
 use edit_message::{Message, Missing};

@@ -59,7 +59,8 @@ impl Tables {
 }
 
 fn put_object(objects: &mut Vec<Object>, number: u16, extent: &Extent) -> Result<(), NoMemory>
-    ensures ok { OnOk result (objects.new.items ≡ put_by (λ o. o.number) (record { number = number; extent = extent.now }) objects.old.items) }
+    ensures ok { OnOk result (objects.new.items ≡ put_by (λ o. o.number)
+        (record { number = number; extent = extent.now }) objects.old.items) }
     ensures err { OnErr result (objects.new.items ≡ objects.old.items) }
 {
     let extent = extent.copied()?;

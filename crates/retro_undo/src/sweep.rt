@@ -21,7 +21,8 @@ fn sweep_users<P: Places>(
     places: &P,
 ) -> u32
     requires { MaySweep (P.names places.now) states.old table.old }
-    ensures { IsSwept (λ q. has_number users (user_of q)) (P.names places.now) policy.now version states.old table.old states.new table.new result }
+    ensures { IsSwept (λ q. has_number users (user_of q)) (P.names places.now)
+        policy.now version states.old table.old states.new table.new result }
 {
     let mut count = 0;
     for i in 0..users.len() {

@@ -43,7 +43,8 @@ fn above(list: &[Block], n: Name) -> usize
 pub fn skip_from(list: &[Block], spot: Spot, n: Name) -> Spot
     requires { IsSpot list.now spot }
     ensures spot { IsSpot list.now result }
-    ensures place { place_of list.now result ≡ place_of list.now spot + prefix_len (name_lt n) (drop (place_of list.now spot) (names_in (slots_of list.now))) }
+    ensures place { place_of list.now result
+        ≡ place_of list.now spot + prefix_len (name_lt n) (drop (place_of list.now spot) (names_in (slots_of list.now))) }
 {
     let Spot { rank, place } = spot;
     let slots = list[rank].slots();

@@ -42,7 +42,8 @@ impl Blocks {
         requires new { has_name (names_in (slots_of self.old)) name ≡ false }
         requires element { name_eq name start ≡ false }
         requires count { length (slots_of self.old) + 1 < 2 ^ 64 }
-        ensures ok { OnOk result (slots_of self.new ≡ insert (slots_of self.old) (place_of self.old spot) (record { name = name; shows = false })) }
+        ensures ok { OnOk result (slots_of self.new
+            ≡ insert (slots_of self.old) (place_of self.old spot) (record { name = name; shows = false })) }
         ensures err { OnErr result (self.new ≡ self.old) }
     {
         let block = &mut self.list[spot.rank];
@@ -61,7 +62,8 @@ impl Blocks {
         requires new { has_name (names_in (slots_of self.old)) name ≡ false }
         requires element { name_eq name start ≡ false }
         requires count { length (slots_of self.old) + 1 < 2 ^ 64 }
-        ensures ok { OnOk result (slots_of self.new ≡ insert (slots_of self.old) (place_of self.old spot) (record { name = name; shows = false })) }
+        ensures ok { OnOk result (slots_of self.new
+            ≡ insert (slots_of self.old) (place_of self.old spot) (record { name = name; shows = false })) }
         ensures err { OnErr result (self.new ≡ self.old) }
     {
         let id = self.ranks.len();
@@ -87,7 +89,8 @@ impl Blocks {
         requires spot { IsSpot self.old spot }
         requires new { has_name (names_in (slots_of self.old)) name ≡ false }
         requires element { name_eq name start ≡ false }
-        ensures ok { OnOk result (slots_of self.new ≡ insert (slots_of self.old) (place_of self.old spot) (record { name = name; shows = false })) }
+        ensures ok { OnOk result (slots_of self.new
+            ≡ insert (slots_of self.old) (place_of self.old spot) (record { name = name; shows = false })) }
         ensures err { OnErr result (self.new ≡ self.old) }
     {
         if self.len == usize::MAX {
