@@ -1,5 +1,6 @@
 -- What is asked of an edit.
 use Rattle.std.specs.Prelude.{ℕ, Bool, true, false, List, Option, Some, None}
+use Rattle.element_name.specs.Cases.{when}
 use Rattle.element_name.specs.Name.{Name, start, name_eq}
 use Rattle.element_name.specs.Tree.{Placed}
 use Rattle.coop_request.specs.declared.edit.Edit.{Edit}
@@ -41,6 +42,10 @@ abbrev pub element_by : Name → Edit → Name
 element_by id (Insert after letter) = id
 element_by id (Delete target) = target
 element_by id (Update target letter) = target
+
+-- the name of the element that an insert makes
+abbrev pub new_element_by : Name → Edit → Option Name
+new_element_by id edit = when (is_insert edit) id
 
 -- the element that an insert makes, with its anchor
 abbrev pub placed_by : Name → Edit → Option Placed

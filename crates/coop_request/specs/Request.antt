@@ -6,7 +6,7 @@ use Rattle.element_name.specs.declared.limits.TheConstants.{MAX_VERSION}
 use Rattle.coop_request.specs.declared.edit.Edit.{Edit}
 use Rattle.coop_request.specs.declared.request.RequestFault.{RequestFault}
 use Rattle.coop_request.specs.declared.request.RequestFault.TheVariants.{BadVersion, StartTarget, StampOrder}
-use Rattle.coop_request.specs.Edit.{anchor_or_target, targets_start, element_by}
+use Rattle.coop_request.specs.Edit.{anchor_or_target, targets_start, element_by, new_element_by}
 
 -- a name, the policy version that its sender had, and an edit
 pub record Request : Type 0 where
@@ -28,6 +28,10 @@ IsAccepted q = request_fault q ≡ None
 -- its user, who is at the site of that number
 abbrev pub user_of : Request → ℕ
 user_of q = q.id.site
+
+-- the name of the element that it makes, if it is an insert
+abbrev pub new_element_of : Request → Option Name
+new_element_of q = new_element_by q.id q.edit
 
 -- the name of its judged element
 abbrev pub element_of : Request → Name

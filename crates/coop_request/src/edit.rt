@@ -1,6 +1,6 @@
 //! What a request asks for.
 ghost use Rattle.std.specs.Prelude.{◌≡◌};
-ghost use Rattle.coop_request.specs.Edit.{right_of, element_by};
+ghost use Rattle.coop_request.specs.Edit.{anchor_or_target, targets_start, right_of, element_by, new_element_by};
 
 use crate::piece::Piece;
 use element_name::Name;
@@ -25,6 +25,26 @@ pub enum Right {
 }
 
 impl Edit {
+    /// The anchor of an insert, the target of another edit.
+    pub fn anchor_or_target(&self) -> Name
+        ensures { result ≡ anchor_or_target self.now }
+    {
+        match self {
+            Edit::Insert { after, .. } => *after,
+            Edit::Delete { target } | Edit::Update { target, .. } => *target,
+        }
+    }
+
+    // Whether it is a delete or an update of the start, which is no element.
+    pub(crate) fn targets_start(&self) -> bool
+        ensures { result ≡ targets_start self.now }
+    {
+        match self {
+            Edit::Insert { .. } => false,
+            Edit::Delete { target } | Edit::Update { target, .. } => *target == Name::start(),
+        }
+    }
+
     /// The right that it needs.
     pub fn right(self) -> Right
         ensures { result ≡ right_of self }
@@ -43,6 +63,16 @@ impl Edit {
         match self {
             Edit::Insert { .. } => id,
             Edit::Delete { target } | Edit::Update { target, .. } => target,
+        }
+    }
+
+    /// The name of the element that it makes as the edit of the request `id`, if it is an insert.
+    pub fn new_element(&self, id: Name) -> Option<Name>
+        ensures { result ≡ new_element_by id self.now }
+    {
+        match self {
+            Edit::Insert { .. } => Some(id),
+            Edit::Delete { .. } | Edit::Update { .. } => None,
         }
     }
 }

@@ -11,5 +11,5 @@ mod request;
 pub use edit::{Edit, Right};
 pub use packed_piece::{PackedPiece, SHORT_PIECE};
 pub use packed_request::PackedRequest;
-pub use piece::{MAX_PIECE, Piece};
+pub use piece::{MAX_PIECE, Piece, is_text};
 pub use request::{MAX_REQUESTS, Request, RequestFault};

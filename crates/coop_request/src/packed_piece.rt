@@ -82,8 +82,5 @@ fn unpacked(row: &[u8; 15], len: u8) -> Piece
     requires { HoldsShort row.now len }
     ensures { result ≡ row_items row.now len }
 {
-    match Piece::checked(&row[..len as usize]) {
-        Some(piece) => piece,
-        None => unreachable!(),
-    }
+    Piece::from_known(&row[..len as usize])
 }

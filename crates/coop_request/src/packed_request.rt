@@ -1,6 +1,5 @@
 //! Packed requests.
 ghost use Rattle.std.specs.Prelude.{◌≡◌, IfOk};
-ghost use Rattle.element_name.specs.Name.{IsName};
 ghost use Rattle.coop_request.specs.Edit.{anchor_or_target};
 ghost use Rattle.coop_request.specs.PackedEdit.{edit_in};
 
@@ -38,30 +37,11 @@ impl Model for PackedRequest {
 
     ghost use Rattle.coop_request.specs.PackedEdit.{HoldsRequest, request_of_parts};
 
-    ghost view = { λ q. request_of_parts (record { stamp = q.stamp; site = q.site }) (record { stamp = q.other_stamp; site = q.other_site }) q.version q.edit };
+    ghost view = { λ q. request_of_parts (record { stamp = q.stamp; site = q.site })
+        (record { stamp = q.other_stamp; site = q.other_site }) q.version q.edit };
 
-    ghost invariant = { λ q. HoldsRequest (record { stamp = q.stamp; site = q.site }) (record { stamp = q.other_stamp; site = q.other_site }) q.version q.edit };
-}
-
-// The name of its parts.
-fn name_of(stamp: u64, site: u16) -> Name
-    requires { IsName (record { stamp = stamp; site = site }) }
-    ensures { result ≡ record { stamp = stamp; site = site } }
-{
-    match Name::read(stamp, site) {
-        Some(name) => name,
-        None => unreachable!(),
-    }
-}
-
-// The anchor of an insert, or the target.
-fn anchor_or_target(edit: &Edit) -> Name
-    ensures { result ≡ anchor_or_target edit.now }
-{
-    match edit {
-        Edit::Insert { after, .. } => *after,
-        Edit::Delete { target } | Edit::Update { target, .. } => *target,
-    }
+    ghost invariant = { λ q. HoldsRequest (record { stamp = q.stamp; site = q.site })
+        (record { stamp = q.other_stamp; site = q.other_site }) q.version q.edit };
 }
 
 fn packed_edit(alloc: Global, edit: Edit) -> Result<PackedEdit, NoMemory>
@@ -102,7 +82,7 @@ impl PackedRequest {
         ensures { IfOk result (λ q. q ≡ request) }
     {
         let id = request.id();
-        let other = anchor_or_target(&request.edit());
+        let other = request.edit().anchor_or_target();
         Ok(PackedRequest {
             stamp: id.stamp(),
             other_stamp: other.stamp(),
@@ -117,11 +97,8 @@ impl PackedRequest {
     pub fn request(&self) -> Request
         ensures { result ≡ self.now }
     {
-        let id = name_of(self.stamp, self.site);
-        let other = name_of(self.other_stamp, self.other_site);
-        match Request::checked(id, self.version, edit_of(other, &self.edit)) {
-            Ok(request) => request,
-            Err(_) => unreachable!(),
-        }
+        let id = Name::from_known(self.stamp, self.site);
+        let other = Name::from_known(self.other_stamp, self.other_site);
+        Request::from_known(id, self.version, edit_of(other, &self.edit))
     }
 }

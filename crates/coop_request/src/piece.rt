@@ -37,7 +37,8 @@ impl Model for Piece {
     ghost inverse_ok = { λ p h i. record { row = row_again 255 p.row p.len h.padded i; len = len_again 255 p.row p.len h.padded i } };
 }
 
-fn is_text(bytes: &[u8]) -> bool
+/// Whether the bytes are UTF-8. Takes time in their number.
+pub fn is_text(bytes: &[u8]) -> bool
     ensures { result ≡ is_utf8 bytes.now }
 {
     match std::str::from_utf8(bytes) {
@@ -66,10 +67,18 @@ impl Piece {
         if bytes.is_empty() || bytes.len() > MAX_PIECE || !is_text(bytes) {
             return None;
         }
-        Some(Piece {
+        Some(Piece::from_known(bytes))
+    }
+
+    /// The piece of bytes that are known to be one's.
+    pub(crate) fn from_known(bytes: &[u8]) -> Piece
+        requires { IsTrue (is_piece bytes.now) }
+        ensures { result ≡ bytes.now }
+    {
+        Piece {
             row: row_of(bytes),
             len: bytes.len() as u8,
-        })
+        }
     }
 
     /// The piece of one scalar value.
@@ -78,11 +87,7 @@ impl Piece {
     {
         let mut bytes = [0; 4];
         let text = letter.encode_utf8(&mut bytes);
-        let text = text.as_bytes();
-        Piece {
-            row: row_of(text),
-            len: text.len() as u8,
-        }
+        Piece::from_known(text.as_bytes())
     }
 
     /// Its bytes, which are UTF-8.

@@ -1,7 +1,7 @@
 //! Requests.
 ghost use Rattle.std.specs.Prelude.{◌≡◌, MatchResult, Some};
 ghost use Rattle.coop_request.specs.Edit.{right_of};
-ghost use Rattle.coop_request.specs.Request.{request_fault, element_of, user_of, IsAccepted};
+ghost use Rattle.coop_request.specs.Request.{request_fault, element_of, new_element_of, user_of, IsAccepted};
 
 use crate::edit::{Edit, Right};
 use element_name::{MAX_VERSION, Name};
@@ -53,19 +53,21 @@ impl Request {
         if version > MAX_VERSION {
             return Err(RequestFault::BadVersion);
         }
-        let stamp = match edit {
-            Edit::Insert { after, .. } => after.stamp(),
-            Edit::Delete { target } | Edit::Update { target, .. } => {
-                if target == Name::start() {
-                    return Err(RequestFault::StartTarget);
-                }
-                target.stamp()
-            }
-        };
-        if id.stamp() <= stamp {
+        if edit.targets_start() {
+            return Err(RequestFault::StartTarget);
+        }
+        if id.stamp() <= edit.anchor_or_target().stamp() {
             return Err(RequestFault::StampOrder);
         }
         Ok(Request { id, version, edit })
+    }
+
+    /// The request of parts that are known to be one's.
+    pub(crate) fn from_known(id: Name, version: u32, edit: Edit) -> Request
+        requires { IsAccepted (record { id = id; version = version; edit = edit }) }
+        ensures { result ≡ record { id = id; version = version; edit = edit } }
+    {
+        Request { id, version, edit }
     }
 
     /// Its name. The element that an insert makes has the same.
@@ -104,6 +106,13 @@ impl Request {
         ensures { result ≡ element_of self }
     {
         self.edit.element(self.id)
+    }
+
+    /// The name of the element that it makes, if it is an insert.
+    pub fn new_element(self) -> Option<Name>
+        ensures { result ≡ new_element_of self }
+    {
+        self.edit.new_element(self.id)
     }
 
     /// The number of its user, who is at the site of that number.

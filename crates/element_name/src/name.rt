@@ -43,7 +43,15 @@ impl Name {
         if stamp > MAX_STAMP || (stamp == 0 && site != 0) {
             return None;
         }
-        Some(Name { stamp, site })
+        Some(Name::from_known(stamp, site))
+    }
+
+    /// The name of a stamp and a site that are known to be one's.
+    pub fn from_known(stamp: u64, site: u16) -> Name
+        requires { IsName (record { stamp = stamp; site = site }) }
+        ensures { result ≡ record { stamp = stamp; site = site } }
+    {
+        Name { stamp, site }
     }
 
     /// The stamp, which also says how old the name may be: what was made after it was known has a greater one.
