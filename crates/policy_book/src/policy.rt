@@ -3,7 +3,8 @@ ghost use Rattle.std.specs.Prelude.{◌≡◌, IfOk, IfErr, OnOk, OnErr, ◌==�
 ghost use Rattle.element_name.specs.Cases.{when, first_of};
 ghost use Rattle.std.specs.List.{list_any};
 ghost use Rattle.std.specs.Option.{option_copied};
-ghost use Rattle.policy_book.specs.Policy.{IsWithinLimits, IsLegal, IsRefusal, first_policy, policy_after, is_user, extent_of, members_of, is_object};
+ghost use Rattle.policy_book.specs.Policy.{IsWithinLimits, IsLegal, IsRefusal, first_policy, policy_after, is_user, extent_of};
+ghost use Rattle.policy_book.specs.Policy.{members_of, is_object};
 ghost use Rattle.policy_book.specs.Policy.{is_group, is_member, is_full, is_full_group, policy_fault};
 ghost use Rattle.policy_book.specs.Reach.{reach_of, reach_of_legal, lacks_objects, names_object, is_vacuous, narrowed_reach};
 
@@ -254,12 +255,21 @@ impl Policy {
         ensures refusal { IfErr result (IsRefusal (policy_fault self.old op.now)) }
         ensures unchanged { OnErr result (self.new ≡ self.old) }
     {
-        operation_in_range(op);
         if let Some(fault) = self.legal(op) {
             return Err(ApplyFault::Illegal(fault));
         }
-        self.tables.change(version, op)?;
+        self.apply_legal(version, op)?;
         Ok(())
+    }
+
+    /// Does what `apply` does with a legal operation, and doesn't look whether it is one. Fails where memory is wanting.
+    pub fn apply_legal(&mut self, version: u32, op: &AdminOp) -> Result<(), NoMemory>
+        requires { IsLegal self.old op.now }
+        ensures change { OnOk result (self.new ≡ policy_after self.old version op.now) }
+        ensures unchanged { OnErr result (self.new ≡ self.old) }
+    {
+        operation_in_range(op);
+        self.tables.change(version, op)
     }
 
     /// Whose requests a legal operation may deny: nobody else's are to be judged anew after it.
@@ -295,7 +305,13 @@ impl Policy {
             },
             AdminOp::AddObj(object, _) => !self.names_object(*object),
             AdminOp::DelObj(object) => !self.names_object(*object),
-            _ => false,
+            AdminOp::AddUser(_)
+            | AdminOp::DelUser(_)
+            | AdminOp::AddGroup(_)
+            | AdminOp::DelGroup(_)
+            | AdminOp::AddMember { .. }
+            | AdminOp::DelMember { .. }
+            | AdminOp::Validate(_) => false,
         }
     }
 

@@ -1,6 +1,6 @@
 use Rattle.std.proofs.Common.{sym}
 use Rattle.policy_book.proofs.KeptLimits.{kept}
-use Rattle.policy_book.proofs.policy.Policy.apply.Goals as goal
+use Rattle.policy_book.proofs.policy.Policy.apply_legal.Goals as goal
 
 pub invariant_of-self-2 : goal.invariant_of-self-2
 invariant_of-self-2 c =
