@@ -114,11 +114,11 @@ tries m n caller s (Ok c) by w = (
   stepped m.0 w.0 s c.answer n.0 w.1 w.2 w.3 (ap (λ (x : Seated). x.0.seen) w.4 ∙ ap (λ (k : ℕ). w.0 ++ call k s ∷ []) by) (ap (λ (x : Seated). x.0.floor) w.4 ∙ ap (λ (k : ℕ). length (w.0 ++ call k s ∷ [])) by),
   ap (λ (x : Seated). x.0.refused) w.4,
 )
-tries m n caller s (Err (Busy back)) by w = (w.0, ap (λ (x : Seated). x.0.refused) w.1, ap (λ (x : Seated). x.0.seen) w.1, ap (λ (x : Seated). x.0.floor) w.1)
-tries m n caller s (Err RunFull) by w = (ap (λ (x : Seated). x.0.refused) w.3, ap (λ (x : Seated). x.0.seen) w.3, ap (λ (x : Seated). x.0.floor) w.3 ∙ w.2)
+tries m n caller s (Err (Busy back)) by w = (w.0, ap (λ (x : Seated). x.0.refused) w.1, ap (λ (x : Seated). x.0.seen) w.1, ap (λ (x : Seated). x.0.floor) w.1, ap (λ (x : Seated). x.0.looks) w.1)
+tries m n caller s (Err RunFull) by w = (ap (λ (x : Seated). x.0.refused) w.3, ap (λ (x : Seated). x.0.seen) w.3, ap (λ (x : Seated). x.0.floor) w.3 ∙ w.2, ap (λ (x : Seated). x.0.looks) w.3)
 tries m n caller s (Err NoMemory) by w =
     let floor : n.0.floor ≡ length w.0 = ap (λ (x : Seated). x.0.floor) w.3 in
-    (ap (λ (x : Seated). x.0.refused) w.3, ap (λ (x : Seated). x.0.seen) w.3, omega (arith, w.1.high), omega (arith, w.2))
+    (ap (λ (x : Seated). x.0.refused) w.3, ap (λ (x : Seated). x.0.seen) w.3, omega (arith, w.1.high), omega (arith, w.2), ap (λ (x : Seated). x.0.looks) w.3)
 
 -- of a join and the look that follows it
 pub joined : (v o : View) (c : List (ℕ × Recorded)) (found : ℕ) (n : Seated) → Looked (united v o, c) found n → UnitesPasses v o n.0

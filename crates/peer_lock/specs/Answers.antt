@@ -48,18 +48,23 @@ WithoutGate v w = (v.hand ≡ false) × (w.hand ≡ false)
 abbrev pub KnowsFull : View → Type 0
 KnowsFull v = v.floor ≡ MAX_RUN
 
--- one try: Busy exactly where its one grab was refused, RunFull exactly where the run is full
+-- the pass has loaded the count once
+abbrev pub HasLooked : View → View → Type 0
+HasLooked v w = w.looks ≡ v.looks + 1
+
+-- one try: Busy exactly where its one grab was refused, RunFull exactly where the run is full; where it makes no step for
+-- another reason, it has loaded the count
 abbrev pub AnswersTry : View → Step → Result Answer TryFail → View → Type 0
 AnswersTry v s (Ok a) w = Stepped v s a w × (w.refused ≡ v.refused)
-AnswersTry v s (Err (Busy back)) w = (back ≡ s) × (w.refused ≡ v.refused + 1) × (w.seen ≡ v.seen) × (w.floor ≡ v.floor)
-AnswersTry v s (Err RunFull) w = (w.refused ≡ v.refused) × (w.seen ≡ v.seen) × KnowsFull w
-AnswersTry v s (Err NoMemory) w = (w.refused ≡ v.refused) × (w.seen ≡ v.seen) × (v.floor ≤ w.floor) × (w.floor < MAX_RUN)
+AnswersTry v s (Err (Busy back)) w = (back ≡ s) × (w.refused ≡ v.refused + 1) × (w.seen ≡ v.seen) × (w.floor ≡ v.floor) × (w.looks ≡ v.looks)
+AnswersTry v s (Err RunFull) w = (w.refused ≡ v.refused) × (w.seen ≡ v.seen) × KnowsFull w × HasLooked v w
+AnswersTry v s (Err NoMemory) w = (w.refused ≡ v.refused) × (w.seen ≡ v.seen) × (v.floor ≤ w.floor) × (w.floor < MAX_RUN) × HasLooked v w
 
--- tries until one is not Busy
+-- tries until one is not Busy; where that makes no step, it has loaded the count, and no other has
 abbrev pub AnswersStep : View → Step → Result Answer StepFail → View → Type 0
 AnswersStep v s (Ok a) w = Stepped v s a w
-AnswersStep v s (Err fails.RunFull) w = (w.seen ≡ v.seen) × KnowsFull w
-AnswersStep v s (Err fails.NoMemory) w = (w.seen ≡ v.seen) × (v.floor ≤ w.floor) × (w.floor < MAX_RUN)
+AnswersStep v s (Err fails.RunFull) w = (w.seen ≡ v.seen) × KnowsFull w × HasLooked v w
+AnswersStep v s (Err fails.NoMemory) w = (w.seen ≡ v.seen) × (v.floor ≤ w.floor) × (w.floor < MAX_RUN) × HasLooked v w
 
 -- one load of the count word, which found this
 pub record ReadsCount (v : View) (found : ℕ) (w : View) : Type 0 where

@@ -64,3 +64,4 @@ Went m caller s (Err NoMemory) n = (run : List Call) × Fits run m.0 × (length 
 pub record IsRetry (v w : View) : Type 0 where
   pub seen : w.seen ≡ v.seen
   pub floor : w.floor ≡ v.floor
+  pub looks : w.looks ≡ v.looks
