@@ -22,7 +22,6 @@ mod wide_step;
 pub use fail::{StepFail, TryFail};
 pub use history::History;
 pub use limits::{MAX_PASSES, MAX_RUN};
-pub use many_threads::ManyThreads;
 pub use pass::Pass;
 pub use shared_peer::SharedPeer;
 pub use wide_step::step_wide;

@@ -14,7 +14,7 @@ use tomb_seq::TombSeq;
 /// processors, and joins them.
 ///
 /// In a program whose threads may wait no join is promised to return, and so no step with this sweep.
-pub struct ManyThreads<R> {
+pub(crate) struct ManyThreads<R> {
     alloc: Global,
     leave: PhantomData<R>,
 }
@@ -28,7 +28,7 @@ impl<R> Drop for ManyThreads<R> {
 impl<R: Threads> Threads for ManyThreads<R> {}
 
 impl<R: Threads + Sync> ManyThreads<R> {
-    pub fn new(_rt: &R, alloc: Global) -> Self {
+    pub(crate) fn new(_rt: &R, alloc: Global) -> Self {
         ManyThreads {
             alloc,
             leave: PhantomData,

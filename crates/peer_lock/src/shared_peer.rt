@@ -65,9 +65,8 @@ impl SharedPeer {
         self.try_step_by(pass, step, &OneThread)
     }
 
-    /// Makes a try as `try_step` does, with a sweep of the caller's. It has every clause of `try_step`, and returns if the
-    /// sweep does.
-    pub fn try_step_by<W: Sweep>(
+    // A try as `try_step` makes it, with this sweep. It returns if the sweep does.
+    fn try_step_by<W: Sweep>(
         &self,
         pass: &mut Pass,
         step: Step,
@@ -105,8 +104,8 @@ impl SharedPeer {
         self.step_by(rt, pass, step, &ManyThreads::new(rt, alloc))
     }
 
-    /// Makes a step as `step` does, with a sweep of the caller's: for one that judges on several threads.
-    pub fn step_by<R: Wait, W: Sweep>(
+    // A step as `step` makes it, with this sweep.
+    fn step_by<R: Wait, W: Sweep>(
         &self,
         rt: &R,
         pass: &mut Pass,
