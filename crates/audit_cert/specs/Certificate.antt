@@ -8,7 +8,7 @@ use Rattle.policy_book.specs.Entry.{Entry}
 use Rattle.edit_message.specs.declared.message.Message.{Message}
 use Rattle.edit_message.specs.Message.{requests_of, entries_of}
 use Rattle.check_remote.specs.State.{state_of}
-use Rattle.line_engine.specs.Output.{line_of}
+use Rattle.line_spelling.specs.Line.{line_of}
 use Rattle.line_spelling.specs.Values.{spaced, name_text}
 use Rattle.line_spelling.specs.Answers.{state_words}
 use Rattle.audit_cert.specs.declared.grant.Grant.{Grant}

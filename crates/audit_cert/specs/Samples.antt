@@ -6,7 +6,7 @@ use Rattle.policy_book.specs.declared.op.AdminOp.TheVariants.{AddUser, AddAuth}
 use Rattle.edit_message.specs.declared.message.Message.{Message}
 use Rattle.edit_message.specs.declared.message.Message.TheVariants.{Coop, Admin}
 use Rattle.admin_log.specs.Samples.{entry, inserts_of_1, first_of_1}
-use Rattle.line_engine.specs.Output.{line_of}
+use Rattle.line_spelling.specs.Line.{line_of}
 use Rattle.audit_cert.specs.Certificate.{certificate}
 
 -- user 1 joins, may insert, and inserts an x

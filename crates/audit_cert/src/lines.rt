@@ -5,7 +5,7 @@ ghost use Rattle.std.specs.Prelude.{◌≡◌, ◌≤◌, ◌++◌, ◌∷◌, t
 ghost use Rattle.std.specs.List.{concat, flat_map, list_all};
 ghost use Rattle.element_name.specs.Name.{has_name};
 ghost use Rattle.coop_request.specs.Request.{element_of};
-ghost use Rattle.line_engine.specs.Output.{line_of};
+ghost use Rattle.line_spelling.specs.Line.{line_of};
 ghost use Rattle.line_spelling.specs.Values.{spaced, name_text};
 ghost use Rattle.line_spelling.specs.Answers.{state_words};
 ghost use Rattle.audit_cert.specs.Audit.{messages_of_frames};

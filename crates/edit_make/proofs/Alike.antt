@@ -3,7 +3,7 @@ use Rattle.std.proofs.Common.{◌≡◌, ℕ, ◌+◌, ◌<◌, ◌≤◌, inl, 
 use Rattle.std.specs.Prelude.{count_by, filter_map, option_map, codes, decimal}
 use Rattle.std.specs.List.{cons_option, concat}
 use Rattle.tomb_seq.proofs.Has.{Has}
-use Rattle.line_engine.specs.Output.{line_of}
+use Rattle.line_spelling.specs.Line.{line_of}
 use Rattle.line_spelling.specs.Values.{spaced}
 use Rattle.coop_request.specs.Request.{Request}
 use Rattle.coop_request.specs.History.{request_of}

@@ -17,7 +17,8 @@ use peer_core::Peer;
 use peer_step::{Answer, Step};
 use std::alloc::Global;
 use std::marker::Model;
-use line_read::{LineFail, read_name, step_line};
+use line_read::{read_name, step_line};
+use line_spelling::LineFail;
 
 /// A peer, and what was told of its last step or question.
 #[derive(Drop)]

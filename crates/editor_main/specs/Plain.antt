@@ -4,7 +4,8 @@ use Rattle.std.specs.Io.KnownBytes.{Appends, Consumes, IsAtEnd, Keeps}
 use Rattle.line_engine.specs.declared.limits.TheConstants.{MAX_INPUT}
 use Rattle.line_engine.specs.declared.status.Status.{Status}
 use Rattle.line_engine.specs.declared.status.Status.TheVariants.{Done, Usage, ReadFault}
-use Rattle.line_engine.specs.Output.{Output, Ends, line_of}
+use Rattle.line_engine.specs.Output.{Output, Ends}
+use Rattle.line_spelling.specs.Line.{line_of}
 use Rattle.line_engine.specs.Engine.{Told}
 use Rattle.form_replay.specs.Replay.{replay_output, replay_part}
 use Rattle.form_replay.specs.Headline.{Headline}

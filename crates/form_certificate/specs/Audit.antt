@@ -1,7 +1,8 @@
 -- What is written of a journal and its certificate.
 use Rattle.std.specs.Prelude.{ℕ, Bool, List, [], ◌∷◌, Option, Some, Result, Ok, Err, decimal, codes, if◌then◌else◌}
 use Rattle.line_engine.specs.declared.status.Status.TheVariants as statuses
-use Rattle.line_engine.specs.Output.{Output, line_of, too_long}
+use Rattle.line_engine.specs.Output.{Output, too_long}
+use Rattle.line_spelling.specs.Line.{line_of}
 use Rattle.line_engine.specs.Input.{is_cut, counted_bytes}
 use Rattle.line_spelling.specs.Values.{spaced}
 use Rattle.report_text.specs.Frame.{frame_fault_line}

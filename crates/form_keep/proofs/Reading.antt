@@ -4,8 +4,9 @@ use Rattle.std.specs.Io.KnownBytes.{Consumes, IsAtEnd, Keeps}
 use Rattle.std.proofs.KnownBytes.{Consumes-nil, Consumes-trans, Consumes-kept}
 use Rattle.std.proofs.lemmas.Bool.Decides.{nat_tests}
 use Rattle.std.proofs.lemmas.List.{length-append, take_all, take_at}
-use Rattle.line_engine.specs.declared.find.TheConstants.{LINE_END}
-use Rattle.line_engine.specs.declared.limits.TheConstants.{MAX_INPUT, MAX_LINE}
+use Rattle.line_spelling.specs.declared.signs.TheConstants.{LINE_END}
+use Rattle.line_engine.specs.declared.limits.TheConstants.{MAX_INPUT}
+use Rattle.line_spelling.specs.declared.line.TheConstants.{MAX_LINE}
 use Rattle.line_engine.specs.Input.{is_cut, counted_bytes, lines_of}
 use Rattle.line_engine.specs.Rest.{NoLf}
 use Rattle.line_engine.specs.Engine.{Told, Reads}

@@ -5,8 +5,8 @@ use Rattle.std.specs.Option.{option_map_or}
 use Rattle.std.proofs.lemmas.List.{take_all, drop_all}
 use Rattle.std.proofs.lemmas.Bool.Decides.{nat_tests}
 use Rattle.element_name.specs.Cases.{given}
-use Rattle.line_engine.specs.declared.find.TheConstants.{LINE_END}
-use Rattle.line_engine.specs.declared.limits.TheConstants.{MAX_LINE}
+use Rattle.line_spelling.specs.declared.signs.TheConstants.{LINE_END}
+use Rattle.line_spelling.specs.declared.line.TheConstants.{MAX_LINE}
 use Rattle.line_engine.specs.declared.status.Status.TheVariants.{Done, TooLong, BadInput}
 use Rattle.line_engine.specs.Output.{Output, bad_line}
 use Rattle.line_engine.specs.Input.{lines_of}

@@ -1,8 +1,9 @@
 -- How the steps of a source's lines are read one by one.
 use Rattle.std.specs.Prelude.{◌≡◌, ◌⊎◌, ⊤, ℕ, ◌+◌, ◌-◌, ◌<◌, ◌≤◌, Bool, true, false, List, [], ◌++◌, length, take, drop, slice_index, Option}
 use Rattle.std.specs.Io.KnownBytes.{Consumes, IsAtEnd, Keeps}
-use Rattle.line_engine.specs.declared.find.TheConstants.{LINE_END}
-use Rattle.line_engine.specs.declared.limits.TheConstants.{MAX_INPUT, MAX_LINE}
+use Rattle.line_spelling.specs.declared.signs.TheConstants.{LINE_END}
+use Rattle.line_engine.specs.declared.limits.TheConstants.{MAX_INPUT}
+use Rattle.line_spelling.specs.declared.line.TheConstants.{MAX_LINE}
 use Rattle.line_engine.specs.Input.{lines_of}
 use Rattle.line_engine.specs.Rest.{NoLf}
 use Rattle.line_engine.specs.Engine.{Reads}

@@ -6,7 +6,8 @@ use Rattle.line_engine.specs.declared.limits.TheConstants.{MAX_INPUT}
 use Rattle.line_engine.specs.declared.status.Status.{Status}
 use Rattle.line_engine.specs.declared.status.Status.TheVariants as status
 use Rattle.line_engine.specs.Status.{IsSinkFail}
-use Rattle.line_engine.specs.Output.{Output, Begins, line_of, bad_line, bad_line_text, too_long, too_long_text}
+use Rattle.line_engine.specs.Output.{Output, Begins, bad_line, bad_line_text, too_long, too_long_text}
+use Rattle.line_spelling.specs.Line.{line_of}
 use Rattle.line_engine.specs.Engine.{Told}
 use Rattle.peer_step.specs.declared.step.Step.{Step}
 use Rattle.peer_core.specs.Peer.{Peer}

@@ -1,6 +1,6 @@
 //! The form that keeps a peer in a file.
 ghost use Rattle.std.specs.Prelude.{◌≡◌, ◌≢◌, ◌++◌, ℕ, List, decimal, IfOk, IfErr};
-ghost use Rattle.line_engine.specs.Output.{line_of};
+ghost use Rattle.line_spelling.specs.Line.{line_of};
 ghost use Rattle.line_engine.specs.Engine.{Reads, Says, StatusCause};
 ghost use Rattle.form_keep.specs.Stopping.{ReadCause, WriteCause, KeepCause, TellCause};
 ghost use Rattle.form_keep.specs.Run.{closing_output, stop_output, ComesFor, RanKeep, DiskCause};
@@ -9,7 +9,8 @@ use crate::answering::{answer_steps, closing_text};
 use crate::opening::open_store;
 use crate::stopped::Stopped;
 use edit_io::{Sink, Source};
-use line_engine::{LINE_END, Status, say};
+use line_engine::{Status, say};
+use line_spelling::LINE_END;
 use peer_disk::Disk;
 use std::alloc::{AllocError, Global};
 

@@ -7,9 +7,8 @@ ghost use Rattle.form_keep.specs.Stopping.{ReadCause};
 use crate::stopped::Stopped;
 use edit_io::Source;
 use element_name::NoMemory;
-use line_engine::{
-    LineFail, MAX_CHUNK, MAX_INPUT, MAX_LINE, drop_prefix, fetch, find_line_end, wanted,
-};
+use line_engine::{MAX_CHUNK, MAX_INPUT, drop_prefix, fetch, find_line_end, wanted};
+use line_spelling::{LineFail, MAX_LINE};
 use peer_step::Step;
 use std::alloc::Global;
 use line_read::step_line;

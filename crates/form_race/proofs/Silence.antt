@@ -3,7 +3,7 @@ use Rattle.std.proofs.Common.{◌≡◌, ◌≢◌, ℕ, ◌+◌, Bool, true, fa
 use Rattle.std.specs.Prelude.{option_map, nat_le, nat_lt, if◌then◌else◌}
 use Rattle.std.specs.Option.{option_map_or}
 use Rattle.element_name.specs.Cases.{given}
-use Rattle.line_engine.specs.declared.limits.TheConstants.{MAX_LINE}
+use Rattle.line_spelling.specs.declared.line.TheConstants.{MAX_LINE}
 use Rattle.line_engine.specs.declared.status.Status.TheVariants.{Done}
 use Rattle.line_engine.specs.Output.{Output, after_bytes, after_part, bad_line}
 use Rattle.line_engine.specs.Run.{LineTurn, turn_of_line, output_of_lines, part_of_lines}

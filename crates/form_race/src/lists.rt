@@ -7,8 +7,9 @@ ghost use Rattle.form_race.specs.Lists.{step_count, no_work, with_step, list_tur
 use crate::worker::{Worker, worker_of};
 use edit_io::{Sink, Source};
 use element_name::NoMemory;
-use line_engine::{LineFail, Lines, Status, run_world};
+use line_engine::{Lines, Status, run_world};
 use line_read::step_line;
+use line_spelling::LineFail;
 use peer_lock::MAX_RUN;
 use peer_step::{PackedStep, Step};
 use std::alloc::Global;

@@ -7,7 +7,7 @@ use Rattle.std.proofs.lemmas.Fmt.{decimal_digit}
 use Rattle.coop_request.specs.Request.{Request}
 use Rattle.element_name.specs.Cases.{◌>>=◌}
 use Rattle.line_engine.specs.declared.limits.TheConstants.{MAX_INPUT}
-use Rattle.line_engine.specs.Output.{line_of}
+use Rattle.line_spelling.specs.Line.{line_of}
 use Rattle.line_engine.specs.Input.{lines_of}
 use Rattle.line_engine.specs.Run.{LineTurn, turn_of_line}
 use Rattle.peer_step.specs.declared.step.LocalEdit.TheVariants.{Insert}

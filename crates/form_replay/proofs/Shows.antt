@@ -5,7 +5,7 @@ use Rattle.std.specs.Option.{option_map_or, option_to_list}
 use Rattle.std.proofs.lemmas.List.{append_assoc}
 use Rattle.std.proofs.lemmas.List.Elements.{All-cons, All-append, All-map, All-weaker}
 use Rattle.element_name.specs.Cases.{◌>>=◌}
-use Rattle.line_engine.specs.declared.limits.TheConstants.{MAX_LINE}
+use Rattle.line_spelling.specs.declared.line.TheConstants.{MAX_LINE}
 use Rattle.line_engine.specs.Output.{Output, Begins, after_bytes, bad_line}
 use Rattle.line_engine.specs.Run.{LineTurn, turn_of_line, output_of_lines}
 use Rattle.peer_step.specs.declared.step.Step.TheVariants.{Edit, Administer, Receive, Settle, ValidateNext, Look, Show}

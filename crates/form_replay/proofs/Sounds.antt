@@ -6,7 +6,7 @@ use Rattle.std.proofs.lemmas.List.Elements.{All-cons, All-append, All-map, All-w
 use Rattle.std.proofs.lemmas.Bool.{and_parts, ltb-true, leb-true}
 use Rattle.element_name.specs.Cases.{◌>>=◌, when}
 use Rattle.element_name.proofs.CaseLemmas.{when-Some}
-use Rattle.line_engine.specs.declared.limits.TheConstants.{MAX_LINE}
+use Rattle.line_spelling.specs.declared.line.TheConstants.{MAX_LINE}
 use Rattle.line_engine.specs.Input.{is_cut, counted_bytes, lines_of}
 use Rattle.line_engine.specs.Run.{LineTurn, turn_of_line}
 use Rattle.peer_step.specs.declared.answer.Answer.TheVariants.{Shown}

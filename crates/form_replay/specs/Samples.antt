@@ -1,6 +1,6 @@
 -- The shows of a small script.
 use Rattle.std.specs.Prelude.{◌≡◌, ℕ, List, [], ◌∷◌, ◌++◌, map, codes}
-use Rattle.line_engine.specs.Output.{line_of}
+use Rattle.line_spelling.specs.Line.{line_of}
 use Rattle.peer_core.specs.Peer.{text}
 use Rattle.form_replay.specs.Headline.{shows_of}
 

@@ -2,7 +2,8 @@
 ghost use Rattle.std.specs.Prelude.{◌≡◌, [], None, Some, IfOk, OnOk, IsErrOf};
 ghost use Rattle.form_replay.specs.Replay.{script_turn};
 
-use line_engine::{LineFail, Lines};
+use line_engine::Lines;
+use line_spelling::LineFail;
 use replay_net::{Line, World};
 use report_text::reply_line;
 use script_text::script_line;

@@ -1,10 +1,11 @@
 //! What no contract says: that memory is found, that a line is answered before more is read, that the
 //! answers to a chunk are offered in one write, and what the limits are.
 ghost use Rattle.std.specs.Prelude.{◌≡◌, ◌<◌, ◌==◌, ◌++◌, None, Some, codes, decimal, length, option_map, OnOk, if◌then◌else◌};
-ghost use Rattle.line_engine.specs.Output.{line_of};
+ghost use Rattle.line_spelling.specs.Line.{line_of};
 
 use edit_io::{MemSink, MemSource};
-use line_engine::{LINE_END, LineFail, Lines, Status, run_world, say};
+use line_engine::{Lines, Status, run_world, say};
+use line_spelling::{LINE_END, LineFail};
 use std::alloc::{AllocError, Global};
 use std::process::Abort;
 use std::test::Fail;

@@ -1,7 +1,7 @@
 -- What is read beside a run, and how it is written.
 use Rattle.std.specs.Prelude.{◌≡◌, ℕ, ◌≤◌, List, [], ◌∷◌, length, take, decimal, codes}
 use Rattle.std.specs.List.{All, concat}
-use Rattle.line_engine.specs.Output.{line_of}
+use Rattle.line_spelling.specs.Line.{line_of}
 use Rattle.line_spelling.specs.Values.{spaced}
 use Rattle.line_spelling.specs.Answers.{shown_words}
 use Rattle.peer_lock.specs.declared.call.Call.{Call}

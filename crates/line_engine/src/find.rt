@@ -1,10 +1,8 @@
 //! Where lines end.
 ghost use Rattle.std.specs.Prelude.{◌≡◌, ◌≢◌, ℕ, ◌<◌, length, slice_index, IfSome, IfNone};
 
+use line_spelling::LINE_END;
 use memchr::memchr;
-
-/// The byte that ends a line: LF.
-pub const LINE_END: u8 = b'\n';
 
 /// Where the first line end is.
 pub fn find_line_end(bytes: &[u8]) -> Option<usize>

@@ -3,9 +3,6 @@
 /// How many bytes of an input are answered at most: 64 MiB. One more is read, to see whether there are more.
 pub const MAX_INPUT: usize = 67_108_864;
 
-/// How many bytes a line has at most, without its line end. A longer one is bad.
-pub const MAX_LINE: usize = 1_024;
-
 /// How many bytes are asked for at once at most: 64 KiB.
 pub const MAX_CHUNK: usize = 65_536;
 

@@ -4,7 +4,7 @@ use Rattle.std.specs.Prelude.{◌&&◌, option_map, nat_le, nat_lt, if◌then◌
 use Rattle.std.specs.Option.{option_map_or}
 use Rattle.std.proofs.lemmas.Bool.Decides.{nat_tests}
 use Rattle.element_name.specs.Cases.{given}
-use Rattle.line_engine.specs.declared.limits.TheConstants.{MAX_LINE}
+use Rattle.line_spelling.specs.declared.line.TheConstants.{MAX_LINE}
 use Rattle.line_engine.specs.declared.status.Status.TheVariants.{Done}
 use Rattle.line_engine.specs.Output.{Output, after_bytes, after_part, bad_line, too_long}
 use Rattle.line_engine.specs.Input.{rest_lines, lines_of_parts}

@@ -7,7 +7,8 @@ ghost use Rattle.line_input.specs.Turn.{step_line_turn, step_line_closing, IsRea
 use crate::nowhere::Nowhere;
 use edit_io::Source;
 use element_name::NoMemory;
-use line_engine::{LineFail, Lines, Status, run_world};
+use line_engine::{Lines, Status, run_world};
+use line_spelling::LineFail;
 use peer_step::Step;
 use std::alloc::Global;
 use std::marker::Model;

@@ -15,8 +15,7 @@ use Rattle.element_name.specs.declared.limits.TheConstants.{MAX_STAMP}
 use Rattle.element_name.specs.Name.{Name, is_in_range}
 use Rattle.policy_book.specs.Lists.{is_short, is_name}
 use Rattle.coop_request.specs.Piece.{is_piece}
-use Rattle.line_engine.specs.declared.find.TheConstants.{LINE_END}
-use Rattle.line_spelling.specs.declared.signs.TheConstants.{SPACE, POINT, BACKSLASH}
+use Rattle.line_spelling.specs.declared.signs.TheConstants.{LINE_END, SPACE, POINT, BACKSLASH}
 use Rattle.line_spelling.specs.Values.{piece_byte, piece_text, name_text}
 use Rattle.line_read.specs.declared.numbers.TheConstants.{ZERO_DIGIT, MAX_SHORT}
 use Rattle.line_read.specs.Numbers.{is_numeral, digits_of, read_number, read_name}

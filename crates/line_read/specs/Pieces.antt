@@ -2,8 +2,7 @@
 use Rattle.std.specs.Prelude.{ℕ, Bool, true, false, not, ◌&&◌, List, [], ◌∷◌, Option, Some, ◌==◌, if◌then◌else◌}
 use Rattle.element_name.specs.Cases.{when, first_of, ◌>>=◌}
 use Rattle.coop_request.specs.Piece.{is_piece}
-use Rattle.line_engine.specs.declared.find.TheConstants.{LINE_END}
-use Rattle.line_spelling.specs.declared.signs.TheConstants.{SPACE, BACKSLASH, LINE_END_LETTER, SPACE_LETTER}
+use Rattle.line_spelling.specs.declared.signs.TheConstants.{LINE_END, SPACE, BACKSLASH, LINE_END_LETTER, SPACE_LETTER}
 
 -- the byte that `\` and this byte stand for: `\n` is a line end, `\s` a space, `\\` a backslash
 abbrev pub escape_byte : ℕ → Option ℕ

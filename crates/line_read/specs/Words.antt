@@ -4,9 +4,8 @@ use Rattle.std.specs.Borrow.{Bor}
 use Rattle.std.specs.Str.{bytes_eq, is_utf8}
 use Rattle.std.specs.List.{slice_split, list_any}
 use Rattle.element_name.specs.Cases.{◌>>=◌}
-use Rattle.line_engine.specs.declared.find.TheConstants.{LINE_END}
-use Rattle.line_engine.specs.declared.limits.TheConstants.{MAX_LINE}
-use Rattle.line_spelling.specs.declared.signs.TheConstants.{SPACE}
+use Rattle.line_spelling.specs.declared.line.TheConstants.{MAX_LINE}
+use Rattle.line_spelling.specs.declared.signs.TheConstants.{LINE_END, SPACE}
 
 -- text without a line end, of at most 1,024 bytes
 abbrev pub is_line : List ℕ → Bool

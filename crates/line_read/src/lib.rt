@@ -12,7 +12,6 @@ mod sets;
 mod step;
 mod words;
 
-pub use line_engine::LineFail;
 pub use message::read_message;
 pub use numbers::{MAX_WIDE, read_name, read_number, read_wide};
 pub use operation::read_operation;

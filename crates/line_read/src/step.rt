@@ -10,7 +10,7 @@ use crate::pieces::read_piece;
 use crate::words::{are_none, is_line, words_of};
 use coop_request::Piece;
 use element_name::NoMemory;
-use line_engine::LineFail;
+use line_spelling::LineFail;
 use peer_step::{LocalEdit, Step};
 use std::alloc::Global;
 

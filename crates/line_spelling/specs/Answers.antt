@@ -1,7 +1,7 @@
 -- The lines of answers, each with its line end.
 use Rattle.std.specs.Prelude.{ℕ, List, [], ◌∷◌, ◌++◌, Option, Some, None, decimal, codes}
 use Rattle.std.specs.List.{concat}
-use Rattle.line_engine.specs.Output.{line_of}
+use Rattle.line_spelling.specs.Line.{line_of}
 use Rattle.policy_book.specs.declared.fault.EntryFault.{EntryFault}
 use Rattle.policy_book.specs.declared.fault.EntryFault.TheVariants as faults
 use Rattle.edit_message.specs.declared.message.Message.{Message}

@@ -4,8 +4,7 @@ use Rattle.element_name.specs.Name.{Name}
 use Rattle.policy_book.specs.Rights.{Rights}
 use Rattle.policy_book.specs.declared.auth.UserSet.{UserSet}
 use Rattle.policy_book.specs.declared.auth.UserSet.TheVariants.{All, Listed, Groups}
-use Rattle.line_engine.specs.declared.find.TheConstants.{LINE_END}
-use Rattle.line_spelling.specs.declared.signs.TheConstants.{SPACE, COMMA, POINT, GROUP_SIGN, BACKSLASH, LINE_END_LETTER, SPACE_LETTER}
+use Rattle.line_spelling.specs.declared.signs.TheConstants.{LINE_END, SPACE, COMMA, POINT, GROUP_SIGN, BACKSLASH, LINE_END_LETTER, SPACE_LETTER}
 
 -- each part behind a byte
 abbrev pub each_behind : ℕ → List (List ℕ) → List ℕ

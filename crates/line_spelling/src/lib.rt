@@ -2,6 +2,8 @@
 //! definitions of what is written.
 #![tactic(auto)]
 
+mod line;
 mod signs;
 
-pub use signs::{BACKSLASH, COMMA, GROUP_SIGN, LINE_END_LETTER, POINT, SPACE, SPACE_LETTER};
+pub use line::{LineFail, MAX_LINE};
+pub use signs::{BACKSLASH, COMMA, GROUP_SIGN, LINE_END, LINE_END_LETTER, POINT, SPACE, SPACE_LETTER};

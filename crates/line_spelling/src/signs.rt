@@ -1,5 +1,8 @@
 //! The bytes that mean something of their own in a line.
 
+/// Ends a line: LF.
+pub const LINE_END: u8 = b'\n';
+
 /// Stands between two words of a line.
 pub const SPACE: u8 = b' ';
 

@@ -1,7 +1,8 @@
 -- The report of a run.
 use Rattle.std.specs.Prelude.{ℕ, List, [], ◌∷◌, ◌++◌, None, length, decimal, codes}
 use Rattle.line_engine.specs.declared.status.Status.TheVariants.{Done}
-use Rattle.line_engine.specs.Output.{Output, line_of}
+use Rattle.line_engine.specs.Output.{Output}
+use Rattle.line_spelling.specs.Line.{line_of}
 use Rattle.peer_core.specs.Peer.{Peer, fresh_peer}
 use Rattle.peer_core.specs.Answers.{answer_of}
 use Rattle.peer_core.specs.After.{peer_after}

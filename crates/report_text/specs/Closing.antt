@@ -1,6 +1,6 @@
 -- The lines of what a peer holds.
 use Rattle.std.specs.Prelude.{ℕ, List, [], ◌∷◌, ◌++◌, Some, None, length, decimal, codes, flat_map, if◌then◌else◌}
-use Rattle.line_engine.specs.Output.{line_of}
+use Rattle.line_spelling.specs.Line.{line_of}
 use Rattle.edit_message.specs.declared.message.Message.{Message}
 use Rattle.edit_message.specs.declared.message.Message.TheVariants.{Coop, Admin}
 use Rattle.peer_step.specs.declared.answer.Answer.TheVariants.{Shown}

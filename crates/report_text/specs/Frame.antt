@@ -1,6 +1,6 @@
 -- The lines of a stream's frames that are no messages, and of its fault.
 use Rattle.std.specs.Prelude.{ℕ, List, [], ◌∷◌, decimal, codes}
-use Rattle.line_engine.specs.Output.{line_of}
+use Rattle.line_spelling.specs.Line.{line_of}
 use Rattle.coop_request.specs.declared.request.RequestFault.{RequestFault}
 use Rattle.coop_request.specs.declared.request.RequestFault.TheVariants.{BadVersion, StartTarget, StampOrder}
 use Rattle.edit_frame.specs.declared.frame.FrameKind.{FrameKind}

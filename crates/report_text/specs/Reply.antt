@@ -1,6 +1,6 @@
 -- The lines of replies, each with its line end.
 use Rattle.std.specs.Prelude.{ℕ, List, [], ◌∷◌, Option, Some, None, decimal, codes}
-use Rattle.line_engine.specs.Output.{line_of}
+use Rattle.line_spelling.specs.Line.{line_of}
 use Rattle.request_state.specs.declared.state.State.{State}
 use Rattle.replay_net.specs.declared.reply.Reply.{Reply}
 use Rattle.replay_net.specs.declared.reply.Reply.TheVariants.{Answered, NoMessage, StateIs}

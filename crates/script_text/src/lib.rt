@@ -6,4 +6,3 @@ mod line;
 mod peers;
 
 pub use line::script_line;
-pub use line_engine::LineFail;

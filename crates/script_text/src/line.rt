@@ -6,7 +6,7 @@ ghost use Rattle.script_text.specs.Line.{read_own, read_local, read_give, read_h
 
 use crate::peers::{one_peer, read_count, read_peer};
 use element_name::NoMemory;
-use line_engine::LineFail;
+use line_spelling::LineFail;
 use peer_step::Step;
 use replay_net::{Line, MAX_PEERS};
 use std::alloc::Global;

@@ -4,7 +4,8 @@ use line_engine::Status;
 use std::alloc::{Alloc, AllocError, Global};
 use std::process::Abort;
 use std::test::Fail;
-use line_read::{LineFail, step_line};
+use line_read::step_line;
+use line_spelling::LineFail;
 use line_write::step_text;
 
 // First lines of a script.
