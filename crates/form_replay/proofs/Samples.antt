@@ -17,7 +17,7 @@ use Rattle.line_spelling.specs.Answers.{answer_line}
 use Rattle.peer_core.specs.Peer.{Peer, text}
 use Rattle.peer_core.specs.Local.{new_request}
 use Rattle.replay_net.specs.declared.reply.Reply.TheVariants.{Answered}
-use Rattle.report_text.specs.Reply.{reply_line}
+use Rattle.form_replay.specs.Reply.{reply_line}
 use Rattle.replay_net.specs.declared.line.Line.{Line}
 use Rattle.replay_net.specs.declared.line.Line.TheVariants.{Peers, Local}
 use Rattle.replay_net.specs.World.{World, fresh_world, peer_of, turn_of}

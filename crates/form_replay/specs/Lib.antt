@@ -1,3 +1,4 @@
+pub mod Reply
 pub mod Replay
 pub mod Headline
 pub mod Samples

@@ -9,7 +9,7 @@ use Rattle.replay_net.specs.declared.line.Line.{Line}
 use Rattle.replay_net.specs.declared.line.Line.TheVariants.{Peers}
 use Rattle.replay_net.specs.World.{World, fresh_world, turn_of}
 use Rattle.script_text.specs.Line.{script_line}
-use Rattle.report_text.specs.Reply.{reply_line}
+use Rattle.form_replay.specs.Reply.{reply_line}
 
 -- the line that begins a world writes nothing; no other line does
 abbrev pub opening_turn : Line → Option (LineTurn (Option World))

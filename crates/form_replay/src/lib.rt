@@ -3,7 +3,9 @@
 
 pub mod laws;
 mod play;
+mod reply;
 mod run;
 
 pub use play::Replay;
+pub use reply::reply_line;
 pub use run::replay;

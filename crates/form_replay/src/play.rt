@@ -2,10 +2,10 @@
 ghost use Rattle.std.specs.Prelude.{◌≡◌, [], None, Some, IfOk, OnOk, IsErrOf};
 ghost use Rattle.form_replay.specs.Replay.{script_turn};
 
+use crate::reply::reply_line;
 use line_engine::Lines;
 use line_spelling::LineFail;
 use replay_net::{Line, World};
-use report_text::reply_line;
 use script_text::script_line;
 use std::alloc::Global;
 use std::marker::Model;

@@ -1,12 +1,10 @@
-//! The lines of a world's replies, of what a peer holds, and of a stream's frames that are no messages.
+//! The lines of what a peer holds, and of a stream's frames that are no messages.
 //!
 //! A call fails where memory is wanting, and has then appended nothing, but for `put_frame_kind`.
 #![tactic(auto)]
 
 mod closing;
 mod frame;
-mod reply;
 
 pub use closing::held_lines;
 pub use frame::{end_line, frame_fault_line, put_frame_kind, turn_line};
-pub use reply::reply_line;

@@ -1,7 +1,7 @@
 //! The lines of replies.
 ghost use Rattle.std.specs.Prelude.{◌≡◌, ◌++◌, OnOk, OnErr, IfOk};
 ghost use Rattle.line_spelling.specs.Values.{behind_spaces};
-ghost use Rattle.report_text.specs.Reply.{kept_words, reply_line};
+ghost use Rattle.form_replay.specs.Reply.{kept_words, reply_line};
 
 use element_name::NoMemory;
 use replay_net::Reply;
