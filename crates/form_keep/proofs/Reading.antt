@@ -149,6 +149,7 @@ module _ (left now : Option (List ℕ)) (r : StepReader) (steps : List Step) (so
       told = told;
       ends = λ a b. sym (ap (end_at (is_cut input)) no_bad ∙ ap (λ (cut : Bool). end_at cut None) uncut);
       lists = λ a b. sym (all ∙ append-nil steps);
+      begins = λ e. absurd (cc e);
       at_end = λ e. so_far.at_end ended;
       read_fault = λ e. absurd (cc e);
     };
@@ -180,6 +181,7 @@ module _ (left now : Option (List ℕ)) (r : StepReader) (steps : List Step) (so
       told = told;
       ends = λ a b. sym (ap (end_at (is_cut input)) (bad_is ∙ ap (first_bad r.number) first.2 ∙ bad_number r.number first.0 first.1 first.3));
       lists = λ a b. sym (all ∙ append-nil steps);
+      begins = λ e. absurd (cc e);
       at_end = λ e. absurd (cc e);
       read_fault = λ e. absurd (cc e);
     };
@@ -202,6 +204,7 @@ module _ (left now : Option (List ℕ)) (r : StepReader) (steps : List Step) (so
       told = has;
       ends = λ a b. absurd (b refl);
       lists = λ a b. absurd (b refl);
+      begins = λ e. (good_steps (lines_of (is_cut input) (unread r ++ later)), sym steps_are);
       at_end = λ e. absurd (cc e);
       read_fault = λ e. absurd (cc e);
     };
@@ -237,6 +240,7 @@ module _ (left now : Option (List ℕ)) (r : StepReader) (steps : List Step) (so
         told = told;
         ends = λ a b. absurd (a refl);
         lists = λ a b. absurd (a refl);
+        begins = λ e. absurd (cc e);
         at_end = λ e. absurd (cc e);
         read_fault = λ e. (so_far.read, so_far.consumed, short, none_bad, sym lists_here);
       };
@@ -262,6 +266,7 @@ module _ (left now : Option (List ℕ)) (r : StepReader) (steps : List Step) (so
             told = told_read left then (so_far.read ++ chunk) consumed;
             ends = λ a b. sym (ap (end_at (is_cut bytes)) (ap (first_bad 1) lines ∙ none_bad) ∙ ap (λ (b : Bool). end_at b None) cut);
             lists = λ a b. sym (ap good_steps lines ∙ lists_here);
+            begins = λ e. absurd (cc e);
             at_end = λ e. absurd (cc e);
             read_fault = λ e. absurd (cc e);
           };

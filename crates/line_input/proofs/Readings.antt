@@ -53,54 +53,68 @@ module _ (l r : Option (List ℕ)) (steps : List Step) (status : Status) (input 
   reading : IsReadingStatus status
   reading = status_at (is_cut input) (first_bad 1 (input_lines input)) w status written
 
--- reading ended so that nothing is said
-untold : (l r : Option (List ℕ)) (input : List ℕ) (steps : List Step) → Told l input → ReadSteps l r input steps ends.NoMemory
-untold l r input steps told = record {
+-- reading ended for want of memory, and no step is told of
+untold : (l r : Option (List ℕ)) (input : List ℕ) (told_steps : List Step) → told_steps ≡ [] → Told l input → ReadSteps l r input told_steps ends.NoMemory
+untold l r input told_steps none told = record {
   told = told;
   ends = λ a b. absurd (b refl);
   lists = λ a b. absurd (b refl);
+  begins = λ e. (steps_of input, ap (λ (xs : List Step). xs ++ steps_of input) none);
   at_end = λ e. cc;
   read_fault = λ e. cc;
 }
 
-read_so : (l r : Option (List ℕ)) (steps : List Step) (status : Status) (input w : List ℕ) → RanLines step_line_turn step_line_closing [] steps l r None None status input w
-    → ReadSteps l r input steps (end_after status (length steps))
-read_so l r steps Done input w ran = record {
-  told = ran.told;
-  ends = λ a b. ended l r steps Done input w ran refl;
-  lists = λ a b. lists l r steps Done input w ran refl;
-  at_end = λ e. ran.at_end refl;
-  read_fault = λ e. cc;
-}
-read_so l r steps BadInput input w ran = record {
-  told = ran.told;
-  ends = λ a b. ended l r steps BadInput input w ran refl;
-  lists = λ a b. lists l r steps BadInput input w ran refl;
-  at_end = λ e. cc;
-  read_fault = λ e. cc;
-}
-read_so l r steps TooLong input w ran = record {
-  told = ran.told;
-  ends = λ a b. ended l r steps TooLong input w ran refl;
-  lists = λ a b. lists l r steps TooLong input w ran refl;
-  at_end = λ e. cc;
-  read_fault = λ e. cc;
-}
-read_so l r steps ReadFault input w ran = record {
-  told = ran.told;
-  ends = λ a b. absurd (a refl);
-  lists = λ a b. absurd (a refl);
-  at_end = λ e. cc;
-  read_fault = λ e. let f = ran.read_fault refl in (f.0, f.1, f.2, none_bad 1 [] (parts_of f.0) w f.3, f.4 ∙ world_is [] (whole_lines f.0));
-}
-read_so l r steps NoMemory input w ran = untold l r input steps ran.told
-read_so l r steps Usage input w ran = untold l r input steps ran.told
-read_so l r steps WriteFault input w ran = untold l r input steps ran.told
-read_so l r steps LinkFault input w ran = untold l r input steps ran.told
-read_so l r steps NotShown input w ran = untold l r input steps ran.told
-read_so l r steps DiskFault input w ran = untold l r input steps ran.told
-read_so l r steps BadStore input w ran = untold l r input steps ran.told
-read_so l r steps StoreFull input w ran = untold l r input steps ran.told
+-- the steps that are told of, by how reading ended: none for want of memory, and else those that were read
+record AreTold (read told : List Step) (end : InputEnd) : Type 0 where
+  none : end ≡ ends.NoMemory → told ≡ []
+  all : end ≢ ends.NoMemory → told ≡ read
+
+module _ (l r : Option (List ℕ)) (steps told_steps : List Step) where
+  all_told : (input : List ℕ) (end : InputEnd) → ReadSteps l r input steps end → told_steps ≡ steps → ReadSteps l r input told_steps end
+  all_told input end read same = subst (λ (xs : List Step). ReadSteps l r input xs end) (sym same) read
+
+  read_so : (status : Status) (input w : List ℕ) → RanLines step_line_turn step_line_closing [] steps l r None None status input w
+      → AreTold steps told_steps (end_after status (length steps)) → ReadSteps l r input told_steps (end_after status (length steps))
+  read_so Done input w ran are_told = all_told input ends.Whole (record {
+    told = ran.told;
+    ends = λ a b. ended l r steps Done input w ran refl;
+    lists = λ a b. lists l r steps Done input w ran refl;
+    begins = λ e. cc;
+    at_end = λ e. ran.at_end refl;
+    read_fault = λ e. cc;
+  }) (are_told.all (λ e. cc))
+  read_so BadInput input w ran are_told = all_told input (ends.BadLine (length steps + 1)) (record {
+    told = ran.told;
+    ends = λ a b. ended l r steps BadInput input w ran refl;
+    lists = λ a b. lists l r steps BadInput input w ran refl;
+    begins = λ e. cc;
+    at_end = λ e. cc;
+    read_fault = λ e. cc;
+  }) (are_told.all (λ e. cc))
+  read_so TooLong input w ran are_told = all_told input ends.TooLong (record {
+    told = ran.told;
+    ends = λ a b. ended l r steps TooLong input w ran refl;
+    lists = λ a b. lists l r steps TooLong input w ran refl;
+    begins = λ e. cc;
+    at_end = λ e. cc;
+    read_fault = λ e. cc;
+  }) (are_told.all (λ e. cc))
+  read_so ReadFault input w ran are_told = all_told input ends.ReadFault (record {
+    told = ran.told;
+    ends = λ a b. absurd (a refl);
+    lists = λ a b. absurd (a refl);
+    begins = λ e. cc;
+    at_end = λ e. cc;
+    read_fault = λ e. let f = ran.read_fault refl in (f.0, f.1, f.2, none_bad 1 [] (parts_of f.0) w f.3, f.4 ∙ world_is [] (whole_lines f.0));
+  }) (are_told.all (λ e. cc))
+  read_so NoMemory input w ran are_told = untold l r input told_steps (are_told.none refl) ran.told
+  read_so Usage input w ran are_told = untold l r input told_steps (are_told.none refl) ran.told
+  read_so WriteFault input w ran are_told = untold l r input told_steps (are_told.none refl) ran.told
+  read_so LinkFault input w ran are_told = untold l r input told_steps (are_told.none refl) ran.told
+  read_so NotShown input w ran are_told = untold l r input told_steps (are_told.none refl) ran.told
+  read_so DiskFault input w ran are_told = untold l r input told_steps (are_told.none refl) ran.told
+  read_so BadStore input w ran are_told = untold l r input told_steps (are_told.none refl) ran.told
+  read_so StoreFull input w ran are_told = untold l r input told_steps (are_told.none refl) ran.told
 
 -- ---- which statuses reading gives
 
@@ -131,9 +145,12 @@ module _ (l r : Option (List ℕ)) (first lines steps : List Step) (status : Sta
   pub gives_status : StatusCause 0 0 status WriteFault → IsReadingStatus status
   gives_status cause = is_reading l r steps status run.0 run.1 ran cause
 
-  pub gives_steps : (end : InputEnd) → end ≡ end_after status good → (input : List ℕ) × ReadSteps l r input steps end
-  gives_steps end is =
-      (run.0, subst (λ (e : InputEnd). ReadSteps l r run.0 steps e) (sym (is ∙ ap (end_after status) counted)) (read_so l r steps status run.0 run.1 ran))
+  pub gives_steps : (end : InputEnd) (told_steps : List Step) → end ≡ end_after status good → (end ≡ ends.NoMemory → told_steps ≡ []) → (end ≢ ends.NoMemory → told_steps ≡ steps)
+      → (input : List ℕ) × ReadSteps l r input told_steps end
+  gives_steps end told_steps is none all =
+      let at : end ≡ end_after status (length steps) = is ∙ ap (end_after status) counted in
+      let are_told : AreTold steps told_steps (end_after status (length steps)) = subst (AreTold steps told_steps) at (record { none = none; all = all }) in
+      (run.0, subst (ReadSteps l r run.0 told_steps) (sym at) (read_so l r steps told_steps status run.0 run.1 ran are_told))
 
 -- ---- causes
 

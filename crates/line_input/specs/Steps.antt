@@ -1,5 +1,6 @@
 -- The step lines of an input, and how it ends.
 use Rattle.std.specs.Prelude.{◌≡◌, ◌≢◌, ℕ, ◌+◌, ◌≤◌, Bool, true, List, [], ◌∷◌, Option, Some, None, length, if◌then◌else◌}
+use mathlib.Core.List.{IsPrefix}
 use Rattle.std.specs.Option.{option_map_or}
 use Rattle.std.specs.Io.KnownBytes.{Consumes, IsAtEnd}
 use Rattle.edit_io.specs.Causes.{next_count}
@@ -49,6 +50,8 @@ pub record ReadSteps (left_old left_new : Option (List ℕ)) (input : List ℕ) 
   -- unless the source failed or memory was wanting, they are those of the input
   pub ends : end ≢ ReadFault → end ≢ NoMemory → end ≡ end_of input
   pub lists : end ≢ ReadFault → end ≢ NoMemory → steps ≡ steps_of input
+  -- where memory was wanting, they are a beginning of those of the input
+  pub begins : end ≡ NoMemory → IsPrefix steps (steps_of input)
   -- a whole input was read to its end
   pub at_end : end ≡ Whole → IsAtEnd left_new
   -- where the source failed, the steps are those of the whole lines that were read, and none of these is bad

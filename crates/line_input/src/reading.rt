@@ -1,5 +1,5 @@
 //! The list of the steps that an input asks for.
-ghost use Rattle.std.specs.Prelude.{◌≡◌, ◌+◌, ◌^◌, ◌<◌, ℕ, List, [], ◌∷◌, ◌++◌, length, OnOk};
+ghost use Rattle.std.specs.Prelude.{◌≡◌, ◌≢◌, ◌+◌, ◌^◌, ◌<◌, ℕ, List, [], ◌∷◌, ◌++◌, length, OnOk};
 ghost use Rattle.line_engine.specs.Engine.{Reads};
 ghost use Rattle.line_input.specs.Steps.{ReadSteps, EndCause};
 ghost use Rattle.line_input.specs.Turn.{step_line_turn, step_line_closing, IsReadingStatus, end_after};
@@ -110,10 +110,21 @@ fn input_end(status: Status, good: usize) -> InputEnd
     }
 }
 
+// The steps that are told of. Where memory was wanting it isn't known which were read, and none is told.
+fn told_steps(alloc: Global, steps: Vec<Step>, end: InputEnd) -> Vec<Step>
+    ensures none { end ≡ InputEnd.NoMemory → result.items ≡ [] }
+    ensures all { end ≢ InputEnd.NoMemory → result.items ≡ steps.items }
+{
+    match end {
+        InputEnd::NoMemory => Vec::new(alloc),
+        InputEnd::Whole | InputEnd::BadLine(_) | InputEnd::TooLong | InputEnd::ReadFault => steps,
+    }
+}
+
 /// Reads the step lines that a source gives, and lists their steps up to where reading ends.
 ///
 /// It reads at most one byte more than [`MAX_INPUT`](line_engine::MAX_INPUT). It takes time in the bytes, and the
-/// memory of the steps, of which each takes some 320 bytes. Where memory is wanting nothing is said of the steps.
+/// memory of the steps, of which each takes some 320 bytes. Where memory is wanting it lists none.
 pub fn read_steps<S: Source>(alloc: Global, source: &mut S) -> StepInput
     ensures read { (input : List ℕ) × ReadSteps (S.left source.old) (S.left source.new) input result.steps.items result.end }
     ensures reads { Reads (S.left source.old) (S.left source.new) }
@@ -122,5 +133,6 @@ pub fn read_steps<S: Source>(alloc: Global, source: &mut S) -> StepInput
     let (lines, status) = run_world(alloc, StepLines::new(alloc), source, &mut Nowhere);
     let steps = lines.into_steps();
     let end = input_end(status, steps.len());
+    let steps = told_steps(alloc, steps, end);
     StepInput { steps, end }
 }

@@ -12,7 +12,8 @@ pub returns-clause-read : goal.returns-clause-read
 returns-clause-read g c =
     let v = c.into_steps-steps.result in
     let counted : c.len.result ≡ length v.items = omega (arith, v.ok.0) in
-    gives_steps _ _ _ _ _ _ _ c.new.ensures c.into_steps-steps.ensures counted c.run_world-lines.ensures.ran _ c.input_end-end.ensures
+    gives_steps _ _ _ _ _ _ _ c.new.ensures c.into_steps-steps.ensures counted c.run_world-lines.ensures.ran _ _ c.input_end-end.ensures
+    c.told_steps-steps.ensures.none c.told_steps-steps.ensures.all
 
 pub returns-clause-cause : goal.returns-clause-cause
 returns-clause-cause g c = gives_cause _ _ _ _ _ c.input_end-end.ensures c.run_world-lines.ensures.read_cause
