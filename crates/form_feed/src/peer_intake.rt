@@ -7,14 +7,13 @@ ghost use Rattle.form_feed.specs.Feed.{fed_output, part_from, peer_fed, feed_out
 
 use crate::feeding::feed_intake;
 use crate::intake::Intake;
-use crate::turn::{answer_frame, step_line};
+use crate::turn::answer_frame;
 use edit_frame::Frame;
 use edit_io::{Sink, Source};
 use element_name::NoMemory;
 use line_engine::Status;
 use peer_core::Peer;
-use peer_step::Step;
-use report_text::held_lines;
+use report_text::closing_lines_of;
 use std::alloc::Global;
 
 impl Intake for Peer {
@@ -28,8 +27,7 @@ impl Intake for Peer {
 
     // Appends the text that the peer shows, and what it holds.
     fn close(&mut self, alloc: Global, out: &mut Vec<u8>) -> Result<(), NoMemory> {
-        step_line(alloc, self, Step::Show, out)?;
-        held_lines(alloc, self, out)
+        closing_lines_of(alloc, self, out)
     }
 }
 

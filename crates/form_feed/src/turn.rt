@@ -9,19 +9,14 @@ ghost use Rattle.form_feed.specs.Turn.{settle_line, all_settle_steps, answer_lin
 use edit_frame::Frame;
 use edit_message::Message;
 use element_name::NoMemory;
+use line_write::answer_line;
 use peer_core::Peer;
 use peer_step::{Answer, Step};
 use report_text::{end_line, turn_line};
 use std::alloc::Global;
-use line_write::answer_line;
 
-/// Makes a step, and appends the line of its answer.
-pub(crate) fn step_line(
-    alloc: Global,
-    peer: &mut Peer,
-    step: Step,
-    out: &mut Vec<u8>,
-) -> Result<(), NoMemory>
+// Makes a step, and appends the line of its answer.
+fn step_line(alloc: Global, peer: &mut Peer, step: Step, out: &mut Vec<u8>) -> Result<(), NoMemory>
     ensures line { OnOk result (out.new.items ≡ out.old.items ++ answer_line None (answer_of peer.old step)) }
     ensures peer { OnOk result (peer.new ≡ peer_after peer.old step) }
 {

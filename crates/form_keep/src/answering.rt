@@ -16,12 +16,12 @@ use crate::stopped::Stopped;
 use edit_io::{OutFail, Sink, Source};
 use element_name::NoMemory;
 use line_engine::offer;
+use line_write::answer_line;
 use peer_disk::Disk;
 use peer_step::{Answer, Step};
 use peer_store::Store;
-use report_text::held_lines;
+use report_text::closing_lines;
 use std::alloc::Global;
-use line_write::answer_line;
 
 // Writes whole lines.
 fn write_lines<K: Sink>(sink: &mut K, lines: &[u8]) -> Result<(), Stopped>
@@ -56,7 +56,8 @@ fn answer_step<K: Sink, D: Disk>(
 ) -> Result<(), Stopped>
     requires gate { HasGate store.old (D.seen disk.old) }
     requires unspent { store.old.spent ≡ false }
-    ensures kept { OnOk result (AreKept store.old store.new (step ∷ []) (D.seen disk.old) (D.seen disk.new) (D.may_leave disk.old) (D.may_leave disk.new)) }
+    ensures kept { OnOk result (AreKept store.old store.new (step ∷ [])
+        (D.seen disk.old) (D.seen disk.new) (D.may_leave disk.old) (D.may_leave disk.new)) }
     ensures said { OnOk result (Appends (K.written sink.old) (K.written sink.new) (replies_from store.old.peer (step ∷ []))) }
     ensures gate { HasGate store.new (D.seen disk.new) }
     ensures stops { IfErr result (λ stopped. AnswerStops stopped store.old store.new step (K.written sink.old) (K.written sink.new)
@@ -79,10 +80,12 @@ pub(crate) fn answer_steps<S: Source, K: Sink, D: Disk>(
 ) -> Result<(), Stopped>
     requires gate { HasGate store.old (D.seen disk.old) }
     requires unspent { store.old.spent ≡ false }
-    ensures whole { OnOk result ((site : ℕ) (entry : Option (List ℕ)) → OpenedStore site entry store.old (D.seen disk.old) (D.may_leave disk.old)
+    ensures whole { OnOk result ((site : ℕ) (entry : Option (List ℕ))
+        → OpenedStore site entry store.old (D.seen disk.old) (D.may_leave disk.old)
         → ComesFor (closing_output (closing_lines store.new.peer)) site entry (S.left source.old) (S.left source.new)
         (K.written sink.old) (K.written sink.new) (D.seen disk.new) (D.may_leave disk.new)) }
-    ensures stops { IfErr result (λ stopped. (site : ℕ) (entry : Option (List ℕ)) → OpenedStore site entry store.old (D.seen disk.old) (D.may_leave disk.old)
+    ensures stops { IfErr result (λ stopped. (site : ℕ) (entry : Option (List ℕ))
+        → OpenedStore site entry store.old (D.seen disk.old) (D.may_leave disk.old)
         → ComesFor (stop_output stopped) site entry (S.left source.old) (S.left source.new)
         (K.written sink.old) (K.written sink.new) (D.seen disk.new) (D.may_leave disk.new)) }
     ensures gate { HasGate store.new (D.seen disk.new) }
@@ -113,7 +116,7 @@ pub(crate) fn closing_text<D: Disk>(
 {
     peer_store::laws::changing_steps();
     let answer = store.put(disk, Step::Show)?;
-    let mut lines = answer_text(alloc, answer)?;
-    held_lines(alloc, store.peer(), &mut lines)?;
+    let mut lines = Vec::new(alloc);
+    closing_lines(alloc, &answer, store.peer(), &mut lines)?;
     Ok(lines)
 }

@@ -1,7 +1,6 @@
 //! The lines of a report.
 ghost use Rattle.std.specs.Prelude.{◌≡◌, ◌++◌, OnOk, decimal};
 ghost use Rattle.peer_core.specs.After.{peer_after};
-ghost use Rattle.report_text.specs.Closing.{closing_lines};
 ghost use Rattle.report_run.specs.Report.{run_line, call_line};
 
 use element_name::NoMemory;
@@ -9,7 +8,6 @@ use itoa::Buffer;
 use line_write::{answer_line, put, put_number_word, step_text};
 use peer_core::Peer;
 use peer_step::Step;
-use report_text::held_lines;
 use std::alloc::Global;
 
 /// Appends the line that says how many steps a run has.
@@ -47,13 +45,4 @@ pub(crate) fn put_call(
     put(out, b" => ")?;
     let answer = peer.step(step)?;
     answer_line(alloc, None, &answer, out)
-}
-
-/// Appends the text that a peer shows, and what it holds.
-pub(crate) fn put_closing(alloc: Global, peer: &mut Peer, out: &mut Vec<u8>) -> Result<(), NoMemory>
-    ensures { OnOk result (out.new.items ≡ out.old.items ++ closing_lines peer.old) }
-{
-    let answer = peer.step(Step::Show)?;
-    answer_line(alloc, None, &answer, out)?;
-    held_lines(alloc, peer, out)
 }

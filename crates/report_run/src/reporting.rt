@@ -7,12 +7,13 @@ ghost use Rattle.report_text.specs.Closing.{closing_lines};
 ghost use Rattle.report_run.specs.Report.{call_line, call_lines, report, report_output};
 ghost use Rattle.report_run.specs.Telling.{Gathers, Tells, TellsCause};
 
-use crate::lines::{put_call, put_closing, put_run};
+use crate::lines::{put_call, put_run};
 use edit_io::Sink;
 use line_engine::{BATCH_BYTES, Status, say};
 use peer_core::Peer;
 use peer_lock::History;
 use peer_step::PackedStep;
+use report_text::closing_lines_of;
 use std::alloc::Global;
 
 // Offers lines to the sink, and empties the buffer.
@@ -49,7 +50,8 @@ fn tell_call<K: Sink>(
     out: &mut Vec<u8>,
     sink: &mut K,
 ) -> Result<(), Status>
-    ensures gathers { Gathers (K.written sink.old) (K.written sink.new) (out.old.items ++ call_line peer.old (call caller step.now)) out.new.items result }
+    ensures gathers { Gathers (K.written sink.old) (K.written sink.new)
+        (out.old.items ++ call_line peer.old (call caller step.now)) out.new.items result }
     ensures peer { OnOk result (peer.new ≡ peer_after peer.old step.now) }
     ensures cause { TellsCause (K.faults sink.old) (K.faults sink.new) result }
 {
@@ -70,7 +72,8 @@ fn tell_calls<K: Sink>(
     out: &mut Vec<u8>,
     sink: &mut K,
 ) -> Result<(), Status>
-    ensures gathers { Gathers (K.written sink.old) (K.written sink.new) (out.old.items ++ call_lines peer.old history.now) out.new.items result }
+    ensures gathers { Gathers (K.written sink.old) (K.written sink.new)
+        (out.old.items ++ call_lines peer.old history.now) out.new.items result }
     ensures peer { OnOk result (peer.new ≡ peer_after_run peer.old history.now) }
     ensures cause { TellsCause (K.faults sink.old) (K.faults sink.new) result }
 {
@@ -96,7 +99,7 @@ fn tell_closing<K: Sink>(
     ensures tells { Tells (K.written sink.old) (K.written sink.new) (out.old.items ++ closing_lines peer.old) result }
     ensures cause { TellsCause (K.faults sink.old) (K.faults sink.new) result }
 {
-    if let Err(_) = put_closing(alloc, peer, out) {
+    if let Err(_) = closing_lines_of(alloc, peer, out) {
         return Err(Status::NoMemory);
     }
     tell(out, sink)

@@ -1,15 +1,16 @@
-//! The lines of what a peer holds.
+//! The closing lines of a peer: the text that it shows, and what it holds.
 ghost use Rattle.std.specs.Prelude.{◌≡◌, ◌++◌, flat_map, OnOk, OnErr};
 ghost use Rattle.line_spelling.specs.Values.{behind_spaces};
-ghost use Rattle.peer_core.specs.Peer.{finds_no_room};
-ghost use Rattle.report_text.specs.Closing.{waiting_words, reason_words, waits_line, held_lines};
+ghost use Rattle.peer_core.specs.Peer.{text, finds_no_room};
+ghost use Rattle.report_text.specs.Closing.{waiting_words, reason_words, waits_line, held_lines, closing_lines};
 
 use coop_request::MAX_REQUESTS;
 use edit_message::Message;
 use element_name::NoMemory;
+use line_write::{answer_line, put, put_missing, put_name_word, put_number_word};
 use peer_core::Peer;
+use peer_step::{Answer, Step};
 use std::alloc::Global;
-use line_write::{put, put_missing, put_name_word, put_number_word};
 
 fn finds_no_room(peer: &Peer, message: &Message) -> bool
     ensures { result ≡ finds_no_room peer.now.journal message.now }
@@ -86,4 +87,27 @@ pub fn held_lines(alloc: Global, peer: &Peer, out: &mut Vec<u8>) -> Result<(), N
     put_each(&mut lines, peer)?;
     out.extend_from_slice(&lines)?;
     Ok(())
+}
+
+/// Appends the closing lines of a peer that was asked for its text and has answered so. Takes the time of writing the
+/// text, and that of [`held_lines`]. After a failure a part of them may be there.
+pub fn closing_lines(
+    alloc: Global,
+    shown: &Answer,
+    peer: &Peer,
+    out: &mut Vec<u8>,
+) -> Result<(), NoMemory>
+    requires { shown.now ≡ Answer.Shown (text peer.now) }
+    ensures { OnOk result (out.new.items ≡ out.old.items ++ closing_lines peer.now) }
+{
+    answer_line(alloc, None, shown, out)?;
+    held_lines(alloc, peer, out)
+}
+
+/// Asks a peer for its text, and appends its closing lines, as [`closing_lines`] does.
+pub fn closing_lines_of(alloc: Global, peer: &mut Peer, out: &mut Vec<u8>) -> Result<(), NoMemory>
+    ensures { OnOk result (out.new.items ≡ out.old.items ++ closing_lines peer.old) }
+{
+    let answer = peer.step(Step::Show)?;
+    closing_lines(alloc, &answer, peer, out)
 }

@@ -6,8 +6,8 @@ ghost use Rattle.report_text.specs.Frame.{request_fault_text, frame_kind_words, 
 use coop_request::RequestFault;
 use edit_frame::{FrameFault, FrameKind};
 use element_name::NoMemory;
-use std::alloc::Global;
 use line_write::{put, put_number_word};
+use std::alloc::Global;
 
 fn put_request_fault(line: &mut Vec<u8>, fault: RequestFault) -> Result<(), NoMemory>
     ensures { OnOk result (line.new.items ≡ line.old.items ++ request_fault_text fault) }

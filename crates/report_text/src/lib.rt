@@ -1,10 +1,10 @@
 //! The lines of what a peer holds, and of a stream's frames that are no messages.
 //!
-//! A call fails where memory is wanting, and has then appended nothing, but for `put_frame_kind`.
+//! A call fails where memory is wanting, and has then appended nothing, but for `put_frame_kind` and the closing lines.
 #![tactic(auto)]
 
 mod closing;
 mod frame;
 
-pub use closing::held_lines;
+pub use closing::{closing_lines, closing_lines_of, held_lines};
 pub use frame::{end_line, frame_fault_line, put_frame_kind, turn_line};
