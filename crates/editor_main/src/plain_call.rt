@@ -42,7 +42,8 @@ pub fn plain<S: Source, K: Sink>(
     sink: &mut K,
 ) -> Status
     ensures ran { (input : List ℕ) × (written : List ℕ) ×
-        RanPlain (command_of words.now) (S.left source.old) (S.left source.new) (K.written sink.old) (K.written sink.new) result input written }
+        RanPlain (command_of words.now) (S.left source.old) (S.left source.new)
+        (K.written sink.old) (K.written sink.new) result input written }
     ensures reads { Reads (S.left source.old) (S.left source.new) }
     ensures read_cause { StatusCause (S.faults source.old) (S.faults source.new) result Status.ReadFault }
     ensures write_cause { StatusCause (K.faults sink.old) (K.faults sink.new) result Status.WriteFault }

@@ -55,9 +55,10 @@ pub fn stored<S: Source, K: Sink, D: Disk>(
     sink: &mut K,
     disk: &mut D,
 ) -> Status
-    ensures kept { IfSome (keep_site_of words.now) (λ site. (input : List ℕ) × RanKeep site (D.seen disk.old) (S.left source.old) (S.left source.new)
-        (K.written sink.old) (K.written sink.new) (D.seen disk.new) (D.may_leave disk.new) result input) }
-    ensures usage { IsNone (keep_site_of words.now) → ((written : List ℕ) × Says (K.written sink.old) (K.written sink.new) result usage_output written)
+    ensures kept { IfSome (keep_site_of words.now) (λ site. (input : List ℕ) × RanKeep site (D.seen disk.old)
+        (S.left source.old) (S.left source.new) (K.written sink.old) (K.written sink.new) (D.seen disk.new) (D.may_leave disk.new) result input) }
+    ensures usage { IsNone (keep_site_of words.now) →
+        ((written : List ℕ) × Says (K.written sink.old) (K.written sink.new) result usage_output written)
         × (source.new ≡ source.old) × (disk.new ≡ disk.old) }
     ensures reads { Reads (S.left source.old) (S.left source.new) }
     ensures read_cause { StatusCause (S.faults source.old) (S.faults source.new) result Status.ReadFault }

@@ -1,5 +1,5 @@
 -- How the steps of a source's lines are read one by one.
-use Rattle.std.specs.Prelude.{◌≡◌, ◌⊎◌, ⊤, ℕ, ◌+◌, ◌-◌, ◌<◌, ◌≤◌, Bool, true, false, List, [], ◌++◌, length, take, drop, slice_index, Option}
+use Rattle.std.specs.Prelude.{◌≡◌, ◌⊎◌, ⊤, ℕ, ◌+◌, ◌-◌, ◌<◌, ◌≤◌, Bool, true, false, List, [], ◌∷◌, ◌++◌, length, take, drop, slice_index, Option}
 use Rattle.std.specs.Io.KnownBytes.{Consumes, IsAtEnd, Keeps}
 use Rattle.line_spelling.specs.declared.signs.TheConstants.{LINE_END}
 use Rattle.line_engine.specs.declared.limits.TheConstants.{MAX_INPUT}
@@ -67,6 +67,18 @@ pub record StepsEnd (left_old left_now : Option (List ℕ)) (steps : List Step) 
   pub first : steps_of input ≡ steps ++ others
   pub reads : Reads left_old left_now
 
+-- whatever was read of a source so far, its steps stay the same over a call
+abbrev pub StaysRead : Option (List ℕ) → Option (List ℕ) → StepReader → StepReader → Type 0
+StaysRead old now r r' = (left : Option (List ℕ)) (steps : List Step) → StepsRead left old r steps → StepsRead left now r' steps
+
+-- or it has this one step more
+abbrev pub ReadsStep : Option (List ℕ) → Option (List ℕ) → StepReader → StepReader → Step → Type 0
+ReadsStep old now r r' step = (left : Option (List ℕ)) (steps : List Step) → StepsRead left old r steps → StepsRead left now r' (steps ++ step ∷ [])
+
+-- or its steps are all, and reading has ended so
+abbrev pub EndsSteps : Option (List ℕ) → Option (List ℕ) → StepReader → InputEnd → Type 0
+EndsSteps old now r end = (left : Option (List ℕ)) (steps : List Step) → StepsRead left old r steps → StepsEnd left now steps end
+
 -- reading step lines stopped so
 abbrev pub StepsStop : Option (List ℕ) → Option (List ℕ) → List Step → Stopped → Type 0
 StepsStop old now steps (BadLine number) = StepsEnd old now steps (ends.BadLine number)
@@ -77,3 +89,7 @@ StepsStop old now steps WriteFault = ⊥
 StepsStop old now steps DiskFault = ⊥
 StepsStop old now steps (BadStore offset) = ⊥
 StepsStop old now steps StoreFull = ⊥
+
+-- whatever was read of a source so far, reading has stopped behind it
+abbrev pub StopsSteps : Option (List ℕ) → Option (List ℕ) → StepReader → Stopped → Type 0
+StopsSteps old now r stopped = (left : Option (List ℕ)) (steps : List Step) → StepsRead left old r steps → StepsStop left now steps stopped

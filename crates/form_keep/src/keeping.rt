@@ -33,7 +33,8 @@ fn say_numbered<K: Sink>(
     number: u64,
     status: Status,
 ) -> Status
-    ensures says { (written : List ℕ) × Says (K.written sink.old) (K.written sink.new) result (record { written = line_of (words.now ++ decimal number); status = status }) written }
+    ensures says { (written : List ℕ) × Says (K.written sink.old) (K.written sink.new) result
+        (record { written = line_of (words.now ++ decimal number); status = status }) written }
     ensures cause { status ≢ Status.WriteFault → StatusCause (K.faults sink.old) (K.faults sink.new) result Status.WriteFault }
 {
     match numbered_line(alloc, words, number) {
@@ -80,10 +81,10 @@ fn keep_steps<S: Source, K: Sink, D: Disk>(
     sink: &mut K,
     disk: &mut D,
 ) -> Result<Vec<u8>, Stopped>
-    ensures whole { IfOk result (λ closing. ComesFor (closing_output closing.items) site (D.seen disk.old) (S.left source.old) (S.left source.new)
-        (K.written sink.old) (K.written sink.new) (D.seen disk.new) (D.may_leave disk.new)) }
-    ensures stops { IfErr result (λ stopped. ComesFor (stop_output stopped) site (D.seen disk.old) (S.left source.old) (S.left source.new)
-        (K.written sink.old) (K.written sink.new) (D.seen disk.new) (D.may_leave disk.new)) }
+    ensures whole { IfOk result (λ closing. ComesFor (closing_output closing.items) site (D.seen disk.old)
+        (S.left source.old) (S.left source.new) (K.written sink.old) (K.written sink.new) (D.seen disk.new) (D.may_leave disk.new)) }
+    ensures stops { IfErr result (λ stopped. ComesFor (stop_output stopped) site (D.seen disk.old)
+        (S.left source.old) (S.left source.new) (K.written sink.old) (K.written sink.new) (D.seen disk.new) (D.may_leave disk.new)) }
     ensures reads { Reads (S.left source.old) (S.left source.new) }
     ensures read_cause { ReadCause (S.faults source.old) (S.faults source.new) result }
     ensures write_cause { WriteCause (K.faults sink.old) (K.faults sink.new) result }

@@ -1,5 +1,6 @@
 //! The steps of a source's lines, one by one.
-ghost use Rattle.std.specs.Prelude.{◌≡◌, ℕ, ◌+◌, ◌<◌, ◌≤◌, List, [], ◌∷◌, ◌++◌, length, take, drop, false, IfOk, IfErr, OnOk, IfSome, IsNone};
+ghost use Rattle.std.specs.Prelude.{◌≡◌, ℕ, ◌+◌, ◌<◌, ◌≤◌, List, [], ◌∷◌, ◌++◌, length, take, drop, false};
+ghost use Rattle.std.specs.Prelude.{IfOk, IfErr, OnOk, IfSome, IsNone};
 ghost use Rattle.std.specs.declared.option.Option.{Option};
 ghost use Rattle.line_engine.specs.declared.limits.TheConstants.{MAX_CHUNK, MAX_INPUT};
 ghost use Rattle.form_keep.specs.Stopping.{ReadCause};
@@ -8,10 +9,10 @@ use crate::stopped::Stopped;
 use edit_io::Source;
 use element_name::NoMemory;
 use line_engine::{MAX_CHUNK, MAX_INPUT, drop_prefix, fetch, find_line_end, wanted};
+use line_read::step_line;
 use line_spelling::{LineFail, MAX_LINE};
 use peer_step::Step;
 use std::alloc::Global;
-use line_read::step_line;
 
 /// The step lines of a source, of which one after another is read.
 #[derive(Drop)]
@@ -33,7 +34,7 @@ pub(crate) struct StepReader {
 }
 
 impl StepReader {
-    ghost use Rattle.form_keep.specs.Reader.{unread, to_pass, IsLine, RefillStops, StepsRead, StepsEnd, StepsStop};
+    ghost use Rattle.form_keep.specs.Reader.{unread, to_pass, IsLine, RefillStops, StepsRead, StaysRead, ReadsStep, EndsSteps, StopsSteps};
     ghost use Rattle.line_input.specs.declared.reading.InputEnd.{InputEnd};
 
     /// A reader of a source that wasn't read yet.
@@ -72,7 +73,7 @@ impl StepReader {
     // Reads the next bytes, or finds that there are none.
     fn refill<S: Source>(&mut self, source: &mut S) -> Result<(), Stopped>
         requires { self.old.ended ≡ false }
-        ensures read { OnOk result ((left : Option (List ℕ)) (steps : List Step) → StepsRead left (S.left source.old) self.old steps → StepsRead left (S.left source.new) self.new steps) }
+        ensures read { OnOk result (StaysRead (S.left source.old) (S.left source.new) self.old self.new) }
         ensures budget { OnOk result (to_pass self.new ≡ to_pass self.old) }
         ensures more { OnOk result (self.new.ended ≡ false → self.old.count < self.new.count) }
         ensures stops { IfErr result (λ stopped. RefillStops stopped self.old.count (S.left source.old) (S.left source.new)) }
@@ -96,9 +97,9 @@ impl StepReader {
     // How long the next line is. What is too long for one counts as one, and what is left at the end.
     fn line_len<S: Source>(&mut self, source: &mut S) -> Result<usize, Stopped>
         ensures line { IfOk result (λ len. IsLine self.new len) }
-        ensures read { OnOk result ((left : Option (List ℕ)) (steps : List Step) → StepsRead left (S.left source.old) self.old steps → StepsRead left (S.left source.new) self.new steps) }
+        ensures read { OnOk result (StaysRead (S.left source.old) (S.left source.new) self.old self.new) }
         ensures budget { OnOk result (to_pass self.new ≡ to_pass self.old) }
-        ensures stops { IfErr result (λ stopped. (left : Option (List ℕ)) (steps : List Step) → StepsRead left (S.left source.old) self.old steps → StepsStop left (S.left source.new) steps stopped) }
+        ensures stops { IfErr result (StopsSteps (S.left source.old) (S.left source.new) self.old) }
         ensures cause { ReadCause (S.faults source.old) (S.faults source.new) result }
     {
         'chunks: loop {
@@ -133,10 +134,10 @@ impl StepReader {
         alloc: Global,
         source: &mut S,
     ) -> Result<Option<Step>, Stopped>
-        ensures some { IfOk result (λ found. IfSome found (λ step. (left : Option (List ℕ)) (steps : List Step) → StepsRead left (S.left source.old) self.old steps → StepsRead left (S.left source.new) self.new (steps ++ step ∷ []))) }
+        ensures some { IfOk result (λ found. IfSome found (ReadsStep (S.left source.old) (S.left source.new) self.old self.new)) }
         ensures smaller { IfOk result (λ found. IfSome found (λ step. to_pass self.new < to_pass self.old)) }
-        ensures none { IfOk result (λ found. IsNone found → (left : Option (List ℕ)) (steps : List Step) → StepsRead left (S.left source.old) self.old steps → StepsEnd left (S.left source.new) steps InputEnd.Whole) }
-        ensures stops { IfErr result (λ stopped. (left : Option (List ℕ)) (steps : List Step) → StepsRead left (S.left source.old) self.old steps → StepsStop left (S.left source.new) steps stopped) }
+        ensures none { IfOk result (λ found. IsNone found → EndsSteps (S.left source.old) (S.left source.new) self.old InputEnd.Whole) }
+        ensures stops { IfErr result (StopsSteps (S.left source.old) (S.left source.new) self.old) }
         ensures cause { ReadCause (S.faults source.old) (S.faults source.new) result }
     {
         let len = self.line_len(source)?;

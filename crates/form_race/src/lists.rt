@@ -32,7 +32,11 @@ impl Model for WorkLists {
 
     ghost view = { λ l. record { edits = l.edits.items; arrivals = l.arrivals.items; operations = l.operations.items } };
 
-    ghost invariant = { λ l. spec.step_count (record { edits = l.edits.items; arrivals = l.arrivals.items; operations = l.operations.items }) ≤ MAX_RUN };
+    ghost invariant = { λ l. spec.step_count (record {
+      edits = l.edits.items;
+      arrivals = l.arrivals.items;
+      operations = l.operations.items;
+    }) ≤ MAX_RUN };
 }
 
 impl WorkLists {

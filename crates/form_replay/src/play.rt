@@ -41,7 +41,9 @@ fn open(alloc: Global, line: &[u8]) -> Result<World, LineFail>
 {
     match script_line(alloc, line, true, 0)? {
         Line::Peers(count) => World::new(alloc, count).or(Err(LineFail::NoMemory)),
-        _ => Err(LineFail::Bad),
+        Line::Local(_, _) | Line::Give { .. } | Line::Hand(_, _) | Line::StateOf(_, _) => {
+            Err(LineFail::Bad)
+        }
     }
 }
 
@@ -49,7 +51,8 @@ fn open(alloc: Global, line: &[u8]) -> Result<World, LineFail>
 fn play(alloc: Global, world: &mut World, line: &[u8], out: &mut Vec<u8>) -> Result<(), LineFail>
     requires { out.old.items ≡ [] }
     ensures ok { OnOk result (script_turn (Some world.old) line.now ≡ Some (record { reply = out.new.items; world = Some world.new })) }
-    ensures bad { IsErrOf result LineFail.Bad → (script_turn (Some world.old) line.now ≡ None) × (world.new ≡ world.old) × (out.new.items ≡ []) }
+    ensures bad { IsErrOf result LineFail.Bad →
+        (script_turn (Some world.old) line.now ≡ None) × (world.new ≡ world.old) × (out.new.items ≡ []) }
 {
     let line = script_line(alloc, line, false, world.peers())?;
     let Ok(reply) = world.line(line) else {

@@ -4,10 +4,10 @@ ghost use Rattle.line_spelling.specs.Values.{behind_spaces};
 ghost use Rattle.form_replay.specs.Reply.{kept_words, reply_line};
 
 use element_name::NoMemory;
+use line_write::{answer_line, put, put_number_word, put_state};
 use replay_net::Reply;
 use request_state::State;
 use std::alloc::Global;
-use line_write::{answer_line, put, put_number_word, put_state};
 
 // Appends the words of a state that is kept, each behind a space.
 fn put_kept(line: &mut Vec<u8>, state: Option<State>) -> Result<(), NoMemory>

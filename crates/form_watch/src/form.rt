@@ -11,12 +11,12 @@ use crate::telling::{tell_bad_line, tell_watched};
 use crate::watching::watch;
 use edit_io::{Sink, Source};
 use line_engine::{Status, say};
+use line_input::{InputEnd, StepInput, read_steps};
 use peer_step::Step;
 use race_run::Gate;
 use std::alloc::Global;
 use std::sync::Wait;
 use std::thread::Threads;
-use line_input::{InputEnd, StepInput, read_steps};
 
 // How the input of a watch ends, by how many steps were read and how reading ended.
 fn watch_end(steps: usize, end: InputEnd) -> InputEnd

@@ -3,8 +3,8 @@ ghost use Rattle.std.specs.Prelude.{◌≡◌, ◌++◌, OnOk};
 ghost use Rattle.form_watch.specs.Reads.{page_line};
 
 use element_name::NoMemory;
-use screen_read::Page;
 use line_write::{put, put_number_word, put_shown};
+use screen_read::Page;
 
 /// Appends the line of a page that was read.
 pub(crate) fn put_page(page: &Page, out: &mut Vec<u8>) -> Result<(), NoMemory>

@@ -67,7 +67,8 @@ pub(crate) fn tell_watched<K: Sink>(
 ) -> Status
     ensures says { (written : List ℕ) ×
         Says (K.written sink.old) (K.written sink.new) result
-        (done_with (report site watched.now.history ++ flat_map page_line (map (told_page watched.now.newest) watched.now.pages.items))) written }
+        (done_with (report site watched.now.history
+        ++ flat_map page_line (map (told_page watched.now.newest) watched.now.pages.items))) written }
     ensures cause { StatusCause (K.faults sink.old) (K.faults sink.new) result Status.WriteFault }
 {
     match report(alloc, site, &watched.history, sink) {

@@ -8,11 +8,11 @@ use crate::nowhere::Nowhere;
 use edit_io::Source;
 use element_name::NoMemory;
 use line_engine::{Lines, Status, run_world};
+use line_read::step_line;
 use line_spelling::LineFail;
 use peer_step::Step;
 use std::alloc::Global;
 use std::marker::Model;
-use line_read::step_line;
 
 /// How reading step lines ended.
 #[derive(Clone, Copy, Debug, PartialEq, Eq)]

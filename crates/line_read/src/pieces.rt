@@ -5,8 +5,8 @@ ghost use Rattle.line_read.specs.Pieces.{escape_byte, unescaped_bytes, read_piec
 
 use coop_request::Piece;
 use element_name::NoMemory;
-use std::alloc::Global;
 use line_spelling::{BACKSLASH, LINE_END, LINE_END_LETTER, SPACE, SPACE_LETTER};
+use std::alloc::Global;
 
 // The byte that `\` and this byte stand for.
 fn escape_byte(b: u8) -> Option<u8>

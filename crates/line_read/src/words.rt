@@ -6,8 +6,8 @@ ghost use Rattle.line_read.specs.Words.{is_line, parts, words, are_none, is_alon
 
 use bstr::ByteSlice;
 use element_name::NoMemory;
-use std::alloc::{AllocError, Global};
 use line_spelling::{LINE_END, MAX_LINE, SPACE};
+use std::alloc::{AllocError, Global};
 
 fn is_text(bytes: &[u8]) -> bool
     ensures { result ≡ is_utf8 bytes.now }

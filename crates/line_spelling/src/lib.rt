@@ -6,4 +6,6 @@ mod line;
 mod signs;
 
 pub use line::{LineFail, MAX_LINE};
-pub use signs::{BACKSLASH, COMMA, GROUP_SIGN, LINE_END, LINE_END_LETTER, POINT, SPACE, SPACE_LETTER};
+pub use signs::{
+    BACKSLASH, COMMA, GROUP_SIGN, LINE_END, LINE_END_LETTER, POINT, SPACE, SPACE_LETTER,
+};

@@ -91,7 +91,8 @@ fn race_lists<R: Threads + Wait + Sync, G: Gate + Sync>(
             ensures { IsSame zero result.0 × Works zero.view result.0.view edits.entry.now result.1 }
         { work(rt, alloc, &shared, zero, edits, gate) },
         || -> ((Pass, Ended), (Pass, Ended))
-            requires { IsSync R.row × IsSync G.row × (one.table ≡ shared) × (two.table ≡ shared) × (length arrivals.now ≤ MAX_RUN) × (length operations.now ≤ MAX_RUN) }
+            requires { IsSync R.row × IsSync G.row × (one.table ≡ shared) × (two.table ≡ shared)
+                × (length arrivals.now ≤ MAX_RUN) × (length operations.now ≤ MAX_RUN) }
             ensures one { IsSame one result.0.0 × Works one.view result.0.0.view arrivals.entry.now result.0.1 }
             ensures two { IsSame two result.1.0 × Works two.view result.1.0.view operations.entry.now result.1.1 }
         { work_beside(rt, alloc, &shared, one, two, arrivals, operations, gate) },

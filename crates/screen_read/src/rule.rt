@@ -1,6 +1,7 @@
 //! The rule of a board, and the names of its steps.
 ghost use Rattle.std.specs.Prelude.{[]};
-ghost use Rattle.screen_read.specs.Rule.{IsOneBoard, opener, with_reader, reader_of, note, told_by, takes_slot, puts_page, looks_middle, fetches_page, settles};
+ghost use Rattle.screen_read.specs.Rule.{IsOneBoard, opener, with_reader, reader_of, note, told_by};
+ghost use Rattle.screen_read.specs.Rule.{takes_slot, puts_page, looks_middle, fetches_page, settles};
 
 use crate::page::Page;
 use crate::view::BoardView;

@@ -35,7 +35,8 @@ impl Model for PageWriter {
 
     ghost view = { λ w. board_pages w.seat.table_id w.seat.me.0.seen };
 
-    ghost invariant = { λ w. (w.seat.table_id ≡ (arc_value w.board).table.shared.table_id) × IsWriterSeat w.seat.me w.slot × IsNewest w.seat.me.0.seen w.newest };
+    ghost invariant = { λ w. (w.seat.table_id ≡ (arc_value w.board).table.shared.table_id)
+        × IsWriterSeat w.seat.me w.slot × IsNewest w.seat.me.0.seen w.newest };
 }
 
 /// The two ends of a new board, which begins with this page.

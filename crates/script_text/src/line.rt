@@ -2,18 +2,19 @@
 ghost use Rattle.std.specs.Prelude.{◌≡◌, IfOk, IsErrOf, Some, None, IsTrue, true, false};
 ghost use Rattle.replay_net.specs.Line.{is_opening, is_world_line};
 ghost use Rattle.line_read.specs.Words.{bytes_of};
-ghost use Rattle.script_text.specs.Line.{read_own, read_local, read_give, read_hand, read_look, read_state, read_later, one_count, read_first, script_line};
+ghost use Rattle.script_text.specs.Line.{read_own, read_local, read_give, read_hand, read_look, read_state, read_later};
+ghost use Rattle.script_text.specs.Line.{one_count, read_first, script_line};
 
 use crate::peers::{one_peer, read_count, read_peer};
 use element_name::NoMemory;
-use line_spelling::LineFail;
-use peer_step::Step;
-use replay_net::{Line, MAX_PEERS};
-use std::alloc::Global;
 use line_read::{
     is_alone, is_line, read_local_edit, read_message, read_name, read_operation, read_wide,
     words_of,
 };
+use line_spelling::LineFail;
+use peer_step::Step;
+use replay_net::{Line, MAX_PEERS};
+use std::alloc::Global;
 
 // A step of a peer's own.
 #[tactic(auto, unfolding(crate::specs::Line::read_own))]
