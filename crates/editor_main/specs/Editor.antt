@@ -1,5 +1,5 @@
 -- What the top call does that may start threads and talk to other programs.
-use Rattle.std.specs.Prelude.{◌≡◌, ℕ, List, Option, Some, None}
+use Rattle.std.specs.Prelude.{◌≡◌, ℕ, List, Option, Some}
 use Rattle.line_engine.specs.declared.status.Status.{Status}
 use Rattle.line_engine.specs.declared.status.Status.TheVariants.{ReadFault, WriteFault}
 use Rattle.line_engine.specs.Engine.{StatusCause}
@@ -11,9 +11,8 @@ use Rattle.line_input.specs.declared.reading.InputEnd.{InputEnd}
 use Rattle.line_input.specs.Steps.{ReadSteps, EndCause}
 use Rattle.form_link.specs.Report.{SinkCause}
 use Rattle.form_link.specs.Form.{DoorState, Serves, Dials, RunEnds, RanOrNot, HasLinkCause}
-use Rattle.editor_main.specs.declared.command.ConcurrentCommand.{ConcurrentCommand}
-use Rattle.editor_main.specs.declared.command.ConcurrentCommand.TheVariants.{Race, Serve, Dial, Watch}
-use Rattle.editor_main.specs.Command.{command_of}
+use Rattle.editor_main.specs.declared.command.Command.{Command}
+use Rattle.editor_main.specs.declared.command.Command.TheVariants.{Race, Serve, Dial, Watch}
 use Rattle.editor_main.specs.Plain.{RanPlain}
 
 -- a source, or a sink: what it tells of its bytes, and its count of faults
@@ -54,18 +53,18 @@ pub record RanWatch {L : Type 0} (site reads : ℕ) (source source' sink sink' :
   pub write_cause : StatusCause sink.faults sink'.faults status WriteFault
   pub door_is : door' ≡ door
 
--- what the top call does for these words, by the command that they name in which others take part
+-- what the top call does for a command: what the plain call does, where no threads and no other programs take part
 abbrev pub EditorEnds : {L : Type 0} → (L → Option (List (List ℕ))) → (L → Option (List (List ℕ))) → (L → ℕ) → (L → ℕ)
-    → List (List ℕ) → Option ConcurrentCommand → StreamState → StreamState → StreamState → StreamState → DoorState L → DoorState L → Status → Type 0
-EditorEnds got sent faults closes words None source source' sink sink' door door' status =
-    ((input : List ℕ) × (written : List ℕ) × RanPlain (command_of words) source.bytes source'.bytes sink.bytes sink'.bytes status input written)
-    × AsksNoDoor source source' sink sink' door door' status
-EditorEnds got sent faults closes words (Some (Race site)) source source' sink sink' door door' status =
+    → Option Command → StreamState → StreamState → StreamState → StreamState → DoorState L → DoorState L → Status → Type 0
+EditorEnds got sent faults closes (Some (Race site)) source source' sink sink' door door' status =
     ((input : List ℕ) × (written : List ℕ) × (run : List Call) × RanRace site source.bytes source'.bytes sink.bytes sink'.bytes status input written run)
     × AsksNoDoor source source' sink sink' door door' status
-EditorEnds got sent faults closes words (Some (Serve site port links)) source source' sink sink' door door' status =
+EditorEnds got sent faults closes (Some (Serve site port links)) source source' sink sink' door door' status =
     RanLinks (λ end steps. Serves got sent faults closes site links steps door door') site source source' sink sink' door door' status
-EditorEnds got sent faults closes words (Some (Dial site port rounds)) source source' sink sink' door door' status =
+EditorEnds got sent faults closes (Some (Dial site port rounds)) source source' sink sink' door door' status =
     RanLinks (λ end steps. Dials got sent faults closes site rounds end steps door door') site source source' sink sink' door door' status
-EditorEnds got sent faults closes words (Some (Watch site reads)) source source' sink sink' door door' status =
+EditorEnds got sent faults closes (Some (Watch site reads)) source source' sink sink' door door' status =
     RanWatch site reads source source' sink sink' door door' status
+EditorEnds got sent faults closes command source source' sink sink' door door' status =
+    ((input : List ℕ) × (written : List ℕ) × RanPlain command source.bytes source'.bytes sink.bytes sink'.bytes status input written)
+    × AsksNoDoor source source' sink sink' door door' status

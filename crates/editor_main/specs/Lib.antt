@@ -1,5 +1,5 @@
+pub mod Forms
 pub mod Command
-pub mod Concurrent
 pub mod Plain
 pub mod Stored
 pub mod Editor

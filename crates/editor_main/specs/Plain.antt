@@ -1,11 +1,10 @@
 -- What the top call writes.
-use Rattle.std.specs.Prelude.{◌≡◌, ℕ, ◌≤◌, Bool, true, false, List, Option, Some, None, length, codes}
+use Rattle.std.specs.Prelude.{◌≡◌, ℕ, ◌≤◌, Bool, true, false, List, Option, Some, None, length}
 use Rattle.std.specs.Io.KnownBytes.{Appends, Consumes, IsAtEnd, Keeps}
 use Rattle.line_engine.specs.declared.limits.TheConstants.{MAX_INPUT}
 use Rattle.line_engine.specs.declared.status.Status.{Status}
 use Rattle.line_engine.specs.declared.status.Status.TheVariants.{Done, Usage, ReadFault}
 use Rattle.line_engine.specs.Output.{Output, Ends}
-use Rattle.line_spelling.specs.Line.{line_of}
 use Rattle.line_engine.specs.Engine.{Told}
 use Rattle.form_replay.specs.Replay.{replay_output, replay_part}
 use Rattle.form_replay.specs.Headline.{Headline}
@@ -17,11 +16,9 @@ use Rattle.edit_make.specs.Schedule.{made_world}
 use Rattle.edit_make.specs.Summary.{summary_text}
 use Rattle.editor_main.specs.declared.command.Command.{Command}
 use Rattle.editor_main.specs.declared.command.Command.TheVariants.{Replay, Feed, Make, Certify, Audit}
+use Rattle.editor_main.specs.Forms.{usage_line}
 
-abbrev pub usage_line : List ℕ
-usage_line = line_of (codes "usage: replay | feed SITE | make SEED EDITS | race SITE | serve SITE PORT LINKS | dial SITE PORT ROUNDS | watch SITE READS | certify SITE | audit | keep SITE FILE")
-
--- what is written where the words name no command, and the status
+-- what is written where the words name no command of a call, and the status
 abbrev pub usage_output : Output
 usage_output = record { written = usage_line; status = Usage }
 
@@ -29,32 +26,30 @@ usage_output = record { written = usage_line; status = Usage }
 abbrev pub make_output : ℕ → ℕ → Output
 make_output seed edits = record { written = summary_text seed edits (made_world seed edits); status = Done }
 
--- what a command writes of an input, and the status; where there is none, the usage line
+-- what a command writes of an input, and the status; where it is one of another call, or there is none, the usage line
 abbrev pub plain_output : Option Command → List ℕ → Output
 plain_output (Some Replay) input = replay_output input
 plain_output (Some (Feed site)) input = feed_output site input
 plain_output (Some (Make seed edits)) input = make_output seed edits
 plain_output (Some (Certify site)) input = certify_output site input
 plain_output (Some Audit) input = audit_output input
-plain_output None input = usage_output
+plain_output command input = usage_output
 
 -- what a command writes of bytes after which reading fails; none where it reads nothing or they have a fault
 abbrev pub plain_part : Option Command → List ℕ → Option (List ℕ)
 plain_part (Some Replay) bytes = replay_part bytes
 plain_part (Some (Feed site)) bytes = feed_part site bytes
-plain_part (Some (Make seed edits)) bytes = None
 plain_part (Some (Certify site)) bytes = certify_part bytes
 plain_part (Some Audit) bytes = audit_part bytes
-plain_part None bytes = None
+plain_part command bytes = None
 
 -- whether a command reads its input
 abbrev pub is_reader : Option Command → Bool
 is_reader (Some Replay) = true
 is_reader (Some (Feed site)) = true
-is_reader (Some (Make seed edits)) = false
 is_reader (Some (Certify site)) = true
 is_reader (Some Audit) = true
-is_reader None = false
+is_reader command = false
 
 -- A top call over a source that had this input and a sink that was given these bytes.
 -- Of a source that doesn't tell its bytes there are some of which this holds, and of a sink likewise.

@@ -1,18 +1,14 @@
 -- Which words ask to keep a peer in a file.
-use Rattle.std.specs.Prelude.{ℕ, Bool, ◌&&◌, not, ◌==◌, List, [], ◌∷◌, length, Option, None, codes, nat_le}
-use Rattle.std.specs.Str.{bytes_eq, is_utf8}
-use Rattle.element_name.specs.Cases.{when, given, ◌>>=◌}
-use Rattle.line_read.specs.Numbers.{read_number}
-use Rattle.editor_main.specs.declared.command.TheConstants.{MAX_SITE}
-use Rattle.editor_main.specs.declared.stored_call.TheConstants.{MAX_FILE_NAME}
+use Rattle.std.specs.Prelude.{ℕ, List, Option, Some, None}
+use Rattle.editor_main.specs.declared.command.Command.{Command}
+use Rattle.editor_main.specs.declared.command.Command.TheVariants.{Keep}
+use Rattle.editor_main.specs.Command.{command_of}
 
--- FILE
-abbrev pub is_file_name : List ℕ → Bool
-is_file_name word = (not (length word == 0) && nat_le (length word) MAX_FILE_NAME) && is_utf8 word
+-- the site of a command that keeps a peer
+abbrev pub kept_site : Option Command → Option ℕ
+kept_site (Some (Keep site)) = Some site
+kept_site command = None
 
 -- the site of the words `keep SITE FILE`
 abbrev pub keep_site_of : List (List ℕ) → Option ℕ
-keep_site_of (name ∷ site ∷ file ∷ []) = given (bytes_eq name (codes "keep")) (do
-  number ← read_number MAX_SITE site
-  when (is_file_name file) number)
-keep_site_of words = None
+keep_site_of words = kept_site (command_of words)

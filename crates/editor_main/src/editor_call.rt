@@ -2,10 +2,10 @@
 ghost use Rattle.std.specs.Prelude.{◌≡◌};
 ghost use Rattle.line_engine.specs.Engine.{Reads};
 ghost use Rattle.form_link.specs.Form.{door_state};
-ghost use Rattle.editor_main.specs.Concurrent.{concurrent_command_of};
+ghost use Rattle.editor_main.specs.Command.{command_of};
 ghost use Rattle.editor_main.specs.Editor.{stream_state, EditorEnds};
 
-use crate::command::{ConcurrentCommand, concurrent_command_of};
+use crate::command::{Command, command_of};
 use crate::plain_call::plain;
 use crate::word::Word;
 use edit_io::{Door, Sink, Source};
@@ -34,7 +34,7 @@ pub fn editor<R: Threads + Wait + Sync, S: Source + Send, K: Sink, D: Door, G: G
     gate: &G,
 ) -> Status
     requires { (D.faults door.old ≡ 0) × (D.given door.old ≡ 0) × (D.returned door.old ≡ 0) }
-    ensures ends { EditorEnds D.Line.got D.Line.sent D.Line.faults D.Line.closes words.now (concurrent_command_of words.now)
+    ensures ends { EditorEnds D.Line.got D.Line.sent D.Line.faults D.Line.closes (command_of words.now)
         (stream_state (S.left source.old) (S.faults source.old)) (stream_state (S.left source.new) (S.faults source.new))
         (stream_state (K.written sink.old) (K.faults sink.old)) (stream_state (K.written sink.new) (K.faults sink.new))
         (door_state (D.faults door.old) (D.given door.old) (D.returned door.old) (D.hurt door.old) (D.used door.old))
@@ -42,17 +42,25 @@ pub fn editor<R: Threads + Wait + Sync, S: Source + Send, K: Sink, D: Door, G: G
         result }
     ensures reads { Reads (S.left source.old) (S.left source.new) }
 {
-    match concurrent_command_of(words) {
-        Some(ConcurrentCommand::Race(site)) => race_form(rt, alloc, site, source, sink, gate),
-        Some(ConcurrentCommand::Serve { site, port, links }) => {
+    match command_of(words) {
+        Some(Command::Race(site)) => race_form(rt, alloc, site, source, sink, gate),
+        Some(Command::Serve { site, port, links }) => {
             serve_form(rt, alloc, site, port, links, source, sink, door)
         }
-        Some(ConcurrentCommand::Dial { site, port, rounds }) => {
+        Some(Command::Dial { site, port, rounds }) => {
             dial_form(rt, alloc, site, port, rounds, source, sink, door)
         }
-        Some(ConcurrentCommand::Watch { site, reads }) => {
+        Some(Command::Watch { site, reads }) => {
             watch_form(rt, alloc, site, reads, source, sink, gate)
         }
-        None => plain(alloc, words, source, sink),
+        Some(
+            Command::Replay
+            | Command::Feed(_)
+            | Command::Make { .. }
+            | Command::Certify(_)
+            | Command::Audit
+            | Command::Keep(_),
+        )
+        | None => plain(alloc, words, source, sink),
     }
 }

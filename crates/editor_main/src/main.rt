@@ -3,10 +3,14 @@
 
 mod command;
 mod editor_call;
+mod form;
+pub mod laws;
+mod limits;
 mod plain_call;
 mod stored_call;
 mod word;
 
+use command::{Command, command_of};
 use edit_io::{ReadSource, Sink, Source, WriteSink};
 pub use editor_call::editor;
 use line_engine::Status;
@@ -33,26 +37,18 @@ fn words<R: Env + AllocGlobal>(rt: &R) -> io::Result<Vec<Word>> {
     Ok(all)
 }
 
-// The name of the file in the words `keep SITE FILE`, and none in others.
+// The name of the file that the last word says.
 fn file_name(alloc: Global, words: &[Word]) -> Result<String, AllocError> {
-    match words {
-        [_, _, file] => match str::from_utf8(file.bytes()) {
-            Ok(name) => String::from_str(alloc, name),
-            Err(_) => Ok(String::new(alloc)),
-        },
-        _ => Ok(String::new(alloc)),
+    let Some(word) = words.last() else {
+        return Ok(String::new(alloc));
+    };
+    match str::from_utf8(word.bytes()) {
+        Ok(name) => String::from_str(alloc, name),
+        Err(_) => Ok(String::new(alloc)),
     }
 }
 
-// Whether the words ask for the call that keeps a peer.
-fn is_stored(words: &[Word]) -> bool {
-    match words {
-        [name, ..] => name.bytes() == b"keep".as_slice(),
-        [] => false,
-    }
-}
-
-// Keeps a peer in the file that the words name.
+// Keeps a peer in the file that the last word names.
 fn keep_in_file<S: Source, K: Sink>(
     rt: &HostRuntime,
     words: &[Word],
@@ -82,7 +78,7 @@ fn main(rt: HostRuntime) -> ExitCode {
     };
     let mut source = ReadSource::new(rt.stdin());
     let mut sink = WriteSink::new(rt.stdout());
-    if is_stored(&words) {
+    if let Some(Command::Keep(_)) = command_of(&words) {
         return ExitCode::from(keep_in_file(&rt, &words, &mut source, &mut sink).code());
     }
     let mut door = TcpDoor::new(rt, rt.alloc());

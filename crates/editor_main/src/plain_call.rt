@@ -6,6 +6,7 @@ ghost use Rattle.editor_main.specs.Command.{command_of};
 ghost use Rattle.editor_main.specs.Plain.{RanPlain, make_output};
 
 use crate::command::{Command, command_of};
+use crate::form::say_usage;
 use crate::word::Word;
 use edit_io::{Sink, Source};
 use edit_make::summary;
@@ -14,11 +15,6 @@ use form_feed::feed;
 use form_replay::replay;
 use line_engine::{Status, say};
 use std::alloc::Global;
-
-/// What is written where the words name no command.
-pub(crate) const USAGE: &[u8; 163] = b"usage: replay | feed SITE | make SEED EDITS | race SITE \
-    | serve SITE PORT LINKS | dial SITE PORT ROUNDS | watch SITE READS | certify SITE | audit \
-    | keep SITE FILE\n";
 
 // Writes the summary of the world that a seed makes.
 fn make<K: Sink>(alloc: Global, seed: u32, edits: u32, sink: &mut K) -> Status
@@ -32,7 +28,8 @@ fn make<K: Sink>(alloc: Global, seed: u32, edits: u32, sink: &mut K) -> Status
     }
 }
 
-/// Runs the command that the words name over a source and a sink, and waits for nobody else.
+/// Runs the command that the words name over a source and a sink, and waits for nobody else. Where others take part in it,
+/// or it asks for a file, the words are none of this call's, and the usage line is written.
 ///
 /// A line is answered as soon as its line end was read. Reading is in chunks of at most 64 KiB.
 pub fn plain<S: Source, K: Sink>(
@@ -60,6 +57,13 @@ pub fn plain<S: Source, K: Sink>(
             form_certificate::laws::answer_is_right();
             audit_input(alloc, source, sink)
         }
-        None => say(sink, USAGE, Status::Usage),
+        Some(
+            Command::Race(_)
+            | Command::Serve { .. }
+            | Command::Dial { .. }
+            | Command::Watch { .. }
+            | Command::Keep(_),
+        )
+        | None => say_usage(alloc, sink),
     }
 }
