@@ -2,13 +2,14 @@
 //!
 //! The run has room for all steps of a watch: once it is closed it is proved that the worker never met a full one.
 ghost use Rattle.std.specs.Prelude.{◌≡◌, ◌≤◌, [], ◌∷◌, length, IfOk, IfErr, OnOk};
+ghost use Rattle.peer_step.specs.declared.answer.Answer.{Answer};
 ghost use Rattle.peer_lock.specs.Answers.{IsSame, Stepped};
 ghost use Rattle.form_watch.specs.Run.{each_shown};
 ghost use Rattle.form_watch.specs.Workers.{IsCurrent, Publishing, StopsShort};
 
 use crate::limits::MAX_LINES;
 use peer_lock::{Pass, SharedPeer, StepFail};
-use peer_step::{Answer, Step};
+use peer_step::Step;
 use race_run::Gate;
 use screen_read::{Screen, ScreenFail};
 use std::alloc::Global;
@@ -17,9 +18,6 @@ use std::thread::Threads;
 
 /// The number under which the worker passes the gate.
 const WRITER: u32 = 0;
-
-// Lets an answer go, whatever it is.
-fn forget(_answer: Answer) {}
 
 // Makes a copy of a step.
 fn make<R: Threads + Wait + Sync>(
@@ -39,7 +37,7 @@ fn make<R: Threads + Wait + Sync>(
     };
     match shared.step(rt, alloc, pass, copy) {
         Ok(answer) => {
-            forget(answer);
+            drop(answer);
             Ok(())
         }
         Err(StepFail::RunFull) => Err(ScreenFail::RunFull),
