@@ -388,7 +388,7 @@ joins origin id other v w v-live w-live v-free w-free s k at apart there =
 pub closes : (origin id : ℕ) (v : View) (ws : List ℕ) (xs : List Recorded) → 0 < length v.numbers → v.hand ≡ false → length v.numbers ≡ v.made
     → Final (Seen (IsOneRun origin) id v) ws xs
     → (h : Recorded) × (get_elem? xs 0 ≡ some h) × (h.site ≡ v.origin) × Fits h.run v
-    × ((n : ℕ) → n < v.made → HasNumber v.numbers n) × ((n : ℕ) → v.made ≤ n → steps_by n h.run ≡ [])
+    × ((n : ℕ) → n < v.made → HasNumber v.numbers n) × ((n : ℕ) → v.made ≤ n → steps_by n h.run ≡ []) × (length h.run ≤ MAX_RUN)
 closes origin id v ws xs live free whole final =
     let s = final.0 in
     let k = final.1.0 in
@@ -412,7 +412,8 @@ closes origin id v ws xs live free whole final =
         k.once n,
         below_yes n k.most (omega arith),
       )),
-      λ n high. k.callers n (omega arith),
+      (λ n high. k.callers n (omega arith)),
+      k.short,
     )
   where
     nobody : (origin : ℕ) (run : List Call) (id : ℕ) (v : View) (views : List View) → ((j : ℕ) (u : View) → j ≢ id → get_elem? views j ≡ some u → length u.numbers ≡ 0) → v.hand ≡ false

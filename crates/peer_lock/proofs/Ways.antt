@@ -162,4 +162,5 @@ closed origin id v ws xs held p run live free whole final there peer is =
       steps = λ n has. ap (steps_by n) f.knows.1 ∙ steps-append n v.seen f.knows.0 ∙ ap (λ (l : List Step). steps_by n v.seen ++ l) (f.knows.2 n has) ∙ append-nil (steps_by n v.seen);
       numbers = t.4;
       callers = λ n high. ap (steps_by n) (is ∙ ap (λ (h : Recorded). h.run) (sym same)) ∙ t.5 n high;
+      room = omega (arith, t.6, ap (λ (r : List Call). length r) (is ∙ ap (λ (h : Recorded). h.run) (sym same)));
     }

@@ -95,3 +95,4 @@ pub record ClosesRun (v : View) (p : Peer) (run : List Call) : Type 0 where
   pub steps : (n : ℕ) → HasNumber v.numbers n → steps_by n run ≡ steps_by n v.seen
   pub numbers : (n : ℕ) → n < v.made → HasNumber v.numbers n
   pub callers : (n : ℕ) → v.made ≤ n → steps_by n run ≡ []
+  pub room : length run ≤ MAX_RUN
