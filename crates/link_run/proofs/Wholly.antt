@@ -19,7 +19,7 @@ use Rattle.link_run.specs.declared.own.OwnEnd.TheVariants.{Done, RunFull, NoMemo
 use Rattle.link_run.specs.Gathered.{IsIn, EachOf, all_numbers}
 use Rattle.link_run.specs.Jobs.{passes_of}
 use Rattle.link_run.specs.Worked.{MakesOwn, EndedSo}
-use Rattle.link_run.specs.Served.{OwnIn, IsFullRun}
+use Rattle.link_run.specs.Served.{OwnIn, IsFullRun, IsRunOf}
 use Rattle.link_run.proofs.Gathering.{kept_in_run}
 
 -- what holds at each index holds of each pass
@@ -42,6 +42,10 @@ has_self n = omega (arith, ap {B = ℕ} (λ (b : Bool). cond b 1 0) (eq-eqb n n 
 
 pub has_one : (n : ℕ) (ns : List ℕ) → ns ≡ n ∷ [] → HasNumber ns n
 has_one n ns e = subst (λ (l : List ℕ). HasNumber l n) (sym e) (has_self n)
+
+-- the callers of a whole run are those that the pass stands for which closed it
+pub run_of_all : (v : View) (p : Peer) (run : List Call) (callers : ℕ) → v.made ≡ callers → ClosesRun v p run → IsRunOf callers run
+run_of_all v p run callers made closes = record { others = λ caller high. closes.callers caller (omega arith); room = closes.room }
 
 -- the own steps in the whole run
 pub own_steps_in_run : (v w : View) (m site : ℕ) (steps : List Step) (r : OwnEnd) (run : List Call) → v ≡ newcomer 0 m site → steps_by 0 run ≡ steps_by 0 w.seen → w.floor ≤ length run → MakesOwn v w steps r → OwnIn steps r run

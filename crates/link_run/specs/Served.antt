@@ -1,5 +1,5 @@
 -- What is left once all workers have ended.
-use Rattle.std.specs.Prelude.{◌≡◌, ◌==◌, ℕ, ◌+◌, ◌<◌, ◌≤◌, List, take, length, slice_index_or, Option, Some, Result, Err}
+use Rattle.std.specs.Prelude.{◌≡◌, ◌==◌, ℕ, ◌+◌, ◌<◌, ◌≤◌, List, [], take, length, slice_index_or, Option, Some, Result, Err}
 use Rattle.edit_io.specs.Link.{with_last}
 use Rattle.atomic_table.specs.Seated.{TableId}
 use Rattle.peer_step.specs.declared.step.Step.{Step}
@@ -27,6 +27,11 @@ HaveDealtPasses {L} table site jobs = (i : ℕ) (d : Job L) → i < length jobs
 -- the run has as many steps as it may
 abbrev pub IsFullRun : List Call → Type 0
 IsFullRun run = MAX_RUN ≤ length run
+
+-- no step is of a caller from this number on, and there are no more steps than a run may have
+pub record IsRunOf (callers : ℕ) (run : List Call) : Type 0 where
+  pub others : (caller : ℕ) → callers ≤ caller → steps_by caller run ≡ []
+  pub room : length run ≤ MAX_RUN
 
 -- the steps of caller 0 in the run are those of a list, or, where they were cut, the first ones
 abbrev pub OwnIn : List Step → OwnEnd → List Call → Type 0

@@ -3,7 +3,7 @@ ghost use Rattle.std.specs.Prelude.{◌≡◌, ◌+◌, ◌≤◌, [], vec_len, 
 ghost use Rattle.peer_core.specs.Peer.{fresh_peer};
 ghost use Rattle.peer_lock.specs.Rule.{newcomer};
 ghost use Rattle.peer_lock.specs.Run.{peer_after_run};
-ghost use Rattle.link_run.specs.Served.{HaveDealtPasses, OwnIn, LinksIn};
+ghost use Rattle.link_run.specs.Served.{HaveDealtPasses, IsRunOf, OwnIn, LinksIn};
 
 use crate::ending::finish_jobs;
 use crate::job::Job;
@@ -51,6 +51,8 @@ pub fn serve_jobs<D: Door, R: Threads + Wait + Sync>(
     requires room { (outcomes.items ≡ []) × (vec_len jobs ≤ vec_capacity outcomes) }
     // The peer is what the run leads to.
     ensures peer { result.peer ≡ peer_after_run (fresh_peer site) result.history }
+    // Nobody makes a step but the caller and the links.
+    ensures callers { IsRunOf (vec_len jobs + 1) result.history }
     // The own steps are those of the list, or, where they were cut, the first ones.
     ensures own { OwnIn steps.now result.own result.history }
     // Each link stands, with its outcome, to its caller in the run as a session does, and comes back in order.

@@ -6,7 +6,7 @@ use Rattle.peer_lock.specs.Run.{peer_after_run}
 use Rattle.peer_lock.specs.declared.view.View.{View}
 use Rattle.link_run.specs.Gathered.{IsIn}
 use Rattle.link_run.specs.Jobs.{outcomes_of}
-use Rattle.link_run.proofs.Wholly.{each_pass, each_index, all_numbers-ones, has_one, own_steps_in_run, steps_in_run, answers_in_run, full_in_run}
+use Rattle.link_run.proofs.Wholly.{each_pass, each_index, all_numbers-ones, has_one, own_steps_in_run, steps_in_run, answers_in_run, full_in_run, run_of_all}
 use Rattle.link_run.proofs.all.serve_jobs.Goals as goal
 
 pub finish_jobs-requires-clause-theirs : goal.finish_jobs-requires-clause-theirs
@@ -46,6 +46,11 @@ pub returns-clause-peer : goal.returns-clause-peer
 returns-clause-peer g c =
     c.close-peer.ensures.closes.peer
     ∙ ap (λ (o : ℕ). peer_after_run (fresh_peer o) c.close-peer.result.1) (c.finish_jobs.ensures.joined.origin ∙ c.run_workers-pass.ensures.own.0.origin ∙ ap (λ (v : View). v.origin) c.requires.own.1)
+
+pub returns-clause-callers : goal.returns-clause-callers
+returns-clause-callers g c =
+    run_of_all c.finish_jobs.new.pass.view c.close-peer.result.0 c.close-peer.result.1 (vec_len c.args.jobs + 1)
+    (c.finish_jobs.ensures.joined.made ∙ c.run_workers-pass.ensures.own.0.made ∙ ap (λ (v : View). v.made) c.requires.own.1) c.close-peer.ensures.closes
 
 pub returns-clause-own : goal.returns-clause-own
 returns-clause-own g c =

@@ -5,6 +5,7 @@ use Rattle.session_core.specs.Events.{dialling}
 use Rattle.link_run.specs.Passes.{IsSolePass}
 use Rattle.link_run.specs.Counts.{failures_in}
 use Rattle.link_run.proofs.Standings.{hurt_once}
+use Rattle.link_run.proofs.Wholly.{run_of_all}
 use Rattle.link_run.proofs.Endings.{sole_same, stands_for_all, peer_of_run, dialled_in_run, dial_ends_at}
 use Rattle.link_run.proofs.dialling.dial_over.Goals as goal
 
@@ -26,6 +27,7 @@ returns-clause-ends g c =
     dial_ends_at g.D.Line.Link.got g.D.Line.Link.sent g.D.Line.Link.faults g.D.Line.Link.closes c.args.site c.args.rounds _ _ _ _ _ _ _ _ _ _ c.close_alone.ensures.ends.0 c.close_alone.ensures.ends.1 one (
       link,
       c.back.ensures.used,
+      run_of_all last.view c.close_alone.result.peer c.close_alone.result.history 1 sole.made_is c.close_alone.ensures.closes,
       dialled_in_run g.D.Line.Link.got g.D.Line.Link.sent g.D.Line.Link.faults g.D.Line.Link.closes (dialling (c.args.site == 0) c.args.rounds) c.args.shared c.args.site c.args.pass last c.args.link link ended _ _
           c.dial_link-ended.ensures.session c.dial_link-ended.ensures.full c.requires.unused c.dial_link-ended.ensures.closes c.dial_link-ended.ensures.faults sole c.close_alone.ensures.closes,
     )

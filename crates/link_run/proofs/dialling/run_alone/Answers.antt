@@ -1,6 +1,7 @@
 use Rattle.std.proofs.Common.{Option, sym, ◌∙◌, subst}
 use Rattle.link_run.specs.declared.own.OwnEnd.{OwnEnd}
 use Rattle.link_run.specs.Ends.{OwnEnds}
+use Rattle.link_run.proofs.Wholly.{run_of_all}
 use Rattle.link_run.proofs.Endings.{fresh_sole, sole_same, stands_for_all, peer_of_run, own_in_run}
 use Rattle.link_run.proofs.dialling.run_alone.Goals as goal
 
@@ -23,6 +24,7 @@ returns-clause-ends g c =
     let sole = sole_same c.in_ok-shared.shared c.args.site k c.make_own-pass.result.0 (fresh_sole k c.in_ok-shared.shared c.args.site c.in_ok-shared.ensures.0 c.in_ok-shared.ensures.1) c.make_own-pass.ensures.same in record {
       own_steps = subst (λ (o : Option OwnEnd). OwnEnds c.args.steps.now o run) (sym c.close_alone.ensures.ends.0)
           (own_in_run k c.make_own-pass.result.0 c.in_ok-shared.shared c.args.site c.args.steps.now c.make_own-pass.result.1 c.close_alone.result.peer run c.in_ok-shared.ensures.1 sole c.make_own-pass.ensures.mine c.close_alone.ensures.closes);
+      callers = run_of_all c.make_own-pass.result.0.view c.close_alone.result.peer run 1 sole.made_is c.close_alone.ensures.closes;
       no_fault = c.close_alone.ensures.ends.1;
       no_link = c.close_alone.ensures.ends.2 ∙ c.new.ensures.items;
     }

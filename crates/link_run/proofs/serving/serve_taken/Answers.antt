@@ -7,6 +7,7 @@ returns-clause-ends g c =
     let links = c.serve_jobs-left.ensures.links in record {
       taken = omega (arith, links_counted g.D.Line.Link.got g.D.Line.Link.sent g.D.Line.Link.faults g.D.Line.Link.closes c.args.site c.args.jobs.items _ _ _ _ _ _ links, c.args.jobs.ok.0);
       own_steps = c.serve_jobs-left.ensures.own;
+      callers = c.serve_jobs-left.ensures.callers;
       in_run = links_stand g.D.Line.Link.got g.D.Line.Link.sent g.D.Line.Link.faults g.D.Line.Link.closes c.args.site c.args.shared c.args.jobs.items _ _ _ _ _ _ c.requires.theirs c.requires.ready links;
     }
 
