@@ -1,4 +1,5 @@
 mod Causes
+mod Complete
 mod Doors
 mod Listing
 mod Statuses

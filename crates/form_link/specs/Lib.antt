@@ -2,3 +2,4 @@ pub mod Form
 pub mod Faults
 pub mod Lines
 pub mod Report
+pub mod Laws

@@ -8,6 +8,7 @@
 mod dialling;
 mod fault_telling;
 mod faults;
+pub mod laws;
 mod report;
 mod serving;
 mod telling;
