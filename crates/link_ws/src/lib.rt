@@ -5,6 +5,7 @@
 #![tactic(auto)]
 
 mod hasty;
+pub mod laws;
 mod origin;
 mod tcp_door;
 mod ws_link;
