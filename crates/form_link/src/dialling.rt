@@ -77,7 +77,8 @@ pub fn dial_form<R: Threads + Wait + Sync, S: Source, K: Sink, D: Door>(
         EndCause (S.faults source.old) (S.faults source.new) end ×
         (let before = door_state (D.faults door.old) (D.given door.old) (D.returned door.old) (D.hurt door.old) (D.used door.old) in
         let after = door_state (D.faults door.new) (D.given door.new) (D.returned door.new) (D.hurt door.new) (D.used door.new) in
-        RanOrNot (Dials D.Line.got D.Line.sent D.Line.faults D.Line.closes site rounds end steps before after) site end before after (K.written sink.old) (K.written sink.new) result) }
+        RanOrNot (Dials D.Line.got D.Line.sent D.Line.faults D.Line.closes site rounds end steps before after) site end before after
+        (K.written sink.old) (K.written sink.new) result) }
     ensures reads { Reads (S.left source.old) (S.left source.new) }
     ensures write_cause { SinkCause (K.faults sink.old) (K.faults sink.new) result }
     ensures link_cause { HasLinkCause (D.faults door.old) (D.faults door.new) (D.hurt door.old) (D.hurt door.new) result }

@@ -1,7 +1,8 @@
 //! What is told of faults.
 ghost use Rattle.std.specs.Prelude.{◌≡◌, ◌++◌, OnOk, IfOk, flat_map};
 ghost use Rattle.line_spelling.specs.Values.{behind_spaces};
-ghost use Rattle.form_link.specs.Lines.{session_fault_words, link_line, fault_line, session_status, fault_status, wants_memory, first_status, faults_status};
+ghost use Rattle.form_link.specs.Lines.{session_fault_words, link_line, fault_line};
+ghost use Rattle.form_link.specs.Lines.{session_status, fault_status, wants_memory, first_status, faults_status};
 ghost use Rattle.std.specs.List.{list_any};
 
 use crate::faults::Fault;

@@ -23,7 +23,8 @@ fn tell_then<K: Sink>(
 ) -> Status
     requires { status ≢ Status.WriteFault }
     ensures says { (written : List ℕ) ×
-        Says (K.written sink.old) (K.written sink.new) result (record { written = report site history.now ++ lines.now; status = status }) written }
+        Says (K.written sink.old) (K.written sink.new) result
+        (record { written = report site history.now ++ lines.now; status = status }) written }
     ensures cause { StatusCause (K.faults sink.old) (K.faults sink.new) result Status.WriteFault }
 {
     match report(alloc, site, history, sink) {
@@ -43,7 +44,8 @@ pub fn tell_run<K: Sink>(
     faults: &[Fault],
     sink: &mut K,
 ) -> Status
-    ensures says { (written : List ℕ) × Says (K.written sink.old) (K.written sink.new) result (link_output site history.now faults.now) written }
+    ensures says { (written : List ℕ) ×
+        Says (K.written sink.old) (K.written sink.new) result (link_output site history.now faults.now) written }
     ensures cause { SinkCause (K.faults sink.old) (K.faults sink.new) result }
 {
     let Ok(lines) = fault_lines(alloc, faults) else {

@@ -22,7 +22,8 @@ pub(crate) fn tell<K: Sink>(
     sink: &mut K,
 ) -> Status
     ensures says { (written : List ℕ) ×
-        Says (K.written sink.old) (K.written sink.new) result (link_output site run.history (faults_of run.door_failed end run.own run.links.items)) written }
+        Says (K.written sink.old) (K.written sink.new) result
+        (link_output site run.history (faults_of run.door_failed end run.own run.links.items)) written }
     ensures cause { SinkCause (K.faults sink.old) (K.faults sink.new) result }
 {
     let LinkRun {

@@ -23,13 +23,14 @@ use Rattle.link_run.specs.Gathered.{EachOf, IsIn}
 use Rattle.link_run.specs.Jobs.{links_of}
 use Rattle.link_run.specs.Taken.{IsUnservedJob}
 use Rattle.link_run.specs.Worked.{MakesOwn}
-use Rattle.link_run.specs.Served.{OwnIn, IsFullRun, HaveDealtPasses, LinksIn}
+use Rattle.link_run.specs.Served.{OwnIn, IsFullRun, HaveDealtPasses}
 use Rattle.link_run.proofs.Gathering.{joins_none, length-outcomes}
 use Rattle.link_run.proofs.Wholly.{has_one, own_steps_in_run, steps_in_run, answers_in_run}
 use Rattle.link_run.specs.Passes.{IsSolePass}
 use Rattle.link_run.specs.Standing.{SessionInRun, LinksInRun}
 use Rattle.link_run.specs.Ends.{DialEnds}
 use Rattle.link_run.specs.Counts.{failures_in}
+use Rattle.link_run.proofs.WorkedLinks.{LinksIn}
 use Rattle.link_run.proofs.Standings.{talk_in_run, links_in_run, as_many_outcomes, hurt_worked}
 
 -- ---- one pass

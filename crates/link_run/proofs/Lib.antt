@@ -1,6 +1,7 @@
+mod Crossing
 mod DealtPasses
-mod Standings
 mod Endings
-pub mod Crossing
-pub mod Gathering
-pub mod Wholly
+mod Gathering
+mod Standings
+mod Wholly
+mod WorkedLinks

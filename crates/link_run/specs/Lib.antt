@@ -1,9 +1,9 @@
-pub mod Passes
-pub mod Standing
-pub mod Ends
 pub mod Counts
-pub mod Worked
-pub mod Gathered
-pub mod Jobs
-pub mod Taken
+pub mod Ends
+mod Gathered
+mod Jobs
+mod Passes
 pub mod Served
+pub mod Standing
+pub mod Taken
+mod Worked

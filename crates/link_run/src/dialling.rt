@@ -61,7 +61,8 @@ fn dial_over<D: Door, R: Threads + Wait + Sync>(
     requires given { D.returned door.old < D.given door.old }
     requires room { (outcomes.items ≡ []) × (0 < vec_capacity outcomes) }
     ensures peer { result.peer ≡ peer_after_run (fresh_peer site) result.history }
-    ensures ends { DialEnds D.Line.got D.Line.sent D.Line.faults D.Line.closes site rounds (pass_steps pass) (D.used door.old) (D.used door.new) result.own result.door_failed result.links.items result.history }
+    ensures ends { DialEnds D.Line.got D.Line.sent D.Line.faults D.Line.closes site rounds (pass_steps pass)
+        (D.used door.old) (D.used door.new) result.own result.door_failed result.links.items result.history }
     ensures whole { (result.door_failed ≡ false) × (length result.links.items ≡ 1) }
     ensures given { D.given door.new ≡ D.given door.old }
     ensures returned { D.returned door.new ≡ D.returned door.old + 1 }
@@ -115,7 +116,8 @@ pub fn dial<D: Door, R: Threads + Wait + Sync>(
     // The peer is what the run leads to.
     ensures peer { IfOk result (λ r. r.peer ≡ peer_after_run (fresh_peer site) r.history) }
     // The own steps stand in the run, and behind them those of the session on the link that came back.
-    ensures ends { IfOk result (λ r. DialEnds D.Line.got D.Line.sent D.Line.faults D.Line.closes site rounds steps.now (D.used door.old) (D.used door.new) r.own r.door_failed r.links.items r.history) }
+    ensures ends { IfOk result (λ r. DialEnds D.Line.got D.Line.sent D.Line.faults D.Line.closes site rounds steps.now
+        (D.used door.old) (D.used door.new) r.own r.door_failed r.links.items r.history) }
     // The door gave no more links than came back, and counts those that failed, and its own failure.
     ensures given { D.given door.new ≡ D.given door.old + links_given result }
     ensures returned { D.returned door.new ≡ D.returned door.old + links_given result }

@@ -13,7 +13,7 @@ use std::collections::VecDeque;
 
 /// Joins the passes of all jobs to this one, gives their links back in their order, and notes how their sessions
 /// ended. It takes no memory and time in the number of jobs, and waits for nobody but the door.
-pub fn finish_jobs<D: Door>(
+pub(crate) fn finish_jobs<D: Door>(
     shared: &SharedPeer,
     pass: &mut Pass,
     jobs: Vec<Job<D::Line>>,

@@ -5,8 +5,8 @@ use session_core::SessionFault;
 
 /// A pass and a link, and how the session on it ended, once it did.
 #[derive(Drop)]
-pub struct Job<L> {
-    pub pass: Pass,
-    pub link: L,
-    pub outcome: Option<Result<u32, SessionFault>>,
+pub(crate) struct Job<L> {
+    pub(crate) pass: Pass,
+    pub(crate) link: L,
+    pub(crate) outcome: Option<Result<u32, SessionFault>>,
 }

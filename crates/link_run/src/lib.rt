@@ -2,7 +2,6 @@
 //! part ended. Many workers run over one shared peer: one with the steps of the caller, and one for each link.
 #![tactic(auto)]
 
-mod all;
 mod dealing;
 mod dialling;
 mod ending;
@@ -14,11 +13,7 @@ mod serving;
 mod taking;
 mod work;
 
-pub use all::{LeftByWorkers, serve_jobs};
 pub use dialling::{dial, run_alone};
-pub use ending::finish_jobs;
-pub use job::Job;
 pub use left::LinkRun;
-pub use own::{OwnEnd, make_own};
+pub use own::OwnEnd;
 pub use serving::serve;
-pub use taking::take_links;

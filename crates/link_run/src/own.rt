@@ -23,7 +23,7 @@ pub enum OwnEnd {
 /// Makes all steps of a list, in their order, until the run is full or memory is wanting.
 ///
 /// It waits for the gate of the shared peer, and takes the time of the steps.
-pub fn make_own<R: Threads + Wait + Sync>(
+pub(crate) fn make_own<R: Threads + Wait + Sync>(
     rt: &R,
     alloc: Global,
     shared: &SharedPeer,

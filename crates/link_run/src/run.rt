@@ -6,7 +6,7 @@ ghost use Rattle.link_run.specs.Worked.{MakesOwn, Worked};
 
 use crate::job::Job;
 use crate::own::{OwnEnd, make_own};
-use crate::work::work_all;
+use crate::work::serve_links;
 use edit_io::Link;
 use peer_lock::{Pass, SharedPeer};
 use peer_step::Step;
@@ -14,23 +14,7 @@ use std::alloc::Global;
 use std::sync::Wait;
 use std::thread::{Threads, join};
 
-// Serves the links of all jobs, and gives the jobs back.
-fn work_through<L: Link + Send, R: Threads + Wait + Sync>(
-    rt: &R,
-    alloc: Global,
-    shared: &SharedPeer,
-    mut jobs: Vec<Job<L>>,
-    validates: bool,
-) -> Vec<Job<L>>
-    requires { (i : ℕ) (d : _) → i < vec_len jobs → (slice_index_or jobs.items i d).pass.table ≡ shared.now }
-    ensures many { vec_len result ≡ vec_len jobs }
-    ensures each { (i : ℕ) (d : _) → i < vec_len jobs → Worked L.got L.sent L.faults L.closes validates (slice_index_or jobs.items i d) (slice_index_or result.items i d) }
-{
-    work_all(rt, alloc, shared, jobs.as_mut_slice(), validates);
-    jobs
-}
-
-/// Makes the caller's own steps and serves all links, at the same time.
+/// Makes the caller's own steps and serves the links of all jobs, at the same time, and gives the jobs back.
 pub(crate) fn run_workers<L: Link + Send + Drop, R: Threads + Wait + Sync>(
     rt: &R,
     alloc: Global,
@@ -44,7 +28,8 @@ pub(crate) fn run_workers<L: Link + Send + Drop, R: Threads + Wait + Sync>(
     requires theirs { (i : ℕ) (d : _) → i < vec_len jobs → (slice_index_or jobs.items i d).pass.table ≡ shared.now }
     ensures own { IsSame pass result.0.0 × MakesOwn pass.view result.0.0.view steps.now result.0.1 }
     ensures many { vec_len result.1 ≡ vec_len jobs }
-    ensures each { (i : ℕ) (d : _) → i < vec_len jobs → Worked L.got L.sent L.faults L.closes validates (slice_index_or jobs.items i d) (slice_index_or result.1.items i d) }
+    ensures each { (i : ℕ) (d : _) → i < vec_len jobs
+        → Worked L.got L.sent L.faults L.closes validates (slice_index_or jobs.items i d) (slice_index_or result.1.items i d) }
 {
     join(
         rt,
@@ -53,9 +38,15 @@ pub(crate) fn run_workers<L: Link + Send + Drop, R: Threads + Wait + Sync>(
             ensures { IsSame pass result.0 × MakesOwn pass.view result.0.view steps.entry.now result.1 }
         { make_own(rt, alloc, shared, pass, steps) },
         || -> Vec<Job<L>>
-            requires { IsSync R.row × ((i : ℕ) (d : _) → i < vec_len jobs → (slice_index_or jobs.items i d).pass.table ≡ shared.now) }
+            requires { IsSync R.row
+                × ((i : ℕ) (d : _) → i < vec_len jobs → (slice_index_or jobs.items i d).pass.table ≡ shared.now) }
             ensures many { vec_len result ≡ vec_len jobs }
-            ensures each { (i : ℕ) (d : _) → i < vec_len jobs → Worked L.got L.sent L.faults L.closes validates (slice_index_or jobs.items i d) (slice_index_or result.items i d) }
-        { work_through(rt, alloc, shared, jobs, validates) },
+            ensures each { (i : ℕ) (d : _) → i < vec_len jobs
+                → Worked L.got L.sent L.faults L.closes validates (slice_index_or jobs.items i d) (slice_index_or result.items i d) }
+        {
+            let mut jobs = jobs;
+            serve_links(rt, alloc, shared, jobs.as_mut_slice(), validates);
+            jobs
+        },
     )
 }

@@ -1,5 +1,6 @@
 //! A peer that serves.
-ghost use Rattle.std.specs.Prelude.{◌≡◌, ◌+◌, ◌≤◌, ◌<◌, [], length, IfOk, OnErr, vec_len, vec_capacity, true, false, sum_by};
+ghost use Rattle.std.specs.Prelude.{◌≡◌, ◌+◌, ◌≤◌, ◌<◌, [], length, IfOk, OnErr};
+ghost use Rattle.std.specs.Prelude.{vec_len, vec_capacity, true, false, sum_by};
 ghost use Rattle.peer_core.specs.Peer.{fresh_peer};
 ghost use Rattle.peer_lock.specs.declared.limits.TheConstants.{MAX_PASSES};
 ghost use Rattle.peer_lock.specs.Rule.{newcomer};
@@ -11,11 +12,11 @@ ghost use Rattle.link_run.specs.Taken.{HasRoomForLinks, IsUnservedJob};
 ghost use Rattle.link_run.specs.Ends.{ServedAll, ServedNone, ServeEnds};
 ghost use Rattle.link_run.specs.Counts.{links_given, links_hurt, door_failures, failures_in};
 
-use crate::all::serve_jobs;
 use crate::dealing::{deal_links, idle_peer};
 use crate::ending::finish_jobs;
 use crate::job::Job;
 use crate::left::LinkRun;
+use crate::run::run_workers;
 use crate::taking::take_links;
 use edit_io::Door;
 use element_name::NoMemory;
@@ -27,7 +28,8 @@ use std::alloc::Global;
 use std::sync::Wait;
 use std::thread::Threads;
 
-// Runs all workers, once all links were taken.
+// Makes the caller's own steps and serves the links of all jobs, beside each other, and gives the links back. Each goes on
+// to its own end, whatever the others meet. It waits until all have ended.
 fn serve_taken<D: Door, R: Threads + Wait + Sync>(
     rt: &R,
     alloc: Global,
@@ -45,20 +47,24 @@ fn serve_taken<D: Door, R: Threads + Wait + Sync>(
     requires given { D.returned door.old + vec_len jobs ≤ D.given door.old }
     requires room { (outcomes.items ≡ []) × (vec_len jobs ≤ vec_capacity outcomes) }
     ensures peer { result.peer ≡ peer_after_run (fresh_peer site) result.history }
-    ensures ends { ServedAll D.Line.got D.Line.sent D.Line.faults D.Line.closes site (vec_len jobs) steps.now (D.used door.old) (D.used door.new) result.own result.links.items result.history }
+    ensures ends { ServedAll D.Line.got D.Line.sent D.Line.faults D.Line.closes site (vec_len jobs) steps.now
+        (D.used door.old) (D.used door.new) result.own result.links.items result.history }
     ensures whole { result.door_failed ≡ false }
     ensures given { D.given door.new ≡ D.given door.old }
     ensures returned { D.returned door.new ≡ D.returned door.old + vec_len jobs }
     ensures hurt { D.hurt door.new ≡ D.hurt door.old + sum_by failures_in result.links.items }
     ensures faults { D.faults door.new ≡ D.faults door.old }
 {
-    let left = serve_jobs(rt, alloc, site, shared, pass, steps, jobs, door, outcomes);
+    let mut outcomes = outcomes;
+    let ((mut pass, own), jobs) = run_workers(rt, alloc, &shared, pass, steps, jobs, site == 0);
+    finish_jobs(&shared, &mut pass, jobs, door, &mut outcomes);
+    let (peer, history) = shared.close(pass);
     LinkRun {
-        peer: left.peer,
-        history: left.history,
-        own: Some(left.own),
+        peer,
+        history,
+        own: Some(own),
         door_failed: false,
-        links: left.links,
+        links: outcomes,
     }
 }
 
@@ -79,7 +85,8 @@ fn give_back<D: Door>(
     requires room { (outcomes.items ≡ []) × (vec_len jobs ≤ vec_capacity outcomes) }
     requires idle { idle.1 ≡ [] }
     ensures peer { result.peer ≡ idle.0 }
-    ensures ends { ServedNone D.Line.got D.Line.sent D.Line.faults D.Line.closes (vec_len jobs) (D.used door.old) (D.used door.new) result.own result.links.items result.history }
+    ensures ends { ServedNone D.Line.got D.Line.sent D.Line.faults D.Line.closes (vec_len jobs)
+        (D.used door.old) (D.used door.new) result.own result.links.items result.history }
     ensures many { length result.links.items ≡ vec_len jobs }
     ensures failed { result.door_failed ≡ true }
     ensures given { D.given door.new ≡ D.given door.old }
@@ -123,7 +130,8 @@ pub fn serve<D: Door, R: Threads + Wait + Sync>(
     ensures peer { IfOk result (λ r. r.peer ≡ peer_after_run (fresh_peer site) r.history) }
     // The own steps stand in the run, and those of the session on each link that came back; nothing is in it where the
     // door failed.
-    ensures ends { IfOk result (λ r. ServeEnds D.Line.got D.Line.sent D.Line.faults D.Line.closes site links steps.now (D.used door.old) (D.used door.new) r.own r.door_failed r.links.items r.history) }
+    ensures ends { IfOk result (λ r. ServeEnds D.Line.got D.Line.sent D.Line.faults D.Line.closes site links steps.now
+        (D.used door.old) (D.used door.new) r.own r.door_failed r.links.items r.history) }
     // The door gave no more links than came back, and counts those that failed, and its own failure.
     ensures given { D.given door.new ≡ D.given door.old + links_given result }
     ensures returned { D.returned door.new ≡ D.returned door.old + links_given result }

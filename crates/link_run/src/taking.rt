@@ -15,7 +15,7 @@ use std::collections::VecDeque;
 ///
 /// The jobs have room for all. Where the door fails, they have what was taken until then, and the other passes are let
 /// go. It may wait for the programs that connect, and takes no memory.
-pub fn take_links<D: Door>(
+pub(crate) fn take_links<D: Door>(
     door: &mut D,
     port: u16,
     passes: Vec<Pass>,

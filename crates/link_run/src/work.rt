@@ -12,28 +12,9 @@ use std::sync::Wait;
 use std::thread;
 use std::thread::Threads;
 
-// Serves the link of a job to its end.
-fn work_one<L: Link, R: Threads + Wait + Sync>(
-    rt: &R,
-    alloc: Global,
-    shared: &SharedPeer,
-    job: &mut Job<L>,
-    validates: bool,
-)
-    requires { job.old.pass.table ≡ shared.now }
-    ensures { Worked L.got L.sent L.faults L.closes validates job.old job.new }
-{
-    let Job {
-        pass,
-        link,
-        outcome,
-    } = job;
-    *outcome = Some(serve_link(rt, alloc, shared, pass, link, validates));
-}
-
 /// Serves the links of all jobs to their ends, each in a thread of its own. Where no thread can be had, those without
 /// one are served one after the other.
-pub(crate) fn work_all<L: Link + Send, R: Threads + Wait + Sync>(
+pub(crate) fn serve_links<L: Link + Send, R: Threads + Wait + Sync>(
     rt: &R,
     alloc: Global,
     shared: &SharedPeer,
@@ -41,7 +22,8 @@ pub(crate) fn work_all<L: Link + Send, R: Threads + Wait + Sync>(
     validates: bool,
 )
     requires { (i : ℕ) (d : _) → i < length jobs.old → (slice_index_or jobs.old i d).pass.table ≡ shared.now }
-    ensures { (i : ℕ) (d : _) → i < length jobs.old → Worked L.got L.sent L.faults L.closes validates (slice_index_or jobs.old i d) (slice_index_or jobs.new i d) }
+    ensures { (i : ℕ) (d : _) → i < length jobs.old
+        → Worked L.got L.sent L.faults L.closes validates (slice_index_or jobs.old i d) (slice_index_or jobs.new i d) }
 {
     let threads = jobs.len().max(1);
     thread::for_each_mut(
@@ -50,6 +32,13 @@ pub(crate) fn work_all<L: Link + Send, R: Threads + Wait + Sync>(
         threads,
         &|_: usize, job: &mut Job<L>|
             requires { IsSync R.row × (job.now.pass.table ≡ shared.now) }
-        { work_one(rt, alloc, shared, job, validates) },
+        {
+            let Job {
+                pass,
+                link,
+                outcome,
+            } = job;
+            *outcome = Some(serve_link(rt, alloc, shared, pass, link, validates));
+        },
     );
 }

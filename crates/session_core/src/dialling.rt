@@ -35,7 +35,8 @@ pub fn dial_link<L: Link, R: Threads + Wait + Sync>(
     ensures closes { L.closes link.new ≡ L.closes link.old + closed_by result }
     ensures faults { L.faults link.new ≡ faults_after_session (L.faults link.old) result }
     // The new steps and messages are those of a session, whole or cut by the fault.
-    ensures session { Session (dialling validates rounds) (side pass.old (L.got link.old) (L.sent link.old)) (side pass.new (L.got link.new) (L.sent link.new)) result }
+    ensures session { Session (dialling validates rounds)
+        (side pass.old (L.got link.old) (L.sent link.old)) (side pass.new (L.got link.new) (L.sent link.new)) result }
 {
     let mut mark = 0;
     for round in 0..rounds {

@@ -33,7 +33,8 @@ pub fn serve_link<L: Link, R: Threads + Wait + Sync>(
     ensures closes { L.closes link.new ≡ L.closes link.old + closed_by result }
     ensures faults { L.faults link.new ≡ faults_after_session (L.faults link.old) result }
     // The new steps and messages are those of a session, whole or cut by the fault.
-    ensures session { Session (serving validates) (side pass.old (L.got link.old) (L.sent link.old)) (side pass.new (L.got link.new) (L.sent link.new)) result }
+    ensures session { Session (serving validates)
+        (side pass.old (L.got link.old) (L.sent link.old)) (side pass.new (L.got link.new) (L.sent link.new)) result }
 {
     let mut mark = 0;
     let mut turns = 0;

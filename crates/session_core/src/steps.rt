@@ -91,7 +91,8 @@ pub(crate) fn clear<R: Threads + Wait + Sync>(
     requires { pass.old.table ≡ shared.now }
     ensures keeps { KeepsPass pass.old pass.new result }
     ensures talk { (mode : Mode) (s : SessionState) (got sent : Option (List (List ℕ)))
-        → GetsTo mode (in_phase (clearing backlog) s) (side pass.old got sent) (side pass.new got sent) result (after_clearing mode backlog true s) }
+        → GetsTo mode (in_phase (clearing backlog) s) (side pass.old got sent) (side pass.new got sent) result
+        (after_clearing mode backlog true s) }
 {
     for _ in rt.forever() {
         let cleared = take_next(rt, alloc, shared, pass, backlog)?;

@@ -31,7 +31,8 @@ pub(crate) fn send_turn<L: Link, R: Threads + Wait + Sync>(
     ensures closes { L.closes link.new ≡ L.closes link.old + closed_by result }
     ensures faults { L.faults link.new ≡ faults_after_session (L.faults link.old) result }
     ensures grown { length pass.old.view.seen ≤ length pass.new.view.seen }
-    ensures talk { TurnOut (side pass.old (L.got link.old) (L.sent link.old)) (side pass.new (L.got link.new) (L.sent link.new)) mark result }
+    ensures talk { TurnOut
+        (side pass.old (L.got link.old) (L.sent link.old)) (side pass.new (L.got link.new) (L.sent link.new)) mark result }
 {
     let mut mark = mark;
     for _ in rt.forever() {
@@ -65,7 +66,8 @@ pub(crate) fn receive_turn<L: Link, R: Threads + Wait + Sync>(
     ensures closes { L.closes link.new ≡ L.closes link.old + closed_by result }
     ensures faults { L.faults link.new ≡ faults_after_session (L.faults link.old) result }
     ensures grown { length pass.old.view.seen ≤ length pass.new.view.seen }
-    ensures talk { TurnIn validates (side pass.old (L.got link.old) (L.sent link.old)) (side pass.new (L.got link.new) (L.sent link.new)) result }
+    ensures talk { TurnIn validates
+        (side pass.old (L.got link.old) (L.sent link.old)) (side pass.new (L.got link.new) (L.sent link.new)) result }
 {
     for _ in rt.forever() {
         let frame = receive_frame(alloc, link)?;
