@@ -25,9 +25,6 @@ use std::{env, io, str};
 pub use stored_call::stored;
 pub use word::Word;
 
-#[cfg(test)]
-mod tests;
-
 // The words behind the program's name.
 fn words<R: Env + AllocGlobal>(rt: &R) -> io::Result<Vec<Word>> {
     let mut all = Vec::new(rt.alloc());

@@ -11,8 +11,3 @@ mod worker;
 pub use form::race_form;
 pub use lists::{WorkLists, read_lists};
 pub use worker::{Worker, worker_of};
-
-#[cfg(test)]
-mod list_tests;
-#[cfg(test)]
-mod tests;

@@ -13,6 +13,3 @@ mod writing;
 
 pub use form::watch_form;
 pub use limits::MAX_LINES;
-
-#[cfg(test)]
-mod tests;

@@ -15,6 +15,3 @@ pub use fault::HoldFault;
 pub use held::Held;
 pub use hold::{Due, HoldBack, MAX_HELD};
 pub use need::Need;
-
-#[cfg(test)]
-mod tests;

@@ -16,6 +16,3 @@ pub use page::Page;
 pub use reader::ScreenReader;
 pub use screen::Screen;
 pub use told::Told;
-
-#[cfg(test)]
-mod tests;
