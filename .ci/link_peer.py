@@ -258,10 +258,14 @@ def op_body(words):
             return struct.pack(">BH", 1, int(user))
         case ["deluser", user]:
             return struct.pack(">BH", 2, int(user))
+        case ["addobj", number, "span", first, last]:
+            return struct.pack(">BHB", 3, int(number), 1) + name_of(first) + name_of(last)
         case ["addauth", place, sign_word, users, rights, objects]:
             bits = sum(1 << "idu".index(it) for it in rights)
             head = struct.pack(">BHBB", 5, int(place), sign_word == "+", bits)
             return head + numbers_of(users) + numbers_of(objects)
+        case ["delauth", place]:
+            return struct.pack(">BH", 6, int(place))
         case ["validate", name]:
             return b"\x07" + name_of(name)
     raise ValueError(words)
