@@ -1,10 +1,8 @@
 """Random scripts and streams for the built program, and what has to hold of its answers whatever they are."""
-import random
-import struct
 import subprocess
-import sys
 import tempfile
-import time
+
+import frames
 
 PIECES = ["a", "b", "\\n", "\\s", "\\\\", "é", "€", "𝄞", "word", "two\\swords", "x" * 255]
 RIGHTS = ["i", "d", "u", "id", "iu", "du", "idu"]
@@ -222,41 +220,42 @@ def check_changed_line(program, rng, lines, told):
         raise Broken(f"{len(written)} answers, the last {written[-1]!r}, where line {at + 1} was changed")
 
 
+def check_script(program, rng):
+    peers, lines = script(rng)
+    told = answers(program, lines)
+    try:
+        check_journals(program, rng, peers, lines)
+        check_changed_line(program, rng, lines, told)
+    except Broken as broken:
+        raise Broken(f"{broken}\n" + "\n".join(lines)) from None
+
+
 # ---- streams
 
-def name_bytes(name):
-    stamp, site = key_of(name)
-    return struct.pack(">Q", stamp << 16 | site)
-
-
 def plain_piece(piece):
-    return piece.replace("\\n", "\n").replace("\\s", " ").replace("\\\\", "\\").encode()
+    return piece.replace("\\n", "\n").replace("\\s", " ").replace("\\\\", "\\")
 
 
-def request_body(words):
-    name, version, kind, about = words[1], int(words[2]), words[3], words[4]
-    piece = plain_piece(words[5]) if kind != "delete" else b""
-    head = name_bytes(name) + struct.pack(">H", version) + name_bytes(about)
-    one = len(piece.decode()) == 1
+def request_frame(words):
+    own, version, kind, about = frames.name(*key_of(words[1])), int(words[2]), words[3], frames.name(*key_of(words[4]))
     if kind == "delete":
-        return bytes([1, 2]) + head
-    number = {"insert": 1, "update": 3}[kind]
-    if one:
-        return bytes([1, number]) + head + struct.pack(">I", ord(piece.decode()))
-    return bytes([2, number]) + head + bytes([len(piece)]) + piece
+        return frames.delete(own, version, about)
+    return {"insert": frames.insert, "update": frames.update}[kind](own, version, about, plain_piece(words[5]))
+
+
+def frame_of(words):
+    """The frame of a request, or of an entry that adds or removes a user; none of any other message."""
+    if words[0] == "request":
+        return request_frame(words)
+    users = {"adduser": frames.ADD_USER, "deluser": frames.DEL_USER}
+    if words[2] in users:
+        return frames.entry(int(words[1]), users[words[2]], frames.short(int(words[3])))
+    return b""
 
 
 def frames_of(rng, lines):
-    """Frames of requests and of simple entries, turns and ends among them, some of them damaged."""
-    stream = b""
-    for _ in range(rng.randint(1, 60)):
-        words = lines.message().split(" ")
-        body = request_body(words) if words[0] == "request" else None
-        if words[0] == "entry" and words[2] in ("adduser", "deluser"):
-            body = bytes([1, 4]) + struct.pack(">HBH", int(words[1]), {"adduser": 1, "deluser": 2}[words[2]], int(words[3]))
-        if body is None:
-            continue
-        stream += struct.pack(">I", len(body)) + body
+    """Frames of requests and of simple entries, some of them damaged."""
+    stream = b"".join(frame_of(lines.message().split(" ")) for _ in range(rng.randint(1, 60)))
     damaged = bytearray(stream)
     for _ in range(rng.choice([0, 0, 1, 2])):
         if damaged:
@@ -291,35 +290,3 @@ def check_stream(program, rng):
     whole = run(program, ["feed", "2"], stream)
     if feed_in_chunks(program, rng, stream) != whole:
         raise Broken("a stream in chunks is answered in another way")
-
-
-# ---- the run
-
-def check_script(program, rng):
-    peers, lines = script(rng)
-    told = answers(program, lines)
-    try:
-        check_journals(program, rng, peers, lines)
-        check_changed_line(program, rng, lines, told)
-    except Broken as broken:
-        raise Broken(f"{broken}\n" + "\n".join(lines)) from None
-
-
-def main():
-    program, seconds = sys.argv[1], float(sys.argv[2])
-    seed = int(sys.argv[3]) if len(sys.argv) > 3 else 1
-    end, scripts, streams = time.monotonic() + seconds, 0, 0
-    while time.monotonic() < end:
-        try:
-            check_script(program, random.Random(f"script {seed}"))
-            scripts += 1
-            check_stream(program, random.Random(f"stream {seed}"))
-            streams += 1
-        except Broken as broken:
-            sys.exit(f"fuzzing: seed {seed}: {broken}")
-        seed += 1
-    print(f"fuzzing: {scripts} scripts and {streams} streams, nothing broken; the next seed is {seed}")
-
-
-if __name__ == "__main__":
-    main()

@@ -1,15 +1,14 @@
 """Runs the built program while the machine fails it, and holds what it writes against what it writes otherwise.
 
-    faults PROGRAM growths FAILING   each allocation finds no memory, one at a time
-    faults PROGRAM calls FAULTY      each read and each write fails, one at a time, and all are cut
+- `growths`: each allocation finds no memory, one at a time.
+- `calls`: each read and each write fails, one at a time, and all are cut.
 
-FAILING and FAULTY are failing.c and faulty.c, compiled. Each run has to end by itself, with nothing on standard error, and with
+Their libraries are failing.c and faulty.c, compiled. Each run has to end by itself, with nothing on standard error, and with
 what its form promises: the usual status and output, or the status of what failed and a beginning of that output.
 """
 import errno
 import os
 import subprocess
-import sys
 import tempfile
 
 DONE, BAD_INPUT, READ_FAULT, WRITE_FAULT, NO_MEMORY = 0, 3, 4, 5, 7
@@ -322,15 +321,3 @@ def calls(program, library):
         cut = f"cut to {most} bytes a call" if most else "not cut"
         print(f"calls: {case.name}, {cut}: each of {reads} reads and {writes} writes failed and was interrupted", flush=True)
     odd_streams(program)
-
-
-def main():
-    program, part, library = sys.argv[1:]
-    try:
-        {"growths": growths, "calls": calls}[part](program, os.path.abspath(library))
-    except Broken as broken:
-        sys.exit(f"{part}: {broken}")
-
-
-if __name__ == "__main__":
-    main()

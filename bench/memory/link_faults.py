@@ -1,28 +1,23 @@
 """Runs a session over a link while the machine fails the built program.
 
-    link_faults PROGRAM FAILING FAULTY
-
-FAILING and FAULTY are failing.c and faulty.c, compiled. Each allocation of a `serve` and of a `dial` finds no memory, one at a time, and
+`failing` and `faulty` are failing.c and faulty.c, compiled. Each allocation of a `serve` and of a `dial` finds no memory, one at a time, and
 each call that receives or sends fails, and is interrupted. Each run has to end by itself, with nothing on standard error, and with
 what it promises: the report of a run, whose answers a script gives too, and the line of what failed; or, where memory was wanting, a
 beginning of that.
 """
 import errno
-import importlib.machinery
 import os
 import re
 import select
 import socket
 import subprocess
-import sys
 import tempfile
 
-sys.path.insert(0, ".ci")
+import faults
 import link_peer
+from faults import DONE, NO_MEMORY, Broken
 from link_peer import END, TURN, accept, dial, frame_of, free_port, listening
 
-faults = importlib.machinery.SourceFileLoader("faults", "bench/memory/faults").load_module()
-Broken, DONE, NO_MEMORY = faults.Broken, faults.DONE, faults.NO_MEMORY
 LINK_FAULT = 6
 
 SERVED = b"admin adduser 1\nadmin addauth 0 + 1 idu 0\nedit insert 0 Tea.\n"
@@ -216,16 +211,8 @@ def calls(form, path, library, most):
     print(f"links: {form}, {cut}: each of {recvs} receivings and {sends} sendings failed and was interrupted; runs ended so: {told}", flush=True)
 
 
-def main():
-    path, failing, faulty = sys.argv[1:]
-    try:
-        for form in FORMS:
-            growths(form, path, failing)
-            for most in (0, 7):
-                calls(form, path, faulty, most)
-    except Broken as broken:
-        sys.exit(f"links: {broken}")
-
-
-if __name__ == "__main__":
-    main()
+def links(path, failing, faulty):
+    for form in FORMS:
+        growths(form, path, failing)
+        for most in (0, 7):
+            calls(form, path, faulty, most)
