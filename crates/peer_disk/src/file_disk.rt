@@ -122,11 +122,12 @@ impl<'a> FileDisk<'a> {
         self.file()?.write_all_at(bytes, from)
     }
 
-    fn sync_all(&mut self) -> io::Result<()>
+    // Puts the bytes and the length on the disk. What else the system keeps of a file, as its times, no call asks for.
+    fn sync_data(&mut self) -> io::Result<()>
         ensures { self.new.faults ≡ self.old.faults }
     {
         self.open()?;
-        let outcome = self.file()?.sync_all();
+        let outcome = self.file()?.sync_data();
         self.is_lost = outcome.is_err();
         outcome
     }
@@ -165,7 +166,7 @@ impl<'a> Disk for FileDisk<'a> {
     }
 
     fn sync(&mut self) -> Result<(), Failed> {
-        let result = self.sync_all();
+        let result = self.sync_data();
         counted(result, &mut self.faults)
     }
 }

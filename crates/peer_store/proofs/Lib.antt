@@ -1,3 +1,4 @@
+pub mod Ahead
 mod Changes
 mod Opening
 mod Putting

@@ -1,5 +1,5 @@
 -- A store that is opened, by what was read of its file.
-use Rattle.std.proofs.Common.{◌≡◌, inl, inr, ℕ, ◌<◌, List, [], ◌∷◌, ◌++◌, length, refl, sym, ◌∙◌, ap, subst, arith, length-append, All, Option, Some, None, IfSome, IsSome}
+use Rattle.std.proofs.Common.{◌≡◌, inl, inr, ℕ, ◌+◌, ◌<◌, List, [], ◌∷◌, ◌++◌, length, refl, sym, ◌∙◌, ap, subst, arith, length-append, All, Option, Some, None, IfSome, IsSome}
 use Rattle.std.proofs.lemmas.List.Elements.{All-take, All-tail}
 use Rattle.std.proofs.lemmas.List.{take_at}
 use Rattle.peer_disk.specs.Disk.{Only}
@@ -28,14 +28,15 @@ gate_in_file site bodies file has =
 pub has_gate : (site : ℕ) (bodies : List (List ℕ)) (seen now : Option (List ℕ)) (saved : Saved) → IfSome seen (HasBodies site bodies) → now ≡ seen → saved.place ≡ gate_place bodies → HasGate saved now
 has_gate site bodies None now saved has same place_is = subst (HasGate saved) (sym same) tt
 has_gate site bodies (Some file) now saved has same place_is =
-    let there : saved.place < length file = omega (arith, gate_in_file site bodies file has, place_is) in
+    let there : saved.place < length file + length (records saved.unsaved) = omega (arith, gate_in_file site bodies file has, place_is) in
     subst (HasGate saved) (sym same) there
 
 -- the peer that the bodies lead to is saved
 pub saved_again : (site : ℕ) (bodies : List (List ℕ)) (seen now : Option (List ℕ)) (may_leave : List ℕ → Type 0) (saved : Saved) → IsSome seen → IfSome seen (HasBodies site bodies) → now ≡ seen
-    → IfSome now (λ file. Only file may_leave) → IsReplay (fresh_peer site) bodies saved.peer → saved.place ≡ gate_place bodies → (steps : List Step) × IsSaved site steps saved now may_leave
-saved_again site bodies None now may_leave saved told has same only replay place_is = absurd (cc told)
-saved_again site bodies (Some file) now may_leave saved told has same only replay place_is = (
+    → IfSome now (λ file. Only file may_leave) → IsReplay (fresh_peer site) bodies saved.peer → saved.place ≡ gate_place bodies → saved.unsaved ≡ [] → saved.safe ≡ length saved.peer.journal
+    → (steps : List Step) × IsSaved site steps saved now may_leave
+saved_again site bodies None now may_leave saved told has same only replay place_is none safe_is = absurd (cc told)
+saved_again site bodies (Some file) now may_leave saved told has same only replay place_is none safe_is = (
   replay.steps,
   record {
     bodies = bodies;
@@ -48,6 +49,8 @@ saved_again site bodies (Some file) now may_leave saved told has same only repla
       place_is = place_is;
     };
     peer_is = replay.after;
+    none = none;
+    safe_is = safe_is;
   },
 )
 

@@ -38,8 +38,19 @@ MayFailOpening NoMemory site seen before now = ⊤
 
 -- after a put that gave up so no refusal came first, and the step was made and the store is spent, or store and disk are as before
 abbrev pub IsLeftBy : {D : Type 0} → StoreFault → Step → Saved → Saved → D → D → Type 0
-IsLeftBy DiskFault step old new before now = (refusal_of old step ≡ None) × (new ≡ record { peer = peer_after old.peer step; place = old.place; spent = true })
+IsLeftBy DiskFault step old new before now = (refusal_of old step ≡ None) × (new.peer ≡ peer_after old.peer step) × (new.spent ≡ true) × (new.safe ≡ old.safe)
 IsLeftBy (NotAStore offset) step old new before now = ⊥
 IsLeftBy Spent step old new before now = (refusal_of old step ≡ Some Spent) × (new ≡ old) × (now ≡ before)
 IsLeftBy StoreFull step old new before now = (refusal_of old step ≡ Some StoreFull) × (new ≡ old) × (now ≡ before)
 IsLeftBy NoMemory step old new before now = (refusal_of old step ≡ None) × (new ≡ old) × (now ≡ before)
+
+-- a step isn't made in memory for want of it, or for the refusal that comes first
+abbrev pub IsNotMadeFor : StoreFault → Option StoreFault → Type 0
+IsNotMadeFor NoMemory refusal = refusal ≡ None
+IsNotMadeFor fault refusal = refusal ≡ Some fault
+
+-- after a save that gave up so, the store was spent and is as before, with its disk; or the disk failed and it is spent
+abbrev pub IsUnsavedBy : {D : Type 0} → StoreFault → Saved → Saved → D → D → Type 0
+IsUnsavedBy DiskFault old new before now = new ≡ record old { spent = true }
+IsUnsavedBy Spent old new before now = (old.spent ≡ true) × (new ≡ old) × (now ≡ before)
+IsUnsavedBy fault old new before now = ⊥

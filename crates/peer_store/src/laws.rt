@@ -1,10 +1,10 @@
 //! Laws of stores.
-ghost use Rattle.std.specs.Prelude.{◌≡◌, ◌↔◌, ℕ, List, true, false};
+ghost use Rattle.std.specs.Prelude.{◌≡◌, ◌↔◌, ◌++◌, ℕ, List, true, false};
 ghost use Rattle.peer_step.specs.declared.step.Step.{Step};
 ghost use Rattle.peer_core.specs.Peer.{Peer};
 ghost use Rattle.peer_core.specs.After.{peer_after};
-ghost use Rattle.peer_store.specs.Steps.{changes, is_look};
-ghost use Rattle.peer_store.specs.Store.{StandsFor, IsNoStoreFrom};
+ghost use Rattle.peer_store.specs.Steps.{replay_of, changes, is_look};
+ghost use Rattle.peer_store.specs.Store.{StandsFor, HasMessages, IsNoStoreFrom};
 
 /// A step changes a count of a peer's messages exactly where it changes the peer, and a look changes nothing.
 pub fn changing_steps()
@@ -27,3 +27,9 @@ pub fn no_store()
     record_file::laws::broken_has_none();
     record_step::laws::one_step();
 }
+
+/// A file that stands for steps, and then for more, has all messages that the peer had after the first. So what was
+/// saved once is there for good.
+pub fn messages_stay()
+    ensures { (site : ℕ) (steps more : List Step) (file : List ℕ) → StandsFor site (steps ++ more) file → HasMessages site (replay_of site steps).journal file }
+{}

@@ -3,6 +3,9 @@
 //! A store of a site is a file of records, which stands for steps: replayed from the fresh peer of the site, each
 //! changes it. So a peer is there again when its file is opened. A crash at any moment while a step is put leaves
 //! the steps from before it, with that step or without.
+//!
+//! A host with many steps makes each in memory, and then saves all of them at once, by two syncs: a crash at any
+//! moment of that leaves all of them or none. It sends what comes of them once they are saved.
 #![tactic(auto)]
 
 mod fault;

@@ -12,8 +12,8 @@ use crate::stepped::make_step;
 use element_name::NoMemory;
 use peer_core::Peer;
 use record_file::{BESIDE_BODY, Ending, FIRST_GATE, Loaded};
-use std::alloc::Global;
 use record_step::read_body;
+use std::alloc::Global;
 
 // Makes the step of a body, and says whether it is one that changes the peer.
 fn make_body(alloc: Global, peer: &mut Peer, body: &[u8]) -> Result<bool, NoMemory>

@@ -8,8 +8,8 @@ use element_name::NoMemory;
 use peer_core::Peer;
 use peer_step::Step;
 use record_file::Record;
-use std::alloc::Global;
 use record_step::body_of;
+use std::alloc::Global;
 
 /// The version that an operation of this peer would make.
 pub(crate) fn next_version(peer: &Peer) -> u32

@@ -1,12 +1,16 @@
 //! Steps that were made.
-ghost use Rattle.std.specs.Prelude.{◌≡◌, IfOk, OnOk, OnErr};
+ghost use Rattle.std.specs.Prelude.{◌≡◌, IfOk, OnOk, OnErr, true, false};
 ghost use Rattle.peer_core.specs.Answers.{answer_of};
 ghost use Rattle.peer_core.specs.After.{peer_after};
 ghost use Rattle.peer_store.specs.Steps.{changes};
+ghost use Rattle.peer_store.specs.Store.{IsKeptIn};
 
+use crate::spelled::step_record;
 use element_name::NoMemory;
 use peer_core::Peer;
 use peer_step::{Answer, Step};
+use record_file::Records;
+use std::alloc::Global;
 
 /// A step that was made.
 #[derive(Drop)]
@@ -28,4 +32,36 @@ pub(crate) fn make_step(peer: &mut Peer, step: Step) -> Result<Stepped, NoMemory
     let answer = peer.step(step)?;
     let changed = peer.journal_len() != joined || peer.held_len() != held;
     Ok(Stepped { answer, changed })
+}
+
+/// Makes a step, and keeps the record of one that changed the peer among those that aren't saved.
+pub(crate) fn keep_step(
+    alloc: Global,
+    peer: &mut Peer,
+    unsaved: &mut Records,
+    step: Step,
+) -> Result<Answer, NoMemory>
+    ensures answer { IfOk result (λ answer. answer ≡ answer_of peer.old step) }
+    ensures after { OnOk result (peer.new ≡ peer_after peer.old step) }
+    ensures kept { OnOk result (changes peer.old step ≡ true → IsKeptIn unsaved.old unsaved.new peer.old step) }
+    ensures quiet { OnOk result (changes peer.old step ≡ false → unsaved.new ≡ unsaved.old) }
+    ensures unchanged { OnErr result ((peer.new ≡ peer.old) × (unsaved.new ≡ unsaved.old)) }
+{
+    let Some(body) = step_record(alloc, peer, &step)? else {
+        let stepped = make_step(peer, step)?;
+        return Ok(stepped.answer);
+    };
+    unsaved.push(&body)?;
+    match make_step(peer, step) {
+        Ok(stepped) => {
+            if !stepped.changed {
+                unsaved.take_back(&body);
+            }
+            Ok(stepped.answer)
+        }
+        Err(wanting) => {
+            unsaved.take_back(&body);
+            Err(wanting)
+        }
+    }
 }

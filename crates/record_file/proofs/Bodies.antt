@@ -1,11 +1,11 @@
 -- What files of records have, by the bytes at their gates.
-use Rattle.std.proofs.Common.{◌≡◌, inl, inr, ℕ, ◌+◌, ◌≤◌, List, [], ◌∷◌, ◌++◌, length, get_or, drop, refl, sym, ◌∙◌, ap, subst, arith, append_assoc, length-append, Option, None, Some, option_map, IfSome, IsSome}
+use Rattle.std.proofs.Common.{◌≡◌, inl, inr, ℕ, ◌+◌, ◌≤◌, List, [], ◌∷◌, ◌++◌, length, get_or, drop, refl, sym, ◌∙◌, ap, subst, arith, append_assoc, length-append, Option, None, Some, option_map, IfSome, IsSome, All}
 use Rattle.std.specs.Int.{w16, to_be_bytes}
 use Rattle.std.proofs.lemmas.Bool.{cases_eq}
-use Rattle.std.proofs.lemmas.List.Elements.{All-push}
+use Rattle.std.proofs.lemmas.List.Elements.{All-append}
 use Rattle.peer_disk.specs.Disk.{overwritten, Torn, Only}
-use Rattle.record_file.specs.Records.{file_head, record_of, records, gate_place, behind_gate_of, FitsRecord, HasBodies, Keeps, IsBeforeOrAfter, TornSince, HasNoneIfAny}
-use Rattle.record_file.proofs.Appending.{records-push}
+use Rattle.record_file.specs.Records.{file_head, record_of, records, gate_place, FitsRecord, AreBehindGate, HasBodies, Keeps, IsBeforeOrAll, TornSince, HasNoneIfAny}
+use Rattle.record_file.proofs.Appending.{records-append}
 use Rattle.record_file.proofs.Torn.{torn_behind, torn_gate, wrote_behind, wrote_gate}
 
 -- the head and the records of these bodies, to which the last gate comes
@@ -15,16 +15,16 @@ before_gate site bodies = file_head site ++ records bodies
 pub before_gate_size : (site : ℕ) (bodies : List (List ℕ)) → length (before_gate site bodies) ≡ gate_place bodies
 before_gate_size site bodies = length-append (file_head site) (records bodies)
 
--- a record with its gate open, and then the next gate
-pub one_more : (site : ℕ) (bodies : List (List ℕ)) (body rest : List ℕ)
-    → before_gate site bodies ++ 1 ∷ (behind_gate_of body ++ rest) ≡ before_gate site (bodies ++ body ∷ []) ++ 0 ∷ rest
-one_more site bodies body rest =
+-- records with their gates open, and then the next gate
+pub all_more : (site : ℕ) (bodies more : List (List ℕ)) (behind rest : List ℕ) → AreBehindGate more behind
+    → before_gate site bodies ++ 1 ∷ (behind ++ rest) ≡ before_gate site (bodies ++ more) ++ 0 ∷ rest
+all_more site bodies more behind rest are =
     let prefix = before_gate site bodies in
-    let inside : 1 ∷ (behind_gate_of body ++ rest) ≡ record_of body ++ 0 ∷ rest
-    = ap (λ (l : List ℕ). 1 ∷ l) (append_assoc (to_be_bytes w16 (length body) ++ body) (0 ∷ []) rest) in
+    let inside : 1 ∷ (behind ++ rest) ≡ records more ++ 0 ∷ rest
+    = ap (λ (l : List ℕ). l ++ rest) are.bytes_are ∙ append_assoc (records more) (0 ∷ []) rest in
     ap (λ (l : List ℕ). prefix ++ l) inside
-    ∙ sym (append_assoc prefix (record_of body) (0 ∷ rest))
-    ∙ ap (λ (l : List ℕ). l ++ 0 ∷ rest) (append_assoc (file_head site) (records bodies) (record_of body) ∙ ap (λ (l : List ℕ). file_head site ++ l) (sym (records-push bodies body)))
+    ∙ sym (append_assoc prefix (records more) (0 ∷ rest))
+    ∙ ap (λ (l : List ℕ). l ++ 0 ∷ rest) (append_assoc (file_head site) (records bodies) (records more) ∙ ap (λ (l : List ℕ). file_head site ++ l) (sym (records-append bodies more)))
 
 -- ---- the two writes of a put
 
@@ -42,61 +42,65 @@ module _ (site : ℕ) (bodies : List (List ℕ)) (place : ℕ) (seen : Option (L
 
   -- what is left behind the first
   abbrev pub tail : List ℕ → List ℕ
-  tail body = drop (length (before_gate site bodies) + 1 + length (behind_gate_of body)) (before_gate site bodies ++ kept.has.gate ∷ kept.has.rest)
+  tail behind = drop (length (before_gate site bodies) + 1 + length behind) (before_gate site bodies ++ kept.has.gate ∷ kept.has.rest)
 
   -- the file after the first
-  pub staged : (body : List ℕ) (now : Option (List ℕ)) → now ≡ option_map (λ file. overwritten file (place + 1) (behind_gate_of body)) seen
-      → now ≡ Some (before_gate site bodies ++ kept.has.gate ∷ (behind_gate_of body ++ tail body))
-  staged body now is =
+  pub staged : (behind : List ℕ) (now : Option (List ℕ)) → now ≡ option_map (λ file. overwritten file (place + 1) behind) seen
+      → now ≡ Some (before_gate site bodies ++ kept.has.gate ∷ (behind ++ tail behind))
+  staged behind now is =
       is
-      ∙ ap (option_map (λ file. overwritten file (place + 1) (behind_gate_of body))) (kept.told ∙ ap Some kept.has.bytes)
-      ∙ ap (λ (k : ℕ). Some (overwritten (before_gate site bodies ++ kept.has.gate ∷ kept.has.rest) (k + 1) (behind_gate_of body))) place_is
-      ∙ ap Some (wrote_behind (before_gate site bodies) kept.has.gate kept.has.rest (behind_gate_of body))
+      ∙ ap (option_map (λ file. overwritten file (place + 1) behind)) (kept.told ∙ ap Some kept.has.bytes)
+      ∙ ap (λ (k : ℕ). Some (overwritten (before_gate site bodies ++ kept.has.gate ∷ kept.has.rest) (k + 1) behind)) place_is
+      ∙ ap Some (wrote_behind (before_gate site bodies) kept.has.gate kept.has.rest behind)
 
-  -- a file with any byte in the gate's place, behind which the body stands
-  with_gate : (body left : List ℕ) (gate : ℕ) → FitsRecord body → left ≡ before_gate site bodies ++ gate ∷ (behind_gate_of body ++ tail body) → IsBeforeOrAfter site bodies body left
-  with_gate body left gate fits is = elim (cases_eq gate 1) [
-    | inl opened ↦ inr (record {
-      gate = 0;
-      rest = tail body;
-      closed = omega arith;
-      short = All-push FitsRecord bodies body kept.has.short fits;
-      bytes = is ∙ ap (λ (g : ℕ). before_gate site bodies ++ g ∷ (behind_gate_of body ++ tail body)) opened ∙ one_more site bodies body (tail body);
-    })
-    | inr shut ↦ inl (record { gate = gate; rest = behind_gate_of body ++ tail body; closed = shut; short = kept.has.short; bytes = is })
-  ]
+  module _ (more : List (List ℕ)) (behind : List ℕ) (are : AreBehindGate more behind) where
+    all_short : All FitsRecord (bodies ++ more)
+    all_short = All-append FitsRecord bodies more kept.has.short are.short
 
-  -- a crash during the second leaves the bodies, with the new one or without
-  pub second_leaves : (body : List ℕ) (now : List ℕ → Type 0) (left : List ℕ) → FitsRecord body → Only (before_gate site bodies ++ kept.has.gate ∷ (behind_gate_of body ++ tail body)) now
-      → TornSince now place 1 left → IsBeforeOrAfter site bodies body left
-  second_leaves body now left fits only since =
-      let torn : Torn (length (before_gate site bodies)) 1 (before_gate site bodies ++ kept.has.gate ∷ (behind_gate_of body ++ tail body)) left
-      = subst (λ (k : ℕ). Torn k 1 (before_gate site bodies ++ kept.has.gate ∷ (behind_gate_of body ++ tail body)) left) place_is (subst (λ (f : List ℕ). Torn place 1 f left) (only since.0 since.1) since.2) in
-      with_gate body left (get_or left (length (before_gate site bodies)) 0) fits (torn_gate (before_gate site bodies) kept.has.gate (behind_gate_of body ++ tail body) left torn)
+    -- a file with any byte in the gate's place, behind which the bodies stand
+    with_gate : (left : List ℕ) (gate : ℕ) → left ≡ before_gate site bodies ++ gate ∷ (behind ++ tail behind) → IsBeforeOrAll site bodies more left
+    with_gate left gate is = elim (cases_eq gate 1) [
+      | inl opened ↦ inr (record {
+        gate = 0;
+        rest = tail behind;
+        closed = omega arith;
+        short = all_short;
+        bytes = is ∙ ap (λ (g : ℕ). before_gate site bodies ++ g ∷ (behind ++ tail behind)) opened ∙ all_more site bodies more behind (tail behind) are;
+      })
+      | inr shut ↦ inl (record { gate = gate; rest = behind ++ tail behind; closed = shut; short = kept.has.short; bytes = is })
+    ]
 
-  -- the file after both
-  pub opened : (body : List ℕ) (middle now : Option (List ℕ)) → middle ≡ Some (before_gate site bodies ++ kept.has.gate ∷ (behind_gate_of body ++ tail body))
-      → now ≡ option_map (λ file. overwritten file place (1 ∷ [])) middle → now ≡ Some (before_gate site (bodies ++ body ∷ []) ++ 0 ∷ tail body)
-  opened body middle now told is =
-      is
-      ∙ ap (option_map (λ file. overwritten file place (1 ∷ []))) told
-      ∙ ap (λ (k : ℕ). Some (overwritten (before_gate site bodies ++ kept.has.gate ∷ (behind_gate_of body ++ tail body)) k (1 ∷ []))) place_is
-      ∙ ap Some (wrote_gate (before_gate site bodies) kept.has.gate (behind_gate_of body ++ tail body) 1)
-      ∙ ap Some (one_more site bodies body (tail body))
+    -- a crash during the second leaves the bodies, with all new ones or without
+    pub second_leaves : (now : List ℕ → Type 0) (left : List ℕ) → Only (before_gate site bodies ++ kept.has.gate ∷ (behind ++ tail behind)) now
+        → TornSince now place 1 left → IsBeforeOrAll site bodies more left
+    second_leaves now left only since =
+        let torn : Torn (length (before_gate site bodies)) 1 (before_gate site bodies ++ kept.has.gate ∷ (behind ++ tail behind)) left
+        = subst (λ (k : ℕ). Torn k 1 (before_gate site bodies ++ kept.has.gate ∷ (behind ++ tail behind)) left) place_is (subst (λ (f : List ℕ). Torn place 1 f left) (only since.0 since.1) since.2) in
+        with_gate left (get_or left (length (before_gate site bodies)) 0) (torn_gate (before_gate site bodies) kept.has.gate (behind ++ tail behind) left torn)
 
-  pub next_place : (body : List ℕ) → place + 3 + length body ≡ gate_place (bodies ++ body ∷ [])
-  next_place body =
-      omega (arith, kept.place_is, ap length (records-push bodies body), length-append (records bodies) (record_of body), length-append (to_be_bytes w16 (length body)) body)
+    -- the file after both
+    pub opened : (middle now : Option (List ℕ)) → middle ≡ Some (before_gate site bodies ++ kept.has.gate ∷ (behind ++ tail behind))
+        → now ≡ option_map (λ file. overwritten file place (1 ∷ [])) middle → now ≡ Some (before_gate site (bodies ++ more) ++ 0 ∷ tail behind)
+    opened middle now told is =
+        is
+        ∙ ap (option_map (λ file. overwritten file place (1 ∷ []))) told
+        ∙ ap (λ (k : ℕ). Some (overwritten (before_gate site bodies ++ kept.has.gate ∷ (behind ++ tail behind)) k (1 ∷ []))) place_is
+        ∙ ap Some (wrote_gate (before_gate site bodies) kept.has.gate (behind ++ tail behind) 1)
+        ∙ ap Some (all_more site bodies more behind (tail behind) are)
 
-  pub keeps_one_more : (body : List ℕ) (now : Option (List ℕ)) (now_may : List ℕ → Type 0) → FitsRecord body → now ≡ Some (before_gate site (bodies ++ body ∷ []) ++ 0 ∷ tail body)
-      → Only (before_gate site (bodies ++ body ∷ []) ++ 0 ∷ tail body) now_may → Keeps site (bodies ++ body ∷ []) (place + 3 + length body) now now_may
-  keeps_one_more body now now_may fits told only = record {
-    file = before_gate site (bodies ++ body ∷ []) ++ 0 ∷ tail body;
-    told = told;
-    has = record { gate = 0; rest = tail body; closed = omega arith; short = All-push FitsRecord bodies body kept.has.short fits; bytes = refl };
-    durable = only;
-    place_is = next_place body;
-  }
+    pub next_place : place + length behind ≡ gate_place (bodies ++ more)
+    next_place =
+        omega (arith, kept.place_is, ap length (records-append bodies more), length-append (records bodies) (records more), ap length are.bytes_are, length-append (records more) (0 ∷ []))
+
+    pub keeps_more : (now : Option (List ℕ)) (now_may : List ℕ → Type 0) → now ≡ Some (before_gate site (bodies ++ more) ++ 0 ∷ tail behind)
+        → Only (before_gate site (bodies ++ more) ++ 0 ∷ tail behind) now_may → Keeps site (bodies ++ more) (place + length behind) now now_may
+    keeps_more now now_may told only = record {
+      file = before_gate site (bodies ++ more) ++ 0 ∷ tail behind;
+      told = told;
+      has = record { gate = 0; rest = tail behind; closed = omega arith; short = all_short; bytes = refl };
+      durable = only;
+      place_is = next_place;
+    }
 
 -- ---- a new file
 

@@ -1,11 +1,11 @@
 -- What a crash leaves over a write and its sync, and over the two of a put.
-use Rattle.std.proofs.Common.{◌≡◌, inl, ℕ, ◌+◌, List, [], ◌∷◌, ◌++◌, length, ◌∙◌, ap, subst, Option, Some, IfSome, option_map}
+use Rattle.std.proofs.Common.{◌≡◌, inl, ℕ, ◌+◌, List, [], ◌∷◌, ◌++◌, length, subst, Option, Some, IfSome, option_map}
 use Rattle.peer_disk.specs.Disk.{overwritten, Torn, Only, LeavesAfter, Elapses, LeavesOnly}
 use Rattle.peer_disk.proofs.Moments.{started, goes_on, weakened, chained}
 use Rattle.peer_disk.proofs.Tearing.{torn_same}
-use Rattle.record_file.specs.declared.layout.TheConstants.{OPEN, BESIDE_BODY}
-use Rattle.record_file.specs.Records.{behind_gate_of, FitsRecord, Keeps, IsBeforeOrAfter, TornSince}
-use Rattle.record_file.proofs.Bodies.{before_gate, tail, first_leaves, second_leaves, staged, opened, keeps_one_more}
+use Rattle.record_file.specs.declared.layout.TheConstants.{OPEN}
+use Rattle.record_file.specs.Records.{AreBehindGate, Keeps, IsBeforeOrAll, TornSince}
+use Rattle.record_file.proofs.Bodies.{before_gate, tail, first_leaves, second_leaves, staged, opened, keeps_more}
 
 module _ {D : Type 0} (moment : D → ℕ) (left_since : D → ℕ → List ℕ → Type 0) (may_leave : D → List ℕ → Type 0) where
   -- one call of a disk, after which it has `may`
@@ -27,37 +27,37 @@ module _ {D : Type 0} (moment : D → ℕ) (left_since : D → ℕ → List ℕ 
 
   -- ---- the two writes of a put
 
-  module _ (seen : D → Option (List ℕ)) (site : ℕ) (bodies : List (List ℕ)) (place : ℕ) (old middle : D) (kept : Keeps site bodies place (seen old) (may_leave old)) (body : List ℕ) where
+  module _ (seen : D → Option (List ℕ)) (site : ℕ) (bodies : List (List ℕ)) (place : ℕ) (old middle : D) (kept : Keeps site bodies place (seen old) (may_leave old)) (more : List (List ℕ)) where
     -- a crash during the first leaves the bodies
-    pub during_first : (n : ℕ) → LeavesOnly moment left_since old middle (TornSince (may_leave old) (place + 1) n) → LeavesOnly moment left_since old middle (IsBeforeOrAfter site bodies body)
+    pub during_first : (n : ℕ) → LeavesOnly moment left_since old middle (TornSince (may_leave old) (place + 1) n) → LeavesOnly moment left_since old middle (IsBeforeOrAll site bodies more)
     during_first n leaves =
-        weakened moment left_since old middle (TornSince (may_leave old) (place + 1) n) (IsBeforeOrAfter site bodies body) leaves
+        weakened moment left_since old middle (TornSince (may_leave old) (place + 1) n) (IsBeforeOrAll site bodies more) leaves
         (λ left since. inl (first_leaves site bodies place (seen old) (may_leave old) kept n left since))
 
-    module _ (behind : List ℕ) (behind_is : behind ≡ behind_gate_of body) (short : FitsRecord body) (written : seen middle ≡ option_map (λ file. overwritten file (place + 1) behind) (seen old))
+    module _ (behind : List ℕ) (are : AreBehindGate more behind) (written : seen middle ≡ option_map (λ file. overwritten file (place + 1) behind) (seen old))
         (durable : IfSome (seen middle) (λ file. Only file (may_leave middle))) where
       -- the file after the first
       abbrev file : List ℕ
-      file = before_gate site bodies ++ kept.has.gate ∷ (behind_gate_of body ++ tail site bodies place (seen old) (may_leave old) kept body)
+      file = before_gate site bodies ++ kept.has.gate ∷ (behind ++ tail site bodies place (seen old) (may_leave old) kept behind)
 
       told : seen middle ≡ Some file
-      told = staged site bodies place (seen old) (may_leave old) kept body (seen middle) (written ∙ ap (λ (b : List ℕ). option_map (λ f. overwritten f (place + 1) b) (seen old)) behind_is)
+      told = staged site bodies place (seen old) (may_leave old) kept behind (seen middle) written
 
       only : Only file (may_leave middle)
       only = subst (λ (s : Option (List ℕ)). IfSome s (λ f. Only f (may_leave middle))) told durable
 
-      -- a crash during both leaves the bodies, with the new one or without
+      -- a crash during both leaves the bodies, with all new ones or without
       pub during_both : (n : ℕ) (new : D) → LeavesOnly moment left_since old middle (TornSince (may_leave old) (place + 1) n) → LeavesOnly moment left_since middle new (TornSince (may_leave middle) place 1)
-          → LeavesOnly moment left_since old new (IsBeforeOrAfter site bodies body)
+          → LeavesOnly moment left_since old new (IsBeforeOrAll site bodies more)
       during_both n new first second =
-          chained moment left_since old middle new (IsBeforeOrAfter site bodies body) (during_first n first)
-          (weakened moment left_since middle new (TornSince (may_leave middle) place 1) (IsBeforeOrAfter site bodies body) second
-          (λ left since. second_leaves site bodies place (seen old) (may_leave old) kept body (may_leave middle) left short only since))
+          chained moment left_since old middle new (IsBeforeOrAll site bodies more) (during_first n first)
+          (weakened moment left_since middle new (TornSince (may_leave middle) place 1) (IsBeforeOrAll site bodies more) second
+          (λ left since. second_leaves site bodies place (seen old) (may_leave old) kept more behind are (may_leave middle) left only since))
 
-      -- and after both the disk keeps them with it
+      -- and after both the disk keeps them all
       pub both_keep : (new : D) → seen new ≡ option_map (λ f. overwritten f place (OPEN ∷ [])) (seen middle) → IfSome (seen new) (λ f. Only f (may_leave new))
-          → Keeps site (bodies ++ body ∷ []) (place + BESIDE_BODY + length body) (seen new) (may_leave new)
+          → Keeps site (bodies ++ more) (place + length behind) (seen new) (may_leave new)
       both_keep new is stays =
-          let told_then = opened site bodies place (seen old) (may_leave old) kept body (seen middle) (seen new) told is in
-          keeps_one_more site bodies place (seen old) (may_leave old) kept body (seen new) (may_leave new) short told_then
+          let told_then = opened site bodies place (seen old) (may_leave old) kept more behind are (seen middle) (seen new) told is in
+          keeps_more site bodies place (seen old) (may_leave old) kept more behind are (seen new) (may_leave new) told_then
           (subst (λ (s : Option (List ℕ)). IfSome s (λ f. Only f (may_leave new))) told_then stays)

@@ -32,15 +32,15 @@ pub within_till : (place : ℕ) (seen : Option (List ℕ)) → IfSome seen (λ f
 within_till place None within = tt
 within_till place (Some file) within = omega (arith, within)
 
--- and the last byte of what is written behind it stands there
-pub next_there : (place n : ℕ) (bytes : List ℕ) (old middle new : Option (List ℕ)) → length bytes ≡ n + 3 → IfSome old (λ file. place < length file)
-    → middle ≡ option_map (λ file. overwritten file (place + 1) bytes) old → IsNoShorter middle new → IfSome new (λ file. place + 3 + n < length file)
-next_there place n bytes old middle None size within is longer = tt
-next_there place n bytes old None (Some new) size within is longer = absurd longer
-next_there place n bytes None (Some middle) (Some new) size within is longer = absurd (cc is)
-next_there place n bytes (Some old) (Some middle) (Some new) size within is longer =
+-- and what is written behind it stands there
+pub next_there : (place : ℕ) (bytes : List ℕ) (old middle new : Option (List ℕ)) → IfSome old (λ file. place < length file)
+    → middle ≡ option_map (λ file. overwritten file (place + 1) bytes) old → IsNoShorter middle new → IfSome new (λ file. place + length bytes < length file)
+next_there place bytes old middle None within is longer = tt
+next_there place bytes old None (Some new) within is longer = absurd longer
+next_there place bytes None (Some middle) (Some new) within is longer = absurd (cc is)
+next_there place bytes (Some old) (Some middle) (Some new) within is longer =
     let middle_is : middle ≡ overwritten old (place + 1) bytes = cc is in
-    omega (arith, within, longer, size, ap length middle_is, overwritten_size old (place + 1) bytes (omega (arith, within)))
+    omega (arith, within, longer, ap length middle_is, overwritten_size old (place + 1) bytes (omega (arith, within)))
 
 -- the gate of a new file
 pub first_there : (bytes : List ℕ) (old new : Option (List ℕ)) → length bytes ≡ 4 → IfSome old (λ file. file ≡ []) → new ≡ option_map (λ file. overwritten file 0 bytes) old → IfSome new (λ file. 3 < length file)

@@ -1,6 +1,6 @@
 pub mod Appending
 mod Behind
-mod Bodies
+pub mod Bodies
 mod Chunks
 mod Crashes
 mod Gates

@@ -1,5 +1,5 @@
 -- What a file of records is, and what bodies it has.
-use Rattle.std.specs.Prelude.{◌≡◌, ◌⊎◌, ⊤, ℕ, ◌+◌, ◌-◌, ◌<◌, ◌^◌, List, [], ◌∷◌, ◌++◌, length, take, drop, map, All, Option, Some, Vec, IfSome, IsSomeAnd, ◌≤◌}
+use Rattle.std.specs.Prelude.{◌≡◌, ◌⊎◌, ⊤, ℕ, suc, ◌+◌, ◌-◌, ◌<◌, ◌^◌, List, [], ◌∷◌, ◌++◌, length, take, drop, map, All, Option, Some, Vec, IfSome, IsSomeAnd, ◌≤◌}
 use Rattle.std.specs.Int.{w16, to_be_bytes, from_be_bytes}
 use Rattle.peer_disk.specs.Disk.{Torn, Only}
 use Rattle.record_file.specs.declared.layout.TheConstants.{FIRST_BYTE, FIRST_GATE, OPEN, CLOSED, BESIDE_BODY}
@@ -42,6 +42,26 @@ FitsRecord body = length body < 2 ^ 16
 abbrev pub IsBehindGate : List ℕ → Type 0
 IsBehindGate bytes = FitsRecord (body_behind bytes) × (bytes ≡ behind_gate_of (body_behind bytes))
 
+-- bytes are written behind a gate for these bodies: behind an open one they are the records, and then a closed gate
+pub record AreBehindGate (bodies : List (List ℕ)) (bytes : List ℕ) : Type 0 where
+  pub short : All FitsRecord bodies
+  pub bytes_are : OPEN ∷ bytes ≡ records bodies ++ CLOSED ∷ []
+
+-- the bodies of at most so many whole records that bytes begin with, whatever stands at their gates
+abbrev pub bodies_in : ℕ → List ℕ → List (List ℕ)
+bodies_in (suc most) (gate ∷ high ∷ low ∷ rest) =
+    take (from_be_bytes w16 (high ∷ low ∷ [])) rest ∷ bodies_in most (drop (from_be_bytes w16 (high ∷ low ∷ [])) rest)
+bodies_in most bytes = []
+
+-- all of them
+abbrev pub bodies_of : List ℕ → List (List ℕ)
+bodies_of bytes = bodies_in (length bytes) bytes
+
+-- bytes are records, and then a closed gate
+pub record AreClosedRecords (bytes : List ℕ) : Type 0 where
+  pub short : All FitsRecord (bodies_of bytes)
+  pub bytes_are : bytes ≡ records (bodies_of bytes) ++ CLOSED ∷ []
+
 -- a file of this site has these bodies: its head, a record of each, then a closed gate, and any bytes
 pub record HasBodies (site : ℕ) (bodies : List (List ℕ)) (file : List ℕ) : Type 0 where
   pub gate : ℕ
@@ -80,6 +100,10 @@ pub record Keeps (site : ℕ) (bodies : List (List ℕ)) (place : ℕ) (seen : O
 -- a file has these bodies, with one more or without it
 abbrev pub IsBeforeOrAfter : ℕ → List (List ℕ) → List ℕ → List ℕ → Type 0
 IsBeforeOrAfter site bodies body file = HasBodies site bodies file ⊎ HasBodies site (bodies ++ body ∷ []) file
+
+-- a file has these bodies, with all of some more or without them
+abbrev pub IsBeforeOrAll : ℕ → List (List ℕ) → List (List ℕ) → List ℕ → Type 0
+IsBeforeOrAll site bodies more file = HasBodies site bodies file ⊎ HasBodies site (bodies ++ more) file
 
 -- a file has no bodies, if it is a file of this site at all
 abbrev pub HasNoneIfAny : ℕ → List ℕ → Type 0

@@ -1,12 +1,13 @@
-//! One more record.
+//! More records.
 ghost use Rattle.std.specs.Prelude.{◌≡◌, ◌+◌, ◌<◌, ◌≤◌, ◌^◌, ◌++◌, ◌∷◌, [], ℕ, List, IfSome, IfOk, OnErr, length};
 ghost use Rattle.edit_io.specs.Causes.{Rose};
 ghost use Rattle.peer_disk.specs.Disk.{LeavesOnly};
-ghost use Rattle.record_file.specs.Records.{Keeps, IsBeforeOrAfter};
+ghost use Rattle.record_file.specs.Records.{records, Keeps, IsBeforeOrAfter, IsBeforeOrAll};
+ghost use Rattle.record_file.specs.declared.layout.TheConstants.{BESIDE_BODY};
 
-use crate::layout::{BESIDE_BODY, OPEN};
+use crate::gate::put_behind;
 use crate::record::Record;
-use crate::synced::write_synced;
+use crate::records::Records;
 use edit_io::Failed;
 use peer_disk::Disk;
 
@@ -35,7 +36,35 @@ pub fn put<D: Disk>(disk: &mut D, place: u64, body: &Record) -> Result<u64, Fail
     ensures failed { OnErr result (Rose (D.faults disk.old) (D.faults disk.new)) }
     ensures faults { D.faults disk.old ≤ D.faults disk.new }
 {
-    write_synced(disk, place + 1, body.behind())?;
-    write_synced(disk, place, &[OPEN])?;
-    Ok(place + BESIDE_BODY + body.body_len())
+    put_behind(disk, place, body.behind())
+}
+
+/// Adds several records at once to a file whose last gate stands at this place, and gives the place of the gate behind
+/// them.
+///
+/// At `Ok` all bodies are on the disk: from then on each crash leaves a file that has them. It takes two writes and
+/// two syncs, however many there are, and no memory. It fails where the disk did, and the file is then to be opened
+/// again: either all are there or none is.
+pub fn put_all<D: Disk>(disk: &mut D, place: u64, more: &Records) -> Result<u64, Failed>
+    requires some { more.now ≡ [] → ⊥ }
+    requires gate { IfSome (D.seen disk.old) (λ file. place < length file) }
+    requires room { place < 2 ^ 62 }
+
+    ensures kept { IfOk result (λ next. (site : ℕ) (bodies : List (List ℕ)) → Keeps site bodies place (D.seen disk.old) (D.may_leave disk.old)
+        → Keeps site (bodies ++ more.now) next (D.seen disk.new) (D.may_leave disk.new)) }
+
+    // A crash at any moment of the call leaves the bodies from before it, with all new ones or with none of them.
+    ensures any_moment { (site : ℕ) (bodies : List (List ℕ)) → Keeps site bodies place (D.seen disk.old) (D.may_leave disk.old)
+        → LeavesOnly D.moment D.left_since disk.old disk.new (IsBeforeOrAll site bodies more.now) }
+
+    // A gate stands there for the next one, and stays where it was otherwise.
+    ensures next { IfOk result (λ next. next ≡ place + length (records more.now)) }
+    ensures next_gate { IfOk result (λ next. IfSome (D.seen disk.new) (λ file. next < length file)) }
+    ensures gate { IfSome (D.seen disk.new) (λ file. place < length file) }
+
+    // It gives up for a failure of the disk alone.
+    ensures failed { OnErr result (Rose (D.faults disk.old) (D.faults disk.new)) }
+    ensures faults { D.faults disk.old ≤ D.faults disk.new }
+{
+    put_behind(disk, place, more.behind())
 }

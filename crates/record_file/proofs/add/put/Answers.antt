@@ -1,58 +1,8 @@
-use Rattle.std.proofs.Common.{◌≡◌, ℕ, ◌+◌, [], ◌∷◌, ◌++◌, length, sym, ap, subst, ◌∙◌, IfSome, ◌<◌}
-use Rattle.record_file.specs.declared.layout.TheConstants.{BESIDE_BODY}
-use Rattle.record_file.specs.Records.{Keeps, behind_gate_of}
-use Rattle.record_file.proofs.Behind.{behind_size}
-use Rattle.record_file.proofs.Crashes.{during_first, during_both, both_keep}
-use Rattle.record_file.proofs.Gates.{within_till, stays_till, stays_within, next_there}
+use Rattle.std.proofs.Common.{[], ◌∷◌, sym, subst}
+use Rattle.record_file.specs.Records.{AreBehindGate}
+use Rattle.record_file.proofs.Behind.{one_behind}
 use Rattle.record_file.proofs.add.put.Goals as goal
 
-pub returns-in_err-write_synced-clause-any_moment : goal.returns-in_err-write_synced-clause-any_moment
-returns-in_err-write_synced-clause-any_moment g c site bodies kept =
-    during_first g.D.Disk.moment g.D.Disk.left_since g.D.Disk.may_leave g.D.Disk.seen site bodies c.args.place c.args.disk.now c.write_synced.new.disk kept c.args.body.now
-    (length c.behind.result.now) c.write_synced.ensures.any_moment
-
-pub returns-in_err-write_synced-2-clause-any_moment : goal.returns-in_err-write_synced-2-clause-any_moment
-returns-in_err-write_synced-2-clause-any_moment g c site bodies kept =
-    during_both g.D.Disk.moment g.D.Disk.left_since g.D.Disk.may_leave g.D.Disk.seen site bodies c.args.place c.args.disk.now c.write_synced.new.disk kept c.args.body.now
-    c.behind.result.now c.behind.ensures.value c.behind.ensures.short c.in_ok-write_synced.ensures.written c.in_ok-write_synced.ensures.durable
-    (length c.behind.result.now) c.write_synced-2.new.disk c.write_synced.ensures.any_moment c.write_synced-2.ensures.any_moment
-
 pub returns-clause-any_moment : goal.returns-clause-any_moment
-returns-clause-any_moment g c site bodies kept =
-    during_both g.D.Disk.moment g.D.Disk.left_since g.D.Disk.may_leave g.D.Disk.seen site bodies c.args.place c.args.disk.now c.write_synced.new.disk kept c.args.body.now
-    c.behind.result.now c.behind.ensures.value c.behind.ensures.short c.in_ok-write_synced.ensures.written c.in_ok-write_synced.ensures.durable
-    (length c.behind.result.now) c.write_synced-2.new.disk c.write_synced.ensures.any_moment c.write_synced-2.ensures.any_moment
-
-pub returns-clause-kept : goal.returns-clause-kept
-returns-clause-kept g c site bodies kept =
-    subst (λ (n : ℕ). Keeps site (bodies ++ c.args.body.now ∷ []) (c.args.place + BESIDE_BODY + n) (g.D.Disk.seen c.write_synced-2.new.disk) (g.D.Disk.may_leave c.write_synced-2.new.disk)) (sym c.body_len.ensures)
-    (both_keep g.D.Disk.moment g.D.Disk.left_since g.D.Disk.may_leave g.D.Disk.seen site bodies c.args.place c.args.disk.now c.write_synced.new.disk kept c.args.body.now
-    c.behind.result.now c.behind.ensures.value c.behind.ensures.short c.in_ok-write_synced.ensures.written c.in_ok-write_synced.ensures.durable
-    c.write_synced-2.new.disk c.in_ok-write_synced-2.ensures.written c.in_ok-write_synced-2.ensures.durable)
-
-pub write_synced-requires : goal.write_synced-requires
-write_synced-requires g c = within_till c.args.place (g.D.Disk.seen c.args.disk.now) c.requires.gate
-
-pub write_synced-requires-2 : goal.write_synced-requires-2
-write_synced-requires-2 g c = stays_till c.args.place (g.D.Disk.seen c.args.disk.now) (g.D.Disk.seen c.write_synced.new.disk) c.requires.gate c.write_synced.ensures.no_shorter
-
-pub returns-in_err-write_synced-clause-gate : goal.returns-in_err-write_synced-clause-gate
-returns-in_err-write_synced-clause-gate g c = stays_within c.args.place (g.D.Disk.seen c.args.disk.now) (g.D.Disk.seen c.write_synced.new.disk) c.requires.gate c.write_synced.ensures.no_shorter
-
-pub returns-in_err-write_synced-2-clause-gate : goal.returns-in_err-write_synced-2-clause-gate
-returns-in_err-write_synced-2-clause-gate g c =
-    stays_within c.args.place (g.D.Disk.seen c.write_synced.new.disk) (g.D.Disk.seen c.write_synced-2.new.disk)
-    (stays_within c.args.place (g.D.Disk.seen c.args.disk.now) (g.D.Disk.seen c.write_synced.new.disk) c.requires.gate c.write_synced.ensures.no_shorter) c.write_synced-2.ensures.no_shorter
-
-pub returns-clause-gate : goal.returns-clause-gate
-returns-clause-gate g c =
-    stays_within c.args.place (g.D.Disk.seen c.write_synced.new.disk) (g.D.Disk.seen c.write_synced-2.new.disk)
-    (stays_within c.args.place (g.D.Disk.seen c.args.disk.now) (g.D.Disk.seen c.write_synced.new.disk) c.requires.gate c.write_synced.ensures.no_shorter) c.write_synced-2.ensures.no_shorter
-
-pub returns-clause-next_gate : goal.returns-clause-next_gate
-returns-clause-next_gate g c =
-    let body = c.args.body.now in
-    let behind_is : c.behind.result.now ≡ behind_gate_of body = c.behind.ensures.value in
-    subst (λ (n : ℕ). IfSome (g.D.Disk.seen c.write_synced-2.new.disk) (λ file. c.args.place + BESIDE_BODY + n < length file)) (sym c.body_len.ensures)
-    (next_there c.args.place (length body) c.behind.result.now (g.D.Disk.seen c.args.disk.now) (g.D.Disk.seen c.write_synced.new.disk) (g.D.Disk.seen c.write_synced-2.new.disk)
-    (ap length behind_is ∙ behind_size body) c.requires.gate c.in_ok-write_synced.ensures.written c.write_synced-2.ensures.no_shorter)
+returns-clause-any_moment g c site bodies =
+    c.put_behind.ensures.any_moment site bodies (c.args.body.now ∷ []) (subst (AreBehindGate (c.args.body.now ∷ [])) (sym c.behind.ensures.value) (one_behind c.args.body.now c.behind.ensures.short))
