@@ -40,12 +40,12 @@ fn start(alloc: Global, site: u16) -> Result<(SharedPeer, Pass), NoMemory>
 }
 
 // The screen of a pass, and its reader; or the pass, and why it has none.
-fn open<R: Threads + Wait + Sync>(
-    rt: &R,
+fn open<'a, R: Threads + Wait + Sync>(
+    rt: &'a R,
     alloc: Global,
     shared: &SharedPeer,
     mut pass: Pass,
-) -> Result<(Pass, Screen, ScreenReader), (Pass, ScreenFail)>
+) -> Result<(Pass, Screen<'a, R>, ScreenReader), (Pass, ScreenFail)>
     requires { pass.table ≡ shared.now }
     ensures opened { IfOk result (λ r. Opens pass r.0 r.1 r.2) }
     ensures stopped { IfErr result (λ r. StopsShort pass (Step.Show ∷ []) r.0 r.1) }
@@ -57,32 +57,32 @@ fn open<R: Threads + Wait + Sync>(
 }
 
 // One worker publishes on a thread of its own, and another reads on one.
-fn work_beside<R: Threads + Wait + Sync, G: Gate + Sync>(
+fn work_beside<'a, R: Threads + Wait + Sync, G: Gate + Sync>(
     rt: &R,
     alloc: Global,
     shared: &SharedPeer,
-    ends: (Pass, Screen, ScreenReader),
+    ends: (Pass, Screen<'a, R>, ScreenReader),
     steps: &[Step],
     reads: u32,
     gate: &G,
 ) -> (
-    Result<(Pass, Screen), (Pass, ScreenFail)>,
+    Result<(Pass, Screen<'a, R>), (Pass, ScreenFail)>,
     Result<(ScreenReader, Vec<Page>), NoMemory>,
 )
     requires own { ends.0.table ≡ shared.now }
     requires current { IsCurrent ends.1 ends.0 }
     requires few { length steps.now ≤ MAX_LINES }
-    ensures published { IfOk result.0 (λ r. Publishing ends.1 ends.0 steps.now r.1 r.0) }
-    ensures stopped { IfErr result.0 (λ r. StopsShort ends.0 (each_shown steps.now) r.0 r.1) }
+    ensures published { IfOk result.0 (λ r. Publishing ends.entry.1 ends.entry.0 steps.now r.1 r.0) }
+    ensures stopped { IfErr result.0 (λ r. StopsShort ends.entry.0 (each_shown steps.now) r.0 r.1) }
     ensures many { IfOk result.1 (λ r. length r.1.items ≡ reads) }
-    ensures read { IfOk result.1 (λ r. HasRead ends.2 r.1.items r.0) }
+    ensures read { IfOk result.1 (λ r. HasRead ends.entry.2 r.1.items r.0) }
 {
     let (pass, screen, reader) = ends;
     join(
         rt,
-        || -> Result<(Pass, Screen), (Pass, ScreenFail)>
+        || -> Result<(Pass, Screen<R>), (Pass, ScreenFail)>
             requires { IsSync R.row × (pass.table ≡ shared.now) × IsCurrent screen pass × (length steps.now ≤ MAX_LINES) }
-            ensures published { IfOk result (λ r. Publishing screen pass steps.entry.now r.1 r.0) }
+            ensures published { IfOk result (λ r. Publishing screen.entry pass steps.entry.now r.1 r.0) }
             ensures stopped { IfErr result (λ r. StopsShort pass (each_shown steps.entry.now) r.0 r.1) }
         { publish_all(rt, alloc, shared, pass, screen, steps, gate) },
         || -> Result<(ScreenReader, Vec<Page>), NoMemory>
@@ -93,10 +93,10 @@ fn work_beside<R: Threads + Wait + Sync, G: Gate + Sync>(
 }
 
 // The reader learns what the screen tells, and reads once more; then both end. Gives the last page that was told.
-fn settle(mut screen: Screen, mut reader: ScreenReader) -> Result<Page, NoMemory>
+fn settle<R: Wait>(mut screen: Screen<'_, R>, mut reader: ScreenReader) -> Result<Page, NoMemory>
     requires { reader.table ≡ screen.table }
-    ensures newest { IfOk result (λ page. IsNewest screen.pages page) }
-    ensures read { OnOk result (BothBegin reader.pages screen.pages) }
+    ensures newest { IfOk result (λ page. IsNewest screen.entry.pages page) }
+    ensures read { OnOk result (BothBegin reader.pages screen.entry.pages) }
 {
     let told = screen.tell()?;
     let newest = told.newest().again()?;

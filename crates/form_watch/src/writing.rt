@@ -46,12 +46,12 @@ fn make<R: Threads + Wait + Sync>(
 }
 
 // Makes a step, and publishes the page after it.
-fn publish_step<R: Threads + Wait + Sync>(
+fn publish_step<'a, R: Threads + Wait + Sync>(
     rt: &R,
     alloc: Global,
     shared: &SharedPeer,
     pass: &mut Pass,
-    screen: &mut Screen,
+    screen: &mut Screen<'a, R>,
     step: &Step,
 ) -> Result<(), ScreenFail>
     requires own { pass.old.table ≡ shared.now }
@@ -68,19 +68,19 @@ fn publish_step<R: Threads + Wait + Sync>(
 
 /// Makes all steps of a list, in their order, publishes the page after each, and tells the gate of each step, and at the
 /// end how many they are. Where one fails it gives the pass, and why.
-pub(crate) fn publish_all<R: Threads + Wait + Sync, G: Gate>(
+pub(crate) fn publish_all<'a, R: Threads + Wait + Sync, G: Gate>(
     rt: &R,
     alloc: Global,
     shared: &SharedPeer,
     mut pass: Pass,
-    mut screen: Screen,
+    mut screen: Screen<'a, R>,
     steps: &[Step],
     gate: &G,
-) -> Result<(Pass, Screen), (Pass, ScreenFail)>
+) -> Result<(Pass, Screen<'a, R>), (Pass, ScreenFail)>
     requires own { pass.table ≡ shared.now }
     requires current { IsCurrent screen pass }
     requires few { length steps.now ≤ MAX_LINES }
-    ensures published { IfOk result (λ r. Publishing screen pass steps.now r.1 r.0) }
+    ensures published { IfOk result (λ r. Publishing screen.entry pass steps.now r.1 r.0) }
     ensures stopped { IfErr result (λ r. StopsShort pass (each_shown steps.now) r.0 r.1) }
 {
     let mut made = 0;

@@ -1,5 +1,6 @@
 pub mod Lists
-mod Keeps
-pub mod Ways
+mod Rolls
+mod Boards
+mod Growing
 pub mod Shows
 pub mod Crossing

@@ -1,24 +1,24 @@
 -- What contracts see of the ends of a board.
 use Rattle.std.specs.Prelude.{◌≡◌, List, [], ◌∷◌, ◌++◌, Result, Ok, Err}
 use mathlib.Core.List.{IsPrefix}
-use Rattle.atomic_table.specs.Seated.{TableId}
+use Rattle.logbook.specs.Pages.{Book}
 use Rattle.screen_read.specs.Pages.{PageText, IsAscending, IsNewest, AllBegin}
 
 -- the name of a board, and the pages that were published on it
 pub record BoardPages : Type 0 where
-  pub table : TableId
+  pub table : Book
   pub pages : List PageText
 
-abbrev pub board_pages : TableId → List PageText → BoardPages
+abbrev pub board_pages : Book → List PageText → BoardPages
 board_pages table pages = record { table = table; pages = pages }
 
 -- the name of a board, the pages that a reader has seen, and the lists that it was told since its last read that gave a page
 pub record ReaderPages : Type 0 where
-  pub table : TableId
+  pub table : Book
   pub pages : List PageText
   pub told : List (List PageText)
 
-abbrev pub reader_pages : TableId → List PageText → List (List PageText) → ReaderPages
+abbrev pub reader_pages : Book → List PageText → List (List PageText) → ReaderPages
 reader_pages table pages told = record { table = table; pages = pages; told = told }
 
 -- the reader was told this list too

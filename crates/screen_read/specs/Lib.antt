@@ -1,5 +1,6 @@
 pub mod Pages
-pub mod Rule
-pub mod Moves
 pub mod Ends
+pub mod Roll
+pub mod Rule
+pub mod Tellings
 pub mod Screen

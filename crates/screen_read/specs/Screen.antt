@@ -1,6 +1,6 @@
 -- Screens: the texts of a shared peer, as one pass publishes them.
 use Rattle.std.specs.Prelude.{◌≡◌, ℕ, ◌≤◌, ◌<◌, ◌⊎◌, List, [], ◌∷◌, ◌++◌, length, take, Result, Ok, Err}
-use Rattle.atomic_table.specs.Seated.{TableId}
+use Rattle.logbook.specs.Pages.{Book}
 use Rattle.peer_step.specs.declared.step.Step.TheVariants.{Show}
 use Rattle.peer_step.specs.declared.answer.Answer.{Answer}
 use Rattle.peer_core.specs.Peer.{fresh_peer, text}
@@ -35,11 +35,11 @@ pub record ArePublished (v : View) (pages : List PageText) : Type 0 where
 
 -- what contracts see of a screen: the name of its board, its pass as it was after the last page, and the pages so far
 pub record KnownScreen : Type 0 where
-  pub table : TableId
+  pub table : Book
   pub pass : KnownPass
   pub pages : List PageText
 
-abbrev pub known_screen : TableId → KnownPass → List PageText → KnownScreen
+abbrev pub known_screen : Book → KnownPass → List PageText → KnownScreen
 known_screen table pass pages = record { table = table; pass = pass; pages = pages }
 
 -- the screen was made with this pass, which has forgotten nothing since the last page

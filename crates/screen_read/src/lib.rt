@@ -1,14 +1,14 @@
 //! Published text: a screen publishes the text of a shared peer, and a reader on another thread reads it and never waits.
 #![tactic(auto)]
 
-mod board;
 mod fail;
 mod page;
 mod reader;
+mod roll;
 mod rule;
 mod screen;
+mod shown;
 mod told;
-mod view;
 mod writer;
 
 pub use fail::ScreenFail;

@@ -1,80 +1,42 @@
-//! The rule of a board, and the names of its steps.
+//! The rule of what a screen shows, and what its steps tell.
 ghost use Rattle.std.specs.Prelude.{[]};
-ghost use Rattle.screen_read.specs.Rule.{IsOneBoard, opener, with_reader, reader_of, note, told_by};
-ghost use Rattle.screen_read.specs.Rule.{takes_slot, puts_page, looks_middle, fetches_page, settles};
+ghost use Rattle.screen_read.specs.Rule.{AreOnBoard, SeesBoard};
 
-use crate::page::Page;
-use crate::view::BoardView;
-use atomic_table::{Join, Play, Split, TableRule};
-use std::snapshot::Snapshot;
+use crate::shown::Shown;
+use atomic_table::{Join, Split};
+use crossbeam_utils::rule::{Outcome, Protocol};
+use std::collections::LinkedList;
 
-/// The word, the slots and all views agree on one list of pages. The key is the first page.
+/// All that is shown is of one board. A view is what was seen last, or nothing.
 pub struct OneBoard;
 
-impl TableRule<Page, BoardView, Snapshot<Page>> for OneBoard {
-    ghost holds = { λ _. IsOneBoard };
+impl Protocol<Shown, LinkedList<Shown>> for OneBoard {
+    ghost holds = { λ shown. AreOnBoard shown.table };
 
-    ghost first = { λ key. opener key.value };
+    ghost first = { [] };
 }
 
-/// A seat takes its slot.
-pub struct Arm;
+/// A reader takes what is shown, or the writer shows something else.
+pub struct Sees;
 
-impl Play<Page, BoardView> for Arm {
-    ghost then = { takes_slot };
+impl Outcome<Shown, LinkedList<Shown>> for Sees {
+    ghost then = { SeesBoard };
 }
 
-/// The writer puts its page into the middle.
-pub struct Put;
-
-impl Play<Page, BoardView> for Put {
-    ghost then = { puts_page };
-}
-
-/// The reader looks whether the page in the middle is fresh.
-pub struct LookAtMiddle;
-
-impl Play<Page, BoardView> for LookAtMiddle {
-    ghost then = { looks_middle };
-}
-
-/// The reader takes the page in the middle.
-pub struct Fetch;
-
-impl Play<Page, BoardView> for Fetch {
-    ghost then = { fetches_page };
-}
-
-/// The reader has given a page.
-pub struct Settle;
-
-impl Play<Page, BoardView> for Settle {
-    ghost then = { settles };
-}
-
-/// The reader is made.
-pub struct MakeReader;
-
-impl Split<BoardView> for MakeReader {
-    ghost left = { with_reader };
-
-    ghost right = { reader_of };
-}
-
-/// The writer tells its pages.
+/// The writer tells what it knows.
 pub struct Tell;
 
-impl Split<BoardView> for Tell {
+impl Split<LinkedList<Shown>> for Tell {
     ghost left = { λ v. v };
 
-    ghost right = { λ v. note v.seen };
+    ghost right = { λ v. v };
 }
 
-/// The reader is told of pages.
-pub struct Learn;
+/// A new reader knows what it is told.
+pub struct Begin;
 
-impl Join<BoardView> for Learn {
-    ghost both = { told_by };
+impl Join<LinkedList<Shown>> for Begin {
+    ghost both = { λ v w. w };
 
-    ghost spent = { note [] };
+    ghost spent = { [] };
 }

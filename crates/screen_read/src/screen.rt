@@ -20,14 +20,15 @@ use std::thread::Threads;
 
 /// Publishes the text of a shared peer, by one pass.
 ///
-/// Contracts see the name of its board, its pass as it was after the last page, and the pages that were published.
+/// It keeps the handle, since its drop waits for a read that takes a page. Contracts see the name of its board, its pass as it was after the last page,
+/// and the pages that were published.
 #[derive(Drop)]
-pub struct Screen {
-    writer: PageWriter,
+pub struct Screen<'a, R: Wait> {
+    writer: PageWriter<'a, R>,
     pass: Snapshot<Pass>,
 }
 
-impl Model for Screen {
+impl<'a, R: Wait> Model for Screen<'a, R> {
     ghost use Rattle.screen_read.specs.Screen.{KnownScreen, known_screen, ArePublished};
 
     ghost Value = { KnownScreen };
@@ -73,9 +74,9 @@ fn show<R: Threads + Wait + Sync>(
 }
 
 // A screen with its first page.
-fn screen_of(writer: PageWriter, pass: &Pass) -> Screen
+fn screen_of<'a, R: Wait>(writer: PageWriter<'a, R>, pass: &Pass) -> Screen<'a, R>
     requires { writer.pages ≡ page_after pass.now.view.origin pass.now.view.seen ∷ [] }
-    ensures screen { result ≡ known_screen writer.table pass.now writer.pages }
+    ensures screen { result ≡ known_screen writer.entry.table pass.now writer.entry.pages }
     ensures published { ArePublished result.pass.view result.pages }
 {
     Screen {
@@ -84,7 +85,7 @@ fn screen_of(writer: PageWriter, pass: &Pass) -> Screen
     }
 }
 
-impl Screen {
+impl<R: Wait> Screen<'_, R> {
     // What was published is of the run that the pass has seen.
     fn stands(&self)
         ensures { ArePublished self.now.pass.view self.now.pages }
@@ -103,14 +104,35 @@ impl Screen {
         Ok(())
     }
 
+    /// The pages so far, for the screen's reader to learn. Fails where there is no memory, or the last text has as many
+    /// pages as can be counted.
+    pub fn tell(&mut self) -> Result<Told, NoMemory>
+        ensures told { IfOk result (λ t. t ≡ board_pages self.old.table self.old.pages) }
+        ensures same { self.new ≡ self.old }
+        ensures published { ArePublished self.old.pass.view self.old.pages }
+    {
+        self.stands();
+        self.writer.tell()
+    }
+
+    /// Ends the screen and its reader.
+    pub fn end(self, reader: ScreenReader)
+        requires { reader.table ≡ self.table }
+    {
+        drop(reader);
+        drop(self);
+    }
+}
+
+impl<'a, R: Threads + Wait + Sync> Screen<'a, R> {
     /// A screen of the shared peer, and its reader. Makes one `Show` step with the pass, and publishes its page: it takes
     /// the time of that step.
-    pub fn new<R: Threads + Wait + Sync>(
-        rt: &R,
+    pub fn new(
+        rt: &'a R,
         alloc: Global,
         shared: &SharedPeer,
         pass: &mut Pass,
-    ) -> Result<(Screen, ScreenReader), ScreenFail>
+    ) -> Result<(Screen<'a, R>, ScreenReader), ScreenFail>
         requires { pass.old.table ≡ shared.now }
         ensures same { IsSame pass.old pass.new }
         ensures gate { WithoutGate pass.old.view pass.new.view }
@@ -119,15 +141,16 @@ impl Screen {
         ensures published { IfOk result (λ r. ArePublished r.0.pass.view r.0.pages) }
     {
         let page = show(rt, alloc, shared, pass)?;
-        let Ok((writer, reader)) = open(alloc, page) else {
+        let Ok((writer, reader)) = open(rt, alloc, page) else {
             return Err(ScreenFail::NoMemory);
         };
         Ok((screen_of(writer, pass), reader))
     }
 
     /// Makes one `Show` step with the pass that the screen was made with, publishes its page, and gives the page's steps.
-    /// It takes the time of that step, and waits for the gate of the shared peer alone, never for the reader.
-    pub fn publish<R: Threads + Wait + Sync>(
+    /// It takes the time of that step, and waits for the gate of the shared peer, and for a read that takes the page before
+    /// the last.
+    pub fn publish(
         &mut self,
         rt: &R,
         alloc: Global,
@@ -149,24 +172,5 @@ impl Screen {
             Ok(()) => Ok(steps),
             Err(_) => Err(ScreenFail::NoMemory),
         }
-    }
-
-    /// The pages so far, for the screen's reader to learn. One load. Fails where the last text has as many pages as can be
-    /// counted.
-    pub fn tell(&mut self) -> Result<Told, NoMemory>
-        ensures told { IfOk result (λ t. t ≡ board_pages self.old.table self.old.pages) }
-        ensures same { self.new ≡ self.old }
-        ensures published { ArePublished self.old.pass.view self.old.pages }
-    {
-        self.stands();
-        self.writer.tell()
-    }
-
-    /// Ends the screen and its reader. It waits for nobody.
-    pub fn end(self, reader: ScreenReader)
-        requires { reader.table ≡ self.table }
-    {
-        drop(self);
-        drop(reader);
     }
 }

@@ -2,9 +2,16 @@
 ghost use Rattle.screen_read.specs.Pages.{IsNewest};
 
 use crate::page::Page;
-use crate::view::BoardView;
-use atomic_table::Seat;
+use crate::shown::Shown;
 use std::marker::Model;
+use std::snapshot::Snapshot;
+
+/// The lists that a reader was told, in order. It has none of their bytes.
+#[derive(Drop)]
+pub enum Tellings {
+    Nothing,
+    More(Snapshot<Shown>, Box<Tellings>),
+}
 
 /// The pages that a screen had published at some time, for its reader to learn. It has the last of them, and of the others
 /// no bytes.
@@ -12,20 +19,17 @@ use std::marker::Model;
 /// Contracts see it as the name of the screen's board, and the list of pages.
 #[derive(Drop)]
 pub struct Told {
-    pub(crate) seat: Seat<Page, BoardView>,
-    pub(crate) newest: Page,
+    pub(crate) shown: Shown,
+    // For what the reader was told before.
+    pub(crate) place: Box<Tellings>,
 }
 
 impl Model for Told {
-    ghost use Rattle.std.specs.Prelude.{◌≡◌, [], false};
-    ghost use Rattle.screen_read.specs.Pages.{IsNewest};
-    ghost use Rattle.screen_read.specs.Ends.{BoardPages, board_pages};
+    ghost use Rattle.screen_read.specs.Ends.{BoardPages};
 
     ghost Value = { BoardPages };
 
-    ghost view = { λ t. board_pages t.seat.table_id t.seat.me.0.seen };
-
-    ghost invariant = { λ t. (t.seat.me.1 ≡ []) × (t.seat.me.0.alone ≡ false) × IsNewest t.seat.me.0.seen t.newest };
+    ghost view = { λ t. t.shown };
 }
 
 impl Told {
@@ -33,6 +37,6 @@ impl Told {
     pub fn newest(&self) -> &Page
         ensures { IsNewest self.now.pages result.now }
     {
-        &self.newest
+        self.shown.page()
     }
 }

@@ -4,4 +4,4 @@ use Rattle.screen_read.specs.Screen.{KnownScreen}
 use Rattle.screen_read.proofs.screen.Screen.follow.Goals as goal
 
 pub publish-requires : goal.publish-requires
-publish-requires c = subst (λ (l : List PageText). IsAscending (l ++ c.args.page ∷ [])) (sym (ap (λ (s : KnownScreen). s.pages) c.self.view_is)) c.requires.ascending
+publish-requires g c = subst (λ (l : List PageText). IsAscending (l ++ c.args.page ∷ [])) (sym (ap (λ (s : KnownScreen). s.pages) c.self.view_is)) c.requires.ascending
