@@ -21,10 +21,10 @@ use coop_request::Request;
 use edit_frame::Frame;
 use edit_message::Message;
 use element_name::{Name, NoMemory, Places};
+use line_write::{put, put_name_word, put_number_word, put_state};
 use peer_core::JournalItem;
 use request_state::State;
 use std::alloc::Global;
-use line_write::{put, put_name_word, put_number_word, put_state};
 
 /// Appends the line of the counts.
 pub(crate) fn put_counts(out: &mut Vec<u8>, requests: u64, entries: u64) -> Result<(), NoMemory>

@@ -13,12 +13,12 @@ use crate::journal::{JournalFail, messages_of};
 use crate::told::{LastTold, count_word, element_word, kept_state_line, piece_sizes, text_bytes};
 use edit_frame::{DecodeFail, Frame, decode};
 use element_name::NoMemory;
+use line_read::{read_name, step_line};
+use line_spelling::LineFail;
 use peer_core::Peer;
 use peer_step::{Answer, Step};
 use std::alloc::Global;
 use std::marker::Model;
-use line_read::{read_name, step_line};
-use line_spelling::LineFail;
 
 /// A peer, and what was told of its last step or question.
 #[derive(Drop)]

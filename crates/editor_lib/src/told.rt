@@ -7,11 +7,11 @@ ghost use Rattle.editor_lib.specs.Told.{message_given, frame_bytes, kept_state_l
 use edit_frame::{Frame, encode};
 use edit_message::Message;
 use element_name::{Name, NoMemory};
+use line_write::{answer_line, put, put_state};
 use peer_step::{Answer, Text};
 use request_state::State;
 use std::alloc::Global;
 use std::marker::Model;
-use line_write::{answer_line, put, put_state};
 
 /// An answer's line and a message's frame, each as bytes, of which either may be empty.
 #[derive(Drop)]

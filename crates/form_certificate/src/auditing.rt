@@ -11,9 +11,9 @@ use audit_cert::{AuditFault, audit};
 use edit_io::{Sink, Source};
 use element_name::NoMemory;
 use line_engine::{Form, Next, Status, run};
+use line_write::{put, put_number_word};
 use report_text::frame_fault_line;
 use std::alloc::{AllocError, Global};
-use line_write::{put, put_number_word};
 
 /// The bytes that came so far.
 #[derive(Drop)]

@@ -7,9 +7,9 @@ ghost use Rattle.line_read.specs.Sets.{read_numbers, read_names, read_users, rea
 use crate::numbers::{read_name, read_short};
 use crate::words::parts;
 use element_name::{Name, NoMemory};
+use line_spelling::{COMMA, GROUP_SIGN};
 use policy_book::{NameList, NumList, Rights, UserSet};
 use std::alloc::Global;
-use line_spelling::{COMMA, GROUP_SIGN};
 
 fn read_each_short(alloc: Global, words: &[&[u8]]) -> Result<Option<Vec<u16>>, NoMemory>
     ensures { IfOk result (λ found. option_map (λ v. v.items) found ≡ each_some (map read_short (bytes_of words.now))) }

@@ -5,8 +5,8 @@ ghost use Rattle.line_spelling.specs.Values.{numbers_text, names_text, users_tex
 
 use element_name::{Name, NoMemory};
 use itoa::Buffer;
-use policy_book::{Rights, UserSet};
 use line_spelling::{BACKSLASH, LINE_END, LINE_END_LETTER, SPACE, SPACE_LETTER};
+use policy_book::{Rights, UserSet};
 
 /// Appends bytes. Takes time in their number. Fails where memory is wanting.
 pub fn put(line: &mut Vec<u8>, bytes: &[u8]) -> Result<(), NoMemory>
