@@ -20,8 +20,8 @@ use Rattle.edit_frame.specs.declared.frame.Frame.{Frame}
 use Rattle.edit_frame.specs.declared.frame.Frame.TheVariants.{Item, Turn, End}
 use Rattle.edit_frame.specs.Spelling.{spelling}
 use Rattle.edit_frame.specs.Spells.{is_frame}
-use Rattle.peer_core.specs.Sound.{FollowsJournal, IsWithin}
-use Rattle.peer_core.proofs.JournalLemmas.{requests_append, entries_append}
+use Rattle.peer_tables.specs.Journal.{FollowsJournal, IsWithin}
+use Rattle.peer_tables.proofs.JournalLemmas.{requests_append, entries_append}
 use Rattle.audit_cert.specs.declared.fault.AuditFault.{AuditFault}
 use Rattle.audit_cert.specs.declared.fault.AuditFault.TheVariants.{BadFrame, NotJournal, Differs, NoMemory}
 use Rattle.audit_cert.specs.Certificate.{certificate_bytes}

@@ -20,7 +20,7 @@ use Rattle.tomb_seq.proofs.Has.{Has, Has-permutation}
 use Rattle.tomb_seq.proofs.MarkLemmas.{greatest_law}
 use Rattle.tomb_seq.proofs.Theorems.{each_law, once_law, skip_law}
 use Rattle.audit_cert.specs.Anchors.{placed_from, is_anchored, IsAnchored, LeadsThrough, put_behind}
-use Rattle.peer_core.proofs.KeptLemmas.Tables.{all_has}
+use Rattle.peer_tables.proofs.KeptLemmas.Tables.{all_has}
 use Rattle.audit_cert.proofs.AnchoredTrees.{prefix_below, keys_append, names_placed, placed_append, tree_law, no_start, has_placed}
 
 -- ---- one name more

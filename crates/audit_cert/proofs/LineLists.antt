@@ -13,8 +13,8 @@ use Rattle.edit_message.specs.declared.message.Message.{Message}
 use Rattle.edit_message.specs.declared.message.Message.TheVariants.{Coop, Admin}
 use Rattle.edit_message.specs.Message.{requests_of, entries_of}
 use Rattle.tomb_seq.proofs.Has.{Has, Contains-from_Has}
-use Rattle.peer_core.specs.Sound.{IsJournal}
-use Rattle.peer_core.proofs.StableLemmas.{known_law, element_in_order}
+use Rattle.peer_tables.specs.Journal.{IsJournal}
+use Rattle.peer_tables.proofs.StableLemmas.{known_law, element_in_order}
 use Rattle.std.specs.BTreeSet.{BTreeSet, btree_set_len}
 use Rattle.audit_cert.specs.Basis.{IsBasisOf, is_judgeable, may_be_judged, message_bytes}
 use Rattle.audit_cert.specs.Certificate.{counts_line, element_line, request_lines, certificate_bytes}

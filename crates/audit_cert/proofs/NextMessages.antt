@@ -30,14 +30,14 @@ use Rattle.admin_log.specs.Log.{FollowsLog, entry_fault, push_fault}
 use Rattle.admin_log.proofs.Logs.{follows_pushed}
 use Rattle.tomb_seq.specs.Insert.{insert_fault}
 use Rattle.tomb_seq.proofs.SlotEdits.{IsFree-no_fault}
-use Rattle.peer_core.specs.Kept.{IsPlaceable, names_after}
-use Rattle.peer_core.specs.Sound.{has_key_of, FollowsJournal, IsJournal, IsWithin}
-use Rattle.peer_core.proofs.JournalLemmas.{requests_request, requests_entry, entries_request, entries_entry, log_law, request_here, entry_here, follows_history}
-use Rattle.peer_core.proofs.HistoryLemmas.{order_push, has_order}
-use Rattle.peer_core.proofs.KeptLemmas.Joined.{missing_end_agree}
-use Rattle.peer_core.proofs.KeptLemmas.Follows.{placeable}
-use Rattle.peer_core.proofs.KeptLemmas.Reads.{entries_within}
-use Rattle.peer_core.proofs.StableLemmas.{known_law}
+use Rattle.peer_tables.specs.Kept.{IsPlaceable, names_after}
+use Rattle.peer_tables.specs.Journal.{has_key_of, FollowsJournal, IsJournal, IsWithin}
+use Rattle.peer_tables.proofs.JournalLemmas.{requests_request, requests_entry, entries_request, entries_entry, log_law, request_here, entry_here, follows_history}
+use Rattle.peer_tables.proofs.HistoryLemmas.{order_push, has_order}
+use Rattle.peer_tables.proofs.KeptLemmas.Joined.{missing_end_agree}
+use Rattle.peer_tables.proofs.KeptLemmas.Follows.{placeable}
+use Rattle.peer_tables.proofs.KeptLemmas.Reads.{entries_within}
+use Rattle.peer_tables.proofs.StableLemmas.{known_law}
 use Rattle.audit_cert.specs.Basis.{IsBasisOf, is_known, is_placeable, may_join, may_extend}
 
 pub none_is : {A : Type 0} (x : Option A) → is_none x ≡ true → x ≡ None

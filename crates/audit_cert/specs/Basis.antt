@@ -18,7 +18,7 @@ use Rattle.edit_message.specs.Message.{requests_of, entries_of}
 use Rattle.edit_message.specs.Missing.{missing_end}
 use Rattle.admin_log.specs.Log.{push_fault}
 use Rattle.tomb_seq.specs.Insert.{insert_fault}
-use Rattle.peer_core.specs.Sound.{IsWithin}
+use Rattle.peer_tables.specs.Journal.{IsWithin}
 use Rattle.audit_cert.specs.Certificate.{request_lines}
 
 -- of a journal within its limits: its log, its elements in text order, and the names of its requests

@@ -1,7 +1,7 @@
 //! Making certificates.
 ghost use Rattle.std.specs.Prelude.{◌≡◌, ◌++◌, IfOk, IfErr, OnOk, OnErr};
 ghost use Rattle.tomb_seq.specs.Slots.{names_in};
-ghost use Rattle.peer_core.specs.Sound.{IsWithin};
+ghost use Rattle.peer_tables.specs.Journal.{IsWithin};
 ghost use Rattle.audit_cert.specs.Basis.{IsBasisOf};
 ghost use Rattle.audit_cert.specs.Certificate.{certificate_bytes};
 ghost use Rattle.audit_cert.specs.Journals.{IsFailOf};

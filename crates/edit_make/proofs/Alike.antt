@@ -13,11 +13,11 @@ use Rattle.edit_message.specs.Message.{requests_of}
 use Rattle.request_state.specs.declared.state.State.{State}
 use Rattle.request_state.specs.State.{is_tentative, is_invalid}
 use Rattle.peer_core.specs.Peer.{Peer, history, state_at, text}
-use Rattle.peer_core.specs.Sound.{IsJournal}
-use Rattle.peer_core.specs.Laws.{HaveSameSets, LookAlike, SetLaw}
-use Rattle.peer_core.proofs.JournalLemmas.{history_law}
-use Rattle.peer_core.proofs.HistoryLemmas.{once_law}
-use Rattle.peer_core.proofs.SameSetLemmas.{has_found}
+use Rattle.peer_tables.specs.Journal.{IsJournal}
+use Rattle.peer_tables.specs.Laws.{HaveSameSets, LookAlike, SetLaw}
+use Rattle.peer_tables.proofs.JournalLemmas.{history_law}
+use Rattle.peer_tables.proofs.HistoryLemmas.{once_law}
+use Rattle.peer_tables.proofs.SameSetLemmas.{has_found}
 use Rattle.replay_net.specs.World.{World, peer_of}
 use Rattle.replay_net.proofs.SameCounts.{count_cons, same_states_count}
 use Rattle.replay_net.proofs.Settling.{settled_sets}

@@ -19,7 +19,7 @@ use Rattle.edit_frame.proofs.Outcomes.{no_frame}
 use Rattle.edit_frame.proofs.Streams.{nothing_waits}
 use Rattle.peer_core.specs.declared.restore.RestoreFail.{RestoreFail}
 use Rattle.peer_core.specs.declared.restore.RestoreFail.TheVariants.{NotJournal, NoMemory}
-use Rattle.peer_core.specs.Sound.{IsWithin}
+use Rattle.peer_tables.specs.Journal.{IsWithin}
 use Rattle.peer_core.specs.Restore.{IsRestoreFailOf}
 use Rattle.peer_core.proofs.RestoreLemmas.{no_fail_law}
 use Rattle.editor_lib.specs.declared.journal.JournalFail.TheVariants.{Bad}

@@ -5,7 +5,7 @@ use Rattle.edit_message.specs.declared.message.Message.{Message}
 use Rattle.edit_message.specs.Formed.{is_message}
 use Rattle.edit_frame.specs.declared.frame.Frame.TheVariants.{Item}
 use Rattle.edit_frame.specs.Spelling.{spelling}
-use Rattle.peer_core.specs.Sound.{IsWithin}
+use Rattle.peer_tables.specs.Journal.{IsWithin}
 use Rattle.peer_core.specs.declared.restore.RestoreFail.{RestoreFail}
 use Rattle.peer_core.specs.declared.restore.RestoreFail.TheVariants.{NotJournal, NoMemory}
 use Rattle.editor_lib.specs.declared.journal.JournalFail.{JournalFail}

@@ -23,7 +23,7 @@ use Rattle.edit_frame.specs.Reading.{frame_at, Stream, stream, rest_fault}
 use Rattle.edit_frame.proofs.Outcomes.{bad, same_kind}
 use Rattle.edit_frame.proofs.Streams.{nothing_waits, stream_spelled, stream_rest}
 use Rattle.form_feed.proofs.Streams.{stream_none}
-use Rattle.peer_core.specs.Sound.{IsWithin}
+use Rattle.peer_tables.specs.Journal.{IsWithin}
 use Rattle.audit_cert.specs.declared.fault.AuditFault.{AuditFault}
 use Rattle.audit_cert.specs.declared.fault.AuditFault.TheVariants.{BadFrame, NotJournal, Differs, NoMemory}
 use Rattle.audit_cert.specs.Certificate.{certificate_bytes}

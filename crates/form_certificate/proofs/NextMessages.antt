@@ -17,10 +17,10 @@ use Rattle.edit_message.specs.Message.{requests_of, entries_of}
 use Rattle.edit_frame.specs.declared.frame.Frame.{Frame}
 use Rattle.edit_frame.specs.declared.frame.Frame.TheVariants.{Item, Turn, End}
 use Rattle.admin_log.specs.Log.{entry_fault}
-use Rattle.peer_core.specs.Peer.{missing_in, finds_no_room, is_due}
-use Rattle.peer_core.specs.Sound.{has_key_of, IsLegalAfter, FollowsJournal, IsJournal, IsWithin}
-use Rattle.peer_core.proofs.JournalLemmas.{none_is, requests_request, requests_entry}
-use Rattle.peer_core.proofs.KeptLemmas.Reads.{entries_within}
+use Rattle.peer_tables.specs.Derived.{missing_in, finds_no_room, is_due}
+use Rattle.peer_tables.specs.Journal.{has_key_of, IsLegalAfter, FollowsJournal, IsJournal, IsWithin}
+use Rattle.peer_tables.proofs.JournalLemmas.{none_is, requests_request, requests_entry}
+use Rattle.peer_tables.proofs.KeptLemmas.Reads.{entries_within}
 use Rattle.audit_cert.specs.Audit.{messages_of_frames, BreaksIn, AreItems}
 use Rattle.audit_cert.proofs.Audits.{within_prefix, same_item}
 use Rattle.form_certificate.specs.Answer.{is_legal_after, may_come_next, breaking_frame}

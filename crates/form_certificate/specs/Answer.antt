@@ -16,8 +16,8 @@ use Rattle.edit_frame.specs.declared.frame.FrameKind.TheVariants.{Truncated}
 use Rattle.edit_frame.specs.Spelling.{spelling}
 use Rattle.edit_frame.specs.Reading.{Stream, stream, rest_fault}
 use Rattle.admin_log.specs.Log.{entry_fault}
-use Rattle.peer_core.specs.Peer.{is_due}
-use Rattle.peer_core.specs.Sound.{has_key_of}
+use Rattle.peer_tables.specs.Derived.{is_due}
+use Rattle.peer_tables.specs.Journal.{has_key_of}
 use Rattle.audit_cert.specs.declared.fault.AuditFault.{AuditFault}
 use Rattle.audit_cert.specs.declared.fault.AuditFault.TheVariants.{BadFrame, NotJournal, Differs}
 use Rattle.audit_cert.specs.Certificate.{certificate_bytes}

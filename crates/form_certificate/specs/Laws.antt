@@ -4,7 +4,7 @@ use Rattle.edit_message.specs.declared.message.Message.{Message}
 use Rattle.edit_message.specs.Message.{requests_of, entries_of}
 use Rattle.line_engine.specs.Input.{counted_bytes}
 use Rattle.edit_frame.specs.Spells.{IsBytes}
-use Rattle.peer_core.specs.Sound.{IsWithin}
+use Rattle.peer_tables.specs.Journal.{IsWithin}
 use Rattle.audit_cert.specs.declared.fault.AuditFault.{AuditFault}
 use Rattle.audit_cert.specs.declared.fault.AuditFault.TheVariants.{BadFrame, NotJournal, Differs, NoMemory}
 use Rattle.audit_cert.specs.Audit.{IsCertified, IsBroken, IsNoJournal, DiffersAt}

@@ -1,7 +1,7 @@
 //! The intake that certifies the journal which a stream leaves.
 ghost use Rattle.std.specs.Prelude.{◌≡◌, ◌≢◌, ℕ, ◌++◌, List, OnOk, IfOk, ⊤};
 ghost use Rattle.line_engine.specs.Engine.{Ran, Reads, StatusCause};
-ghost use Rattle.peer_core.specs.Sound.{IsWithin};
+ghost use Rattle.peer_tables.specs.Journal.{IsWithin};
 ghost use Rattle.audit_cert.specs.Certificate.{certificate_bytes};
 ghost use Rattle.form_certificate.specs.Certify.{journal_bytes, certified_bytes, certify_output, certify_part};
 ghost use Rattle.form_certificate.specs.Form.{certifier_turn, certifier_closing};

@@ -15,7 +15,8 @@ use Rattle.edit_message.specs.declared.message.Message.TheVariants.{Coop, Admin}
 use Rattle.peer_step.specs.declared.step.Step.TheVariants.{Settle}
 use Rattle.peer_step.specs.declared.answer.Answer.{Answer}
 use Rattle.peer_step.specs.declared.answer.Answer.TheVariants.{Quiet, Dropped, Settled}
-use Rattle.peer_core.specs.Peer.{Peer, is_due}
+use Rattle.peer_tables.specs.Derived.{is_due}
+use Rattle.peer_core.specs.Peer.{Peer}
 use Rattle.peer_core.specs.Answers.{answer_due, answer_settle, fault_in, outcome_of}
 use Rattle.line_spelling.specs.Answers.{answer_line}
 use Rattle.peer_core.specs.After.{peer_after, changed_by, let_go}

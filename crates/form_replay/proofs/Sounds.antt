@@ -12,7 +12,7 @@ use Rattle.line_engine.specs.Run.{LineTurn, turn_of_line}
 use Rattle.peer_step.specs.declared.answer.Answer.TheVariants.{Shown}
 use Rattle.peer_core.specs.Peer.{Peer, fresh_peer}
 use Rattle.peer_core.specs.Sound.{IsSound}
-use Rattle.peer_core.specs.Laws.{SetLaw}
+use Rattle.peer_tables.specs.Laws.{SetLaw}
 use Rattle.replay_net.specs.declared.line.TheConstants.{MAX_PEERS}
 use Rattle.replay_net.specs.declared.line.Line.{Line}
 use Rattle.replay_net.specs.declared.line.Line.TheVariants.{Peers, Local, Give, Hand, StateOf}

@@ -8,7 +8,7 @@ ghost use Rattle.form_replay.specs.Samples.{ShowsOfScript, TextOfScript};
 pub fn headline()
     ensures { (input : List ℕ) → Headline input }
 {
-    peer_core::laws::same_sets();
+    peer_tables::laws::same_sets();
     replay_net::laws::sound_worlds();
     script_text::laws::formed();
     script_text::laws::taken();

@@ -18,9 +18,10 @@ use Rattle.tomb_seq.proofs.Has.{Has, has_name-from_Has}
 use Rattle.tomb_seq.proofs.InOrder.{Sorted, Sorted-agree}
 use Rattle.tomb_seq.proofs.SlotEdits.{distinct_head, distinct_tail}
 use Rattle.tomb_seq.proofs.Theorems.{once_law}
-use Rattle.peer_core.specs.Peer.{Peer, history, log, counted_in, shown_in, shown_elements}
+use Rattle.peer_tables.specs.Derived.{counted_in, shown_in}
+use Rattle.peer_core.specs.Peer.{Peer, history, log, shown_elements}
 use Rattle.peer_core.specs.Carets.{count_up_to, CaretLaw}
-use Rattle.peer_core.proofs.JournalLemmas.{history_law}
+use Rattle.peer_tables.proofs.JournalLemmas.{history_law}
 use Rattle.peer_core.proofs.AnswerLemmas.Edits.{in_filter}
 
 -- ---- in order of a number

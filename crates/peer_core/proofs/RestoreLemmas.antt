@@ -20,13 +20,14 @@ use Rattle.edit_message.specs.Message.{key_of, key_eq, find_key, requests_of, en
 use Rattle.admin_log.specs.Log.{entry_fault}
 use Rattle.hold_back.specs.Hold.{IsNewKey}
 use Rattle.peer_step.specs.declared.step.Step.TheVariants.{Edit, Administer, Receive, Settle, ValidateNext, Look, Show}
-use Rattle.peer_core.specs.Peer.{missing_in, finds_no_room, is_due}
-use Rattle.peer_core.specs.Sound.{FollowsJournal, IsWithin, IsSound, has_key_of}
+use Rattle.peer_tables.specs.Derived.{missing_in, finds_no_room, is_due}
+use Rattle.peer_tables.specs.Journal.{FollowsJournal, IsWithin, has_key_of}
+use Rattle.peer_core.specs.Sound.{IsSound}
 use Rattle.peer_core.specs.Waiting.{IsPeer}
 use Rattle.peer_core.specs.Local.{new_request}
 use Rattle.peer_core.specs.Answers.{fault_in}
 use Rattle.peer_core.specs.Restore.{peer_of_journal, is_faulty, may_be_next, FailsJournalAt, OneFailLaw, NoFailLaw, RestoredSound, OwnStepLaw, FreshNameLaw}
-use Rattle.peer_core.proofs.JournalLemmas.{none_is, requests_append, entries_append, requests_request}
+use Rattle.peer_tables.proofs.JournalLemmas.{none_is, requests_append, entries_append, requests_request}
 use Rattle.peer_core.proofs.WaitingLemmas.OneMore.{any_map}
 use Rattle.peer_core.proofs.SoundLemmas.Keys.{new_key}
 use Rattle.peer_core.proofs.AnswerLemmas.Edits.{may_edit}

@@ -11,8 +11,10 @@ use Rattle.peer_step.specs.declared.step.Step.TheVariants.{Edit, Administer, Rec
 use Rattle.peer_step.specs.declared.answer.Answer.TheVariants.{Done}
 use Rattle.peer_core.specs.declared.restore.RestoreFail.{RestoreFail}
 use Rattle.peer_core.specs.declared.restore.RestoreFail.TheVariants.{NotJournal, NoMemory}
-use Rattle.peer_core.specs.Peer.{Peer, is_due}
-use Rattle.peer_core.specs.Sound.{IsWithin, IsSound, has_key_of}
+use Rattle.peer_tables.specs.Derived.{is_due}
+use Rattle.peer_core.specs.Peer.{Peer}
+use Rattle.peer_tables.specs.Journal.{IsWithin, has_key_of}
+use Rattle.peer_core.specs.Sound.{IsSound}
 use Rattle.peer_core.specs.Answers.{answer_edit, answer_of}
 
 -- the peer of a site whose journal these messages are, and that holds nothing

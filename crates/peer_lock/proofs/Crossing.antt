@@ -17,7 +17,7 @@ use Rattle.elem_show.specs.contracts.table.ElemTable as ElemTable
 use Rattle.tomb_seq.specs.contracts.seq.TombSeq as TombSeq
 use Rattle.hold_back.specs.contracts.hold.HoldBack as HoldBack
 use Rattle.peer_step.specs.contracts.step.Step as Step
-use Rattle.peer_core.specs.contracts.journal.Journal as Journal
+use Rattle.peer_tables.specs.contracts.journal.Journal as Journal
 use Rattle.peer_core.specs.contracts.peer.Peer as Peer
 use Rattle.peer_lock.specs.contracts.call.Call as Call
 use Rattle.peer_lock.specs.contracts.recorder.Recorder as Recorder

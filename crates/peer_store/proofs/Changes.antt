@@ -13,7 +13,8 @@ use Rattle.peer_step.specs.declared.answer.Answer.{Answer}
 use Rattle.peer_step.specs.declared.answer.Answer.TheVariants.{Done}
 use Rattle.peer_step.specs.declared.answer.Answer.TheVariants.{Issued, Held}
 use Rattle.peer_step.specs.declared.answer.Answer.TheVariants.{Taken, Advanced, Dropped, Settled}
-use Rattle.peer_core.specs.Peer.{Peer, is_due}
+use Rattle.peer_tables.specs.Derived.{is_due}
+use Rattle.peer_core.specs.Peer.{Peer}
 use Rattle.peer_core.specs.Answers.{answer_of}
 use Rattle.peer_core.specs.After.{let_go, changed_by, peer_after}
 use Rattle.peer_store.specs.Steps.{differs_in_counts, changes, is_look}

@@ -6,11 +6,11 @@ use Rattle.coop_request.specs.Request.{Request}
 use Rattle.tomb_seq.proofs.Has.{Has-from_Contains, Contains-from_Has}
 use Rattle.request_state.specs.declared.state.State.{State}
 use Rattle.peer_core.specs.Peer.{Peer, history, state_at}
-use Rattle.peer_core.specs.Laws.{HaveSameSets, LookAlike}
-use Rattle.peer_core.proofs.JournalLemmas.{history_law}
-use Rattle.peer_core.proofs.HistoryLemmas.{once_law}
-use Rattle.peer_core.proofs.SameSetLemmas.{IsOnce, AreAlike, alike_from}
-use Rattle.peer_core.proofs.KeptLemmas.Tables.{count_alike}
+use Rattle.peer_tables.specs.Laws.{HaveSameSets, LookAlike}
+use Rattle.peer_tables.proofs.JournalLemmas.{history_law}
+use Rattle.peer_tables.proofs.HistoryLemmas.{once_law}
+use Rattle.peer_tables.proofs.SameSetLemmas.{IsOnce, AreAlike, alike_from}
+use Rattle.peer_tables.proofs.KeptLemmas.Tables.{count_alike}
 
 -- one more
 pub count_cons : {X : Type 0} (test : X → Bool) (x : X) (xs : List X) → count_by test (x ∷ xs) ≡ count_by test (x ∷ []) + count_by test xs

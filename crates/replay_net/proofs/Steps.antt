@@ -28,9 +28,11 @@ use Rattle.peer_step.specs.declared.answer.Answer.TheVariants.{BadPlace, ClockEn
 use Rattle.peer_step.specs.declared.answer.Answer.TheVariants.{AlreadyInvalid, NothingTentative, Repeat, Conflict, OwnSite, OwnLog, Illegal, HoldFull, Held}
 use Rattle.peer_step.specs.declared.answer.Answer.TheVariants.{Dropped, Settled, Quiet}
 use Rattle.peer_step.proofs.Rows.{table_has, when_has, map_has, given_has}
-use Rattle.peer_core.specs.Peer.{Peer, history, log, shown_elements, missing, finds_no_room, is_due}
-use Rattle.peer_core.specs.Local.{fits_text, greatest_stamp, new_request}
-use Rattle.peer_core.specs.Answers.{rows_of_edit, rows_of_log, rows_of_operation, is_full_history, is_full_log, is_full_hold, answer_by_verdict, own_verdict, answer_edit, validated_by, missing_request, invalid_state, next_entry, answer_issued, answer_administer, least_awaiting, answer_validate_next}
+use Rattle.peer_tables.specs.Derived.{finds_no_room, is_due, greatest_stamp}
+use Rattle.peer_core.specs.Peer.{Peer, history, log, shown_elements, missing}
+use Rattle.peer_core.specs.Local.{fits_text, new_request}
+use Rattle.peer_tables.specs.Awaiting.{validated_by, least_awaiting}
+use Rattle.peer_core.specs.Answers.{rows_of_edit, rows_of_log, rows_of_operation, is_full_history, is_full_log, is_full_hold, answer_by_verdict, own_verdict, answer_edit, missing_request, invalid_state, next_entry, answer_issued, answer_administer, answer_validate_next}
 use Rattle.peer_core.specs.Answers.{answer_known, answer_own, fault_in, is_next_entry, answer_taken, answer_missing, answer_receive, outcome_of, answer_due, answer_settle}
 use Rattle.peer_core.specs.After.{changed_by}
 use Rattle.replay_net.specs.Reply.{issued_by}

@@ -4,7 +4,8 @@ use Rattle.line_spelling.specs.Line.{line_of}
 use Rattle.edit_message.specs.declared.message.Message.{Message}
 use Rattle.edit_message.specs.declared.message.Message.TheVariants.{Coop, Admin}
 use Rattle.peer_step.specs.declared.answer.Answer.TheVariants.{Shown}
-use Rattle.peer_core.specs.Peer.{Peer, text, missing, finds_no_room}
+use Rattle.peer_tables.specs.Derived.{finds_no_room}
+use Rattle.peer_core.specs.Peer.{Peer, text, missing}
 use Rattle.line_spelling.specs.Values.{spaced, name_text}
 use Rattle.line_spelling.specs.Answers.{answer_line, missing_words}
 

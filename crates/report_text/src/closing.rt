@@ -1,7 +1,8 @@
 //! The closing lines of a peer: the text that it shows, and what it holds.
 ghost use Rattle.std.specs.Prelude.{◌≡◌, ◌++◌, flat_map, OnOk, OnErr};
 ghost use Rattle.line_spelling.specs.Values.{behind_spaces};
-ghost use Rattle.peer_core.specs.Peer.{text, finds_no_room};
+ghost use Rattle.peer_core.specs.Peer.{text};
+ghost use Rattle.peer_tables.specs.Derived.{finds_no_room};
 ghost use Rattle.report_text.specs.Closing.{waiting_words, reason_words, waits_line, held_lines, closing_lines};
 
 use coop_request::MAX_REQUESTS;

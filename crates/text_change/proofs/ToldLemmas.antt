@@ -40,21 +40,25 @@ use Rattle.peer_step.specs.declared.answer.Answer.TheVariants.{Done}
 use Rattle.peer_core.specs.After.{changed_by, peer_after}
 use Rattle.peer_core.specs.Answers.{answer_by_verdict, own_verdict, rows_of_edit, answer_edit}
 use Rattle.peer_core.specs.Carets.{count_up_to, shown_up_to}
-use Rattle.peer_core.specs.Changes.{is_undone_between, HaveUndone, is_received}
-use Rattle.peer_core.specs.Kept.{names_after}
-use Rattle.peer_core.specs.Peer.{Peer, history, log, text, counted_in, text_in, shown_elements, undone_since}
-use Rattle.peer_core.specs.Sound.{FollowsJournal, IsJournal, IsSound}
-use Rattle.peer_core.proofs.ChangeLemmas.{IsMessageOf, HasJoined, leads, stays_invalid}
+use Rattle.peer_tables.specs.Undoing.{is_undone_between, HaveUndone}
+use Rattle.peer_core.specs.Changes.{is_received}
+use Rattle.peer_tables.specs.Kept.{names_after}
+use Rattle.peer_tables.specs.Derived.{counted_in, text_in}
+use Rattle.peer_core.specs.Peer.{Peer, history, log, text, shown_elements, undone_since}
+use Rattle.peer_tables.specs.Journal.{FollowsJournal, IsJournal}
+use Rattle.peer_core.specs.Sound.{IsSound}
+use Rattle.peer_tables.proofs.UndoingLemmas.{stays_invalid}
+use Rattle.peer_core.proofs.ChangeLemmas.{IsMessageOf, HasJoined, leads}
 use Rattle.auth_match.specs.declared.verdict.Verdict.{Verdict}
 use Rattle.auth_match.specs.declared.verdict.Verdict.TheVariants.{Granted, Denied}
 use Rattle.peer_core.specs.Local.{new_request}
 use Rattle.peer_core.proofs.AnswerLemmas.Refusals.{edit_refuses}
 use Rattle.peer_core.proofs.EditLemmas.Law.{edit_law}
-use Rattle.peer_core.proofs.HistoryLemmas.{order_push}
-use Rattle.peer_core.proofs.JournalLemmas.{history_law, follows_history, follows_log, requests_request, requests_entry, entries_request, entries_entry}
-use Rattle.peer_core.proofs.KeptLemmas.OneMore.{granted_valid, cell_more, no_own}
-use Rattle.peer_core.proofs.ReachedLemmas.{cell_filter}
-use Rattle.peer_core.proofs.StableLemmas.{known_law, element_in_order}
+use Rattle.peer_tables.proofs.HistoryLemmas.{order_push}
+use Rattle.peer_tables.proofs.JournalLemmas.{history_law, follows_history, follows_log, requests_request, requests_entry, entries_request, entries_entry}
+use Rattle.peer_tables.proofs.KeptLemmas.OneMore.{granted_valid, cell_more, no_own}
+use Rattle.peer_tables.proofs.ReachedLemmas.{cell_filter}
+use Rattle.peer_tables.proofs.StableLemmas.{known_law, element_in_order}
 use Rattle.text_change.specs.declared.seen.Seen.{Seen}
 use Rattle.text_change.specs.Rows.{text_told, piece_at, row_between, row_of}
 use Rattle.text_change.specs.Seen.{seen_of, seen_at, row_by}

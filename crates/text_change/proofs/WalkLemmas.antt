@@ -19,7 +19,7 @@ use Rattle.element_name.proofs.NameOrder.{name_eq-refl, same_name}
 use Rattle.tomb_seq.proofs.Has.{Has, has_name-from_Has}
 use Rattle.tomb_seq.proofs.SlotEdits.{distinct_head, distinct_tail}
 use Rattle.retro_undo.proofs.Parts.{count_cons}
-use Rattle.peer_core.proofs.KeptLemmas.Tables.{count_has}
+use Rattle.peer_tables.proofs.KeptLemmas.Tables.{count_has}
 use Rattle.peer_step.specs.declared.step.LocalEdit.{LocalEdit}
 use Rattle.peer_step.specs.declared.step.LocalEdit.TheVariants.{Update}
 use Rattle.peer_core.specs.Laws.{text_edited}

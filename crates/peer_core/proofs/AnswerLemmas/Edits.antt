@@ -31,14 +31,16 @@ use Rattle.peer_step.specs.declared.step.LocalEdit.TheVariants.{Insert, Delete, 
 use Rattle.peer_step.specs.declared.step.Step.TheVariants as steps
 use Rattle.peer_step.specs.declared.answer.Answer.{Answer}
 use Rattle.peer_step.specs.declared.answer.Answer.TheVariants.{BadPlace, ClockEnd, HistoryFull, Denied}
-use Rattle.peer_core.specs.Peer.{Peer, history, log, front, shown_elements, shown_in}
-use Rattle.peer_core.specs.Sound.{has_key_of, IsSound}
+use Rattle.peer_tables.specs.Derived.{shown_in, greatest_stamp}
+use Rattle.peer_core.specs.Peer.{Peer, history, log, front, shown_elements}
+use Rattle.peer_tables.specs.Journal.{has_key_of}
+use Rattle.peer_core.specs.Sound.{IsSound}
 use Rattle.peer_core.specs.Waiting.{MayIntegrate}
-use Rattle.peer_core.specs.Local.{fits_text, edit_of, greatest_stamp, new_request}
+use Rattle.peer_core.specs.Local.{fits_text, edit_of, new_request}
 use Rattle.peer_core.specs.Answers.{answer_by_verdict, answer_denied, own_verdict, is_full_history, rows_of_edit, answer_edit}
 use Rattle.peer_core.specs.After.{changed_by}
-use Rattle.peer_core.proofs.JournalLemmas.{no_row, history_law}
-use Rattle.peer_core.proofs.HistoryLemmas.{has_order}
+use Rattle.peer_tables.proofs.JournalLemmas.{no_row, history_law}
+use Rattle.peer_tables.proofs.HistoryLemmas.{has_order}
 use Rattle.peer_core.proofs.SoundLemmas.Peers.{own_request_new}
 use Rattle.peer_core.proofs.AnswerLemmas.Refusals.{IsRefusal}
 

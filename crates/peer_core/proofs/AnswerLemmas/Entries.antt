@@ -28,11 +28,13 @@ use Rattle.request_state.specs.Lines.{lesser}
 use Rattle.check_remote.specs.State.{first_denial, state_by, state_of}
 use Rattle.hold_back.specs.declared.held.Held.{Held}
 use Rattle.hold_back.specs.Hold.{messages_of, find_held, due_at}
-use Rattle.peer_core.specs.Peer.{Peer, history, log, front, state_in, undone_between}
+use Rattle.peer_tables.specs.Derived.{state_in, undone_between}
+use Rattle.peer_core.specs.Peer.{Peer, history, log, front}
 use Rattle.peer_core.specs.Sound.{IsSound, is_foreign}
 use Rattle.peer_core.specs.Waiting.{MayIntegrate}
-use Rattle.peer_core.specs.Answers.{next_entry, least_name, awaits, least_awaiting}
-use Rattle.peer_core.proofs.JournalLemmas.{log_law, requests_request, entries_request, entries_entry}
+use Rattle.peer_tables.specs.Awaiting.{least_name, awaits, least_awaiting}
+use Rattle.peer_core.specs.Answers.{next_entry}
+use Rattle.peer_tables.proofs.JournalLemmas.{log_law, requests_request, entries_request, entries_entry}
 use Rattle.peer_core.proofs.WaitingLemmas.OneMore.{entry_known}
 use Rattle.peer_core.proofs.SoundLemmas.Peers.{own_entry_new}
 

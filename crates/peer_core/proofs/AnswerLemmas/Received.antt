@@ -16,12 +16,13 @@ use Rattle.admin_log.specs.Log.{entry_fault}
 use Rattle.peer_step.specs.declared.step.Step.TheVariants as steps
 use Rattle.peer_step.specs.declared.answer.Answer.{Answer}
 use Rattle.peer_step.specs.declared.answer.Answer.TheVariants.{HistoryFull, Illegal}
-use Rattle.peer_core.specs.Peer.{Peer, history, log, front, missing, finds_no_room}
-use Rattle.peer_core.specs.Sound.{IsLegalAfter}
+use Rattle.peer_tables.specs.Derived.{finds_no_room}
+use Rattle.peer_core.specs.Peer.{Peer, history, log, front, missing}
+use Rattle.peer_tables.specs.Journal.{IsLegalAfter}
 use Rattle.peer_core.specs.Waiting.{MayIntegrate}
 use Rattle.peer_core.specs.Answers.{answer_known, answer_own, fault_in, is_next_entry, answer_taken, answer_missing, answer_receive, rows_of_message}
 use Rattle.peer_core.specs.After.{changed_by}
-use Rattle.peer_core.proofs.JournalLemmas.{none_is, no_row, entry_here}
+use Rattle.peer_tables.proofs.JournalLemmas.{none_is, no_row, entry_here}
 use Rattle.peer_core.proofs.SoundLemmas.Keys.{new_key}
 use Rattle.peer_core.proofs.AnswerLemmas.Refusals.{receive_refuses}
 

@@ -16,9 +16,11 @@ use Rattle.peer_step.specs.declared.step.Step.{Step}
 use Rattle.peer_step.specs.declared.answer.Answer.{Answer}
 use Rattle.peer_step.specs.declared.answer.Answer.TheVariants.{BadPlace, ClockEnd, HistoryFull, NotAdministrator, LogFull, Refused, NotHere, NeedsNone, AlreadyInvalid, OwnSite, OwnLog, Illegal}
 use Rattle.peer_step.proofs.Rows.{first_has, when_has, map_has, given_has}
-use Rattle.peer_core.specs.Peer.{Peer, history, log, shown_elements, finds_no_room}
-use Rattle.peer_core.specs.Local.{fits_text, greatest_stamp}
-use Rattle.peer_core.specs.Answers.{validated_by, missing_request, invalid_state, answer_own, fault_in, is_next_entry, is_full_history, is_full_log, rows_of_edit, rows_of_administer, rows_of_message}
+use Rattle.peer_tables.specs.Derived.{finds_no_room, greatest_stamp}
+use Rattle.peer_core.specs.Peer.{Peer, history, log, shown_elements}
+use Rattle.peer_core.specs.Local.{fits_text}
+use Rattle.peer_tables.specs.Awaiting.{validated_by}
+use Rattle.peer_core.specs.Answers.{missing_request, invalid_state, answer_own, fault_in, is_next_entry, is_full_history, is_full_log, rows_of_edit, rows_of_administer, rows_of_message}
 use Rattle.peer_core.specs.After.{changed_by, takes_none}
 
 -- ---- a refusal changes nothing, and takes no memory

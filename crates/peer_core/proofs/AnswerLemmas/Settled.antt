@@ -20,15 +20,17 @@ use Rattle.hold_back.specs.declared.held.Held.{Held}
 use Rattle.hold_back.specs.Hold.{messages_of, find_held}
 use Rattle.peer_step.specs.declared.step.Step.TheVariants as steps
 use Rattle.peer_step.specs.declared.answer.Answer.TheVariants.{Quiet, Dropped, Settled}
-use Rattle.peer_core.specs.Peer.{Peer, log, missing, finds_no_room, is_due, integrate}
-use Rattle.peer_core.specs.Sound.{FollowsJournal, IsSound}
+use Rattle.peer_tables.specs.Derived.{finds_no_room, is_due}
+use Rattle.peer_core.specs.Peer.{Peer, log, missing, integrate}
+use Rattle.peer_tables.specs.Journal.{FollowsJournal}
+use Rattle.peer_core.specs.Sound.{IsSound}
 use Rattle.peer_core.specs.Answers.{fault_in, outcome_of, answer_due, answer_settle}
 use Rattle.peer_core.specs.After.{let_go, changed_by, takes_none}
 use Rattle.peer_core.proofs.WaitingLemmas.Rightly.{all_at}
 use Rattle.peer_core.proofs.SoundLemmas.Peers.{formed_held}
 use Rattle.peer_core.proofs.SoundLemmas.Keys.{held_new}
 use Rattle.peer_core.proofs.AnswerLemmas.Entries.{find_messages}
-use Rattle.peer_core.proofs.JournalLemmas.{none_is}
+use Rattle.peer_tables.proofs.JournalLemmas.{none_is}
 use Rattle.peer_core.proofs.AnswerLemmas.Received.{legal_of}
 
 -- ---- held messages

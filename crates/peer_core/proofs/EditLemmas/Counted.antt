@@ -25,12 +25,12 @@ use Rattle.elem_show.specs.Text.{shown_of}
 use Rattle.elem_show.proofs.Cells.{cell_from-cons, cell_from-snoc}
 use Rattle.tomb_seq.proofs.Has.{Has}
 use Rattle.peer_step.specs.declared.step.LocalEdit.TheVariants.{Insert, Delete, Update}
-use Rattle.peer_core.specs.Peer.{history, state_in, counted_in}
-use Rattle.peer_core.specs.Kept.{AreKnown}
-use Rattle.peer_core.specs.Local.{greatest_stamp}
-use Rattle.peer_core.proofs.HistoryLemmas.{once_law, element_there}
-use Rattle.peer_core.proofs.SameSetLemmas.{own_by, piece_made}
-use Rattle.peer_core.proofs.KeptLemmas.OneMore.{granted_valid, found_own, found_other, counted_push, not_counted, cell_more}
+use Rattle.peer_tables.specs.Derived.{state_in, counted_in, greatest_stamp}
+use Rattle.peer_core.specs.Peer.{history}
+use Rattle.peer_tables.specs.Kept.{AreKnown}
+use Rattle.peer_tables.proofs.HistoryLemmas.{once_law, element_there}
+use Rattle.peer_tables.proofs.SameSetLemmas.{own_by, piece_made}
+use Rattle.peer_tables.proofs.KeptLemmas.OneMore.{granted_valid, found_own, found_other, counted_push, not_counted, cell_more}
 use Rattle.peer_core.proofs.AnswerLemmas.Edits.{named, named_below}
 use Rattle.peer_core.proofs.EditLemmas.Pieces.{apart}
 

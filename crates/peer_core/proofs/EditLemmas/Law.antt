@@ -32,16 +32,17 @@ use Rattle.peer_step.specs.declared.step.LocalEdit.TheVariants.{Insert, Delete, 
 use Rattle.peer_step.specs.declared.step.Step.TheVariants as steps
 use Rattle.peer_step.specs.declared.answer.Answer.{Answer}
 use Rattle.peer_step.specs.declared.answer.Answer.TheVariants.{Done, BadPlace, HistoryFull}
-use Rattle.peer_core.specs.Peer.{Peer, history, log, front, shown_in, counted_in, text_in, text, shown_elements}
+use Rattle.peer_tables.specs.Derived.{shown_in, counted_in, text_in, greatest_stamp}
+use Rattle.peer_core.specs.Peer.{Peer, history, log, front, text, shown_elements}
 use Rattle.peer_core.specs.Sound.{IsSound}
-use Rattle.peer_core.specs.Kept.{AreKnown}
-use Rattle.peer_core.specs.Local.{fits_text, edit_of, greatest_stamp, new_request}
+use Rattle.peer_tables.specs.Kept.{AreKnown}
+use Rattle.peer_core.specs.Local.{fits_text, edit_of, new_request}
 use Rattle.peer_core.specs.Answers.{rows_of_edit, answer_edit, answer_by_verdict, own_verdict, is_full_history}
 use Rattle.peer_core.specs.After.{changed_by, takes_none}
 use Rattle.peer_core.specs.Laws.{text_edited, EditLaw}
-use Rattle.peer_core.proofs.JournalLemmas.{no_row, log_law, follows_history, requests_request, entries_request}
-use Rattle.peer_core.proofs.HistoryLemmas.{order_push, has_order}
-use Rattle.peer_core.proofs.StableLemmas.{known_law, new_in_order}
+use Rattle.peer_tables.proofs.JournalLemmas.{no_row, log_law, follows_history, requests_request, entries_request}
+use Rattle.peer_tables.proofs.HistoryLemmas.{order_push, has_order}
+use Rattle.peer_tables.proofs.StableLemmas.{known_law, new_in_order}
 use Rattle.peer_core.proofs.AnswerLemmas.Refusals.{edit_refuses}
 use Rattle.peer_core.proofs.AnswerLemmas.Edits.{may_edit, shown_there, old_shown}
 use Rattle.peer_core.proofs.EditLemmas.Pieces.{changed, apart, text_changed, text_inserted, text_first}

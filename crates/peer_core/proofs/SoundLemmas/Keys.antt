@@ -16,7 +16,7 @@ use Rattle.edit_message.specs.declared.message.Message.TheVariants.{Coop, Admin}
 use Rattle.edit_message.specs.Message.{key_of, key_eq, find_key}
 use Rattle.element_name.proofs.NameOrder.{name_eq-comm}
 use Rattle.hold_back.specs.Hold.{IsNewKey}
-use Rattle.peer_core.specs.Sound.{has_key_of}
+use Rattle.peer_tables.specs.Journal.{has_key_of}
 use Rattle.peer_core.proofs.WaitingLemmas.OneMore.{EachFrom-back, any_map}
 
 -- ---- keys in another order

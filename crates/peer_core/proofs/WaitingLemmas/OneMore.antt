@@ -32,9 +32,9 @@ use Rattle.hold_back.specs.declared.need.Need.{Need}
 use Rattle.hold_back.specs.declared.need.Need.TheVariants.{Element, Front}
 use Rattle.hold_back.specs.Need.{need_eq}
 use Rattle.hold_back.specs.Hold.{messages_of, waits_for, woken_if, woken_by, waiting_from, IsNewKey}
-use Rattle.peer_core.specs.Sound.{has_key_of, FollowsJournal, IsJournal}
+use Rattle.peer_tables.specs.Journal.{has_key_of, FollowsJournal, IsJournal}
 use Rattle.peer_core.specs.Waiting.{is_unmet, has_need, is_later, waits_rightly, wait_rightly, woken_after}
-use Rattle.peer_core.proofs.JournalLemmas.{requests_request, requests_entry, entries_request, entries_entry, elements_append, log_law, entry_here}
+use Rattle.peer_tables.proofs.JournalLemmas.{requests_request, requests_entry, entries_request, entries_entry, elements_append, log_law, entry_here}
 
 -- ---- one more message in the journal
 

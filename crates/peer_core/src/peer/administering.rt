@@ -9,10 +9,10 @@ ghost use Rattle.peer_core.specs.Answers.{answer_administer, answer_validate_nex
 ghost use Rattle.peer_core.specs.After.{changed_by, takes_none};
 
 use super::Peer;
-use crate::sweep::Sweep;
 use edit_message::Message;
 use element_name::{MAX_VERSION, NoMemory};
 use peer_step::{Answer, Step};
+use peer_tables::Sweep;
 use policy_book::{AdminOp, Entry};
 
 impl Peer {

@@ -8,7 +8,8 @@ ghost use Rattle.coop_request.specs.History.{text_order};
 ghost use Rattle.edit_message.specs.Formed.{is_message};
 ghost use Rattle.peer_core.specs.Peer.{history, log};
 ghost use Rattle.peer_core.specs.After.{peer_after};
-ghost use Rattle.peer_core.specs.Changes.{AreOfTentative, HaveUndone, next_operation, due_message, operation_of, is_received};
+ghost use Rattle.peer_tables.specs.Undoing.{AreOfTentative, HaveUndone};
+ghost use Rattle.peer_core.specs.Changes.{next_operation, due_message, operation_of, is_received};
 
 use super::Peer;
 use edit_message::Message;

@@ -7,7 +7,8 @@ ghost use Rattle.peer_core.specs.Peer.{front, history, shown_elements, integrate
 ghost use Rattle.peer_core.specs.Waiting.{MayIntegrate};
 ghost use Rattle.peer_core.specs.Answers.{answer_edit, answer_denied, own_verdict};
 ghost use Rattle.peer_core.specs.After.{changed_by, takes_none};
-ghost use Rattle.peer_core.specs.Local.{fits_text, greatest_stamp, anchor_at, edit_of, new_request};
+ghost use Rattle.peer_tables.specs.Derived.{greatest_stamp};
+ghost use Rattle.peer_core.specs.Local.{fits_text, anchor_at, edit_of, new_request};
 
 use super::Peer;
 use auth_match::Verdict;

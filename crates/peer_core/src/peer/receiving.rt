@@ -11,11 +11,11 @@ ghost use Rattle.peer_core.specs.After.{changed_by, takes_none};
 
 use super::Peer;
 use crate::known::{Known, answer_known};
-use crate::sweep::Sweep;
 use edit_message::{Message, Missing};
 use element_name::NoMemory;
 use hold_back::{HoldFault, Need};
 use peer_step::{Answer, Step};
+use peer_tables::Sweep;
 
 impl Peer {
     pub(super) fn receive<W: Sweep>(

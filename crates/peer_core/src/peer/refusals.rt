@@ -5,11 +5,11 @@ ghost use Rattle.peer_core.specs.Answers.{rows_of_edit, rows_of_log, rows_of_val
 ghost use Rattle.peer_core.specs.Local.{fits_text};
 
 use super::Peer;
-use crate::advance::validated_by;
 use coop_request::Request;
 use edit_message::{Message, Missing};
 use element_name::{MAX_STAMP, MAX_VERSION, Name};
 use peer_step::{Answer, LocalEdit};
+use peer_tables::validated_by;
 use policy_book::{AdminOp, Entry};
 use request_state::State;
 

@@ -1,18 +1,17 @@
 //! A peer that is made of its journal again.
 ghost use Rattle.std.specs.Prelude.{◌≡◌, ◌++◌, ◌∷◌, [], false, IfOk, IfErr, OnOk, IsTrue};
 ghost use Rattle.edit_message.specs.Formed.{is_message};
-ghost use Rattle.peer_core.specs.Peer.{finds_no_room};
-ghost use Rattle.peer_core.specs.Sound.{FollowsJournal, IsWithin};
+ghost use Rattle.peer_tables.specs.Derived.{finds_no_room};
+ghost use Rattle.peer_tables.specs.Journal.{FollowsJournal, IsWithin};
 ghost use Rattle.peer_core.specs.Restore.{peer_of_journal, IsRestoreFailOf, is_faulty, may_be_next};
 
 use super::Peer;
 use crate::due::DueIn;
-use crate::journal::Journal;
 use crate::restore::RestoreFail;
-use crate::sweep::OneThread;
 use edit_message::Message;
 use element_name::NoMemory;
 use hold_back::{Due, HoldBack};
+use peer_tables::{Journal, OneThread};
 use std::alloc::Global;
 
 impl Peer {

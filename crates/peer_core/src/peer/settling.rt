@@ -1,18 +1,17 @@
 //! Held messages that are due.
 ghost use Rattle.std.specs.Prelude.{◌≡◌, ℕ, ◌∷◌, ◌++◌, [], Some, None, List, false, position, slice_get, option_and_then, IfOk, OnOk, OnErr, IsOk, IsTrue};
-ghost use Rattle.peer_core.specs.Peer.{is_due, finds_no_room};
-ghost use Rattle.peer_core.specs.Sound.{FollowsJournal};
+ghost use Rattle.peer_tables.specs.Derived.{is_due, finds_no_room};
+ghost use Rattle.peer_tables.specs.Journal.{FollowsJournal};
 ghost use Rattle.peer_core.specs.Answers.{answer_settle, outcome_of, fault_in};
 ghost use Rattle.peer_core.specs.After.{changed_by, takes_none};
 
 use super::Peer;
 use super::waking::{met_by, wake_by};
 use crate::due::DueIn;
-use crate::journal::Journal;
-use crate::sweep::Sweep;
 use edit_message::Message;
 use element_name::NoMemory;
 use peer_step::{Answer, Outcome, Step};
+use peer_tables::{Journal, Sweep};
 use policy_book::EntryFault;
 
 impl Peer {

@@ -1,19 +1,18 @@
 //! What joins the journal, and what it wakes.
 ghost use Rattle.std.specs.Prelude.{◌≡◌, ◌++◌, ◌∷◌, [], IfOk, OnOk, OnErr};
 ghost use Rattle.coop_request.specs.History.{text_order};
-ghost use Rattle.peer_core.specs.Kept.{IsGivenState};
+ghost use Rattle.peer_tables.specs.Kept.{IsGivenState};
 ghost use Rattle.peer_core.specs.Peer.{history, log, state_at, integrate};
 ghost use Rattle.peer_core.specs.Waiting.{met_by, MayWake, HasWoken, MayIntegrate};
 ghost use Rattle.peer_core.specs.Answers.{undone_by};
 
 use super::Peer;
 use crate::due::wake;
-use crate::journal::Journal;
-use crate::sweep::Sweep;
 use coop_request::{Edit, Request};
 use edit_message::Message;
 use element_name::NoMemory;
 use hold_back::{HoldBack, Need};
+use peer_tables::{Journal, Sweep};
 use policy_book::Entry;
 use request_state::{State, Undone};
 

@@ -5,7 +5,7 @@ use Rattle.coop_request.specs.History.{text_order}
 use Rattle.policy_book.specs.Entry.{Entry}
 use Rattle.edit_message.specs.declared.message.Message.{Message}
 use Rattle.edit_message.specs.Message.{requests_of}
-use Rattle.peer_core.proofs.JournalLemmas.{history_law}
+use Rattle.peer_tables.proofs.JournalLemmas.{history_law}
 use Rattle.audit_cert.specs.Basis.{may_be_judged, message_bytes}
 use Rattle.audit_cert.specs.Audit.{messages_of_frames}
 use Rattle.audit_cert.proofs.LineLists.{all_judgeable, written}

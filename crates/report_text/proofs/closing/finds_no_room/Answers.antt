@@ -3,8 +3,8 @@ use Rattle.std.specs.Prelude.{nat_le}
 use Rattle.coop_request.specs.declared.request.TheConstants.{MAX_REQUESTS}
 use Rattle.edit_message.specs.declared.message.Message.{Message}
 use Rattle.edit_message.specs.Message.{requests_of}
-use Rattle.peer_core.specs.Peer.{finds_no_room}
-use Rattle.peer_core.proofs.KeptLemmas.Reads.{sizes}
+use Rattle.peer_tables.specs.Derived.{finds_no_room}
+use Rattle.peer_tables.proofs.KeptLemmas.Reads.{sizes}
 use Rattle.report_text.proofs.closing.finds_no_room.Goals as goal
 
 pub overflow_sub-result : goal.overflow_sub-result

@@ -1,7 +1,7 @@
 use Rattle.std.proofs.Common.{List, [], ◌∷◌, ◌++◌, take, refl, sym, ap, subst, ◌∙◌, arith}
 use Rattle.std.proofs.lemmas.List.{take_all}
 use Rattle.edit_message.specs.declared.message.Message.{Message}
-use Rattle.peer_core.specs.Sound.{IsWithin}
+use Rattle.peer_tables.specs.Journal.{IsWithin}
 use Rattle.audit_cert.specs.Basis.{IsBasisOf}
 use Rattle.audit_cert.proofs.Prefixes.{one_further}
 use Rattle.audit_cert.proofs.basis.Basis.of.Goals as goal

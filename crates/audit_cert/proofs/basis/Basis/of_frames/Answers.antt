@@ -2,7 +2,7 @@ use Rattle.std.proofs.Common.{◌≡◌, ◌+◌, List, [], ◌∷◌, ◌++◌,
 use Rattle.edit_message.specs.declared.message.Message.{Message}
 use Rattle.edit_frame.specs.declared.frame.Frame.{Frame}
 use Rattle.edit_frame.specs.declared.frame.Frame.TheVariants.{Item}
-use Rattle.peer_core.specs.Sound.{IsWithin}
+use Rattle.peer_tables.specs.Journal.{IsWithin}
 use Rattle.audit_cert.specs.Basis.{IsBasisOf}
 use Rattle.audit_cert.specs.Audit.{messages_of_frames}
 use Rattle.audit_cert.proofs.Prefixes.{one_further}

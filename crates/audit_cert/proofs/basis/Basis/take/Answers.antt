@@ -5,7 +5,7 @@ use Rattle.edit_message.specs.declared.message.Message.{Message}
 use Rattle.edit_message.specs.declared.message.Message.TheVariants.{Coop, Admin}
 use Rattle.edit_message.specs.Message.{key_of}
 use Rattle.edit_message.specs.Formed.{is_message}
-use Rattle.peer_core.specs.Sound.{IsWithin}
+use Rattle.peer_tables.specs.Journal.{IsWithin}
 use Rattle.audit_cert.specs.Basis.{IsBasisOf, is_known, may_join}
 use Rattle.audit_cert.proofs.NextMessages.{known_refused, request_taken, request_refused, entry_taken, entry_refused}
 use Rattle.audit_cert.proofs.basis.Basis.take.Goals as goal

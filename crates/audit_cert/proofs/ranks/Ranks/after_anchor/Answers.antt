@@ -1,7 +1,7 @@
 use Rattle.std.proofs.Common.{◌≡◌, false, sym, ap, ◌∙◌, arith}
 use Rattle.element_name.specs.Name.{start, name_eq, has_name}
 use Rattle.tomb_seq.proofs.SlotLemmas.{found_below}
-use Rattle.peer_core.proofs.HistoryLemmas.{other_true}
+use Rattle.peer_tables.proofs.HistoryLemmas.{other_true}
 use Rattle.audit_cert.proofs.ranks.Ranks.after_anchor.Goals as goal
 
 pub overflow_add-result : goal.overflow_add-result

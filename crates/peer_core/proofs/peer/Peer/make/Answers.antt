@@ -1,6 +1,7 @@
 use Rattle.std.proofs.Common.{◌≡◌, [], ◌∷◌, ◌++◌, ap, sym, subst, ◌∙◌}
 use Rattle.auth_match.specs.declared.verdict.Verdict.TheVariants.{Granted}
-use Rattle.peer_core.specs.Peer.{Peer, history, log, front, state_in}
+use Rattle.peer_tables.specs.Derived.{state_in}
+use Rattle.peer_core.specs.Peer.{Peer, history, log, front}
 use Rattle.peer_core.specs.Answers.{own_verdict}
 use Rattle.peer_core.proofs.peer.Peer.make.Goals as goal
 

@@ -4,7 +4,7 @@ use Rattle.coop_request.specs.History.{text_order}
 use Rattle.edit_message.specs.Message.{requests_of, entries_of}
 use Rattle.peer_core.specs.Peer.{Peer, history, shown_elements}
 use Rattle.peer_core.specs.Carets.{count_up_to}
-use Rattle.peer_core.proofs.JournalLemmas.{history_law}
+use Rattle.peer_tables.proofs.JournalLemmas.{history_law}
 use Rattle.peer_core.proofs.CaretLemmas.{found_shown, shown_placed}
 use Rattle.peer_core.proofs.peer.Peer.stands_up_to.Goals as goal
 

@@ -7,7 +7,7 @@ use Rattle.admin_log.specs.Log.{FollowsLog}
 use Rattle.peer_core.specs.Peer.{Peer, history, log}
 use Rattle.peer_core.specs.Sound.{IsSound}
 use Rattle.peer_core.specs.After.{peer_after}
-use Rattle.peer_core.specs.Changes.{HaveUndone}
+use Rattle.peer_tables.specs.Undoing.{HaveUndone}
 use Rattle.peer_core.proofs.ChangeLemmas.{step_undone}
 use Rattle.peer_core.proofs.peer.Peer.undoable.Goals as goal
 

@@ -1,5 +1,0 @@
-use Rattle.std.proofs.Common.{◌-◌, length, take}
-use Rattle.peer_core.proofs.items.Items.cut_last.Given as goal
-
-abbrev pub ghost-changed : goal.ghost-changed
-ghost-changed a = take (length a.self.now.items - 1) a.self.now.items

@@ -1,5 +1,0 @@
-use Rattle.std.proofs.Common.{[], ◌∷◌, ◌++◌}
-use Rattle.peer_core.proofs.items.Items.push.Given as goal
-
-abbrev pub ghost-changed : goal.ghost-changed
-ghost-changed a = a.self.now.items ++ a._by.now ∷ []

@@ -1,9 +1,0 @@
-use Rattle.std.proofs.Common.{subst}
-use Rattle.std.specs.declared.option.Option.{Option}
-use Rattle.request_state.specs.declared.state.State.{State}
-use Rattle.tomb_seq.specs.Slots.{names_in}
-use Rattle.peer_core.specs.Kept.{IsGivenState}
-use Rattle.peer_core.proofs.join.state_given.Goals as goal
-
-pub returns-in-Some : goal.returns-in-Some
-returns-in-Some c = subst (λ (given : Option State). IsGivenState given (names_in c.args.seq.now) c.args.log.now c.args.request) c.in-Some.is c.requires.given

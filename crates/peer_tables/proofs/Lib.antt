@@ -1,0 +1,9 @@
+pub mod JournalLemmas
+pub mod HistoryLemmas
+pub mod StableLemmas
+pub mod SameSetLemmas
+pub mod ItemLemmas
+pub mod KeptLemmas
+pub mod ReachedLemmas
+pub mod UndoingLemmas
+pub mod TreePlaceLemmas

@@ -1,0 +1,36 @@
+use Rattle.std.proofs.Common.{ap, sym, subst, ◌∙◌, List}
+use Rattle.element_name.specs.Name.{Name, has_name}
+use Rattle.coop_request.specs.Request.{element_of}
+use Rattle.tomb_seq.specs.declared.slot.Slot.{Slot}
+use Rattle.tomb_seq.specs.Slots.{names_in, with_mark}
+use Rattle.peer_tables.specs.Kept.{shows_by, slots_after, IsGivenState}
+use Rattle.peer_tables.proofs.KeptLemmas.Places.{placed_element}
+use Rattle.peer_tables.proofs.join.join.Goals as goal
+
+pub judge-requires-clause-element : goal.judge-requires-clause-element
+judge-requires-clause-element c =
+    let q = c.args.request in
+    ap (λ (names : List Name). has_name names (element_of q)) c.in_ok-place.ensures.names
+    ∙ placed_element (names_in c.args.seq.now) q.id q.edit c.requires.placeable
+
+pub judge-requires-clause-given : goal.judge-requires-clause-given
+judge-requires-clause-given c = subst (λ (names : List Name). IsGivenState c.args.given names c.args.log.now c.args.request) (sym c.in_ok-place.ensures.names) c.requires.given
+
+pub mark-requires : goal.mark-requires
+mark-requires c =
+    let q = c.args.request in
+    ap (λ (e : Name). has_name (names_in c.place.new.seq) e) c.element.ensures
+    ∙ ap (λ (names : List Name). has_name names (element_of q)) c.in_ok-place.ensures.names
+    ∙ placed_element (names_in c.args.seq.now) q.id q.edit c.requires.placeable
+
+pub returns-in-Ok-clause-slots : goal.returns-in-Ok-clause-slots
+returns-in-Ok-clause-slots c =
+    c.mark.ensures
+    ∙ ap (λ (slots : List Slot). with_mark slots c.element.result (shows_by c.judge.new.cells c.element.result)) c.in_ok-place.ensures.slots
+    ∙ ap (λ (e : Name). with_mark (slots_after c.args.seq.now c.args.request.id c.args.request.edit) e (shows_by c.judge.new.cells e)) c.element.ensures
+
+pub take_back-requires : goal.take_back-requires
+take_back-requires c =
+    let q = c.args.request in
+    ap (λ (names : List Name). has_name names (element_of q)) c.in_ok-place.ensures.names
+    ∙ placed_element (names_in c.args.seq.now) q.id q.edit c.requires.placeable

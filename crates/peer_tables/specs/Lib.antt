@@ -1,0 +1,10 @@
+pub mod Journal
+pub mod Derived
+pub mod Laws
+pub mod Items
+pub mod Part
+pub mod Kept
+pub mod Reached
+pub mod Awaiting
+pub mod Undoing
+pub mod TreePlaces

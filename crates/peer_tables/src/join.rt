@@ -1,0 +1,269 @@
+//! What is kept of a journal, with one more request.
+ghost use Rattle.std.specs.Prelude.{◌≡◌, ◌≤◌, length, List, true, false, IsTrue, IfOk, OnOk, OnErr, None, is_some};
+ghost use Rattle.element_name.specs.Name.{has_name};
+ghost use Rattle.coop_request.specs.Request.{element_of};
+ghost use Rattle.request_state.specs.Table.{kept_of, with_request};
+ghost use Rattle.check_remote.specs.State.{state_by, state_of};
+ghost use Rattle.tomb_seq.specs.declared.slot.Slot.{Slot};
+ghost use Rattle.tomb_seq.specs.Slots.{names_in, with_mark};
+ghost use Rattle.peer_tables.specs.Kept.{judged_by, names_after, slots_after, IsPlaceable, is_addable, with_element, without_element, counted_by, cells_joined, IsGivenState, IsJoinable, IsGrantable, IsUnheard, shows_by};
+
+use admin_log::AdminLog;
+use auth_match::Judged;
+use check_remote::check_remote;
+use coop_request::{Edit, Request};
+use elem_show::ElemTable;
+use element_name::{Name, NoMemory};
+use request_state::{State, StateTable};
+use tomb_seq::{SeqFault, Shows, TombSeq};
+
+/// What a request is judged on: the new element, or its target.
+pub(crate) fn judged(request: Request) -> Judged
+    ensures { result ≡ judged_by request.id request.edit }
+{
+    match request.edit() {
+        Edit::Insert { after, .. } => Judged::Fresh {
+            name: request.id(),
+            after,
+        },
+        Edit::Delete { target } => Judged::There(target),
+        Edit::Update { target, .. } => Judged::There(target),
+    }
+}
+
+// An insert's element goes to its place.
+fn place(seq: &mut TombSeq, request: Request) -> Result<(), NoMemory>
+    requires { IsPlaceable (names_in seq.old) request.id request.edit }
+    ensures slots { OnOk result (seq.new ≡ slots_after seq.old request.id request.edit) }
+    ensures names { OnOk result (names_in seq.new ≡ names_after (names_in seq.old) request.id request.edit) }
+    ensures unchanged { OnErr result (seq.new ≡ seq.old) }
+{
+    let Edit::Insert { after, .. } = request.edit() else {
+        return Ok(());
+    };
+    match seq.insert(request.id(), after) {
+        Ok(_) => Ok(()),
+        Err(SeqFault::NoMemory) => Err(NoMemory),
+        Err(_) => unreachable!(),
+    }
+}
+
+// It leaves its place again.
+fn take_back(seq: &mut TombSeq, request: Request)
+    requires { has_name (names_in seq.old) (element_of request) ≡ true }
+    ensures { (slots : List Slot) → IsPlaceable (names_in slots) request.id request.edit
+        → seq.old ≡ slots_after slots request.id request.edit → seq.new ≡ slots }
+{
+    if let Edit::Insert { .. } = request.edit() {
+        seq.remove(request.id());
+    }
+}
+
+// The request counts, unless its state is Invalid.
+fn count(cells: &mut ElemTable, request: Request, state: State) -> Result<(), NoMemory>
+    requires { IsGrantable cells.old request }
+    ensures counted { OnOk result (cells.new ≡ counted_by cells.old request state) }
+    ensures unchanged { OnErr result (cells.new ≡ cells.old) }
+{
+    match state {
+        State::Invalid { .. } => Ok(()),
+        State::Tentative => cells.grant(request),
+        State::Valid { .. } => cells.grant(request),
+    }
+}
+
+// The state is kept, and the request counts by it.
+fn keep_state(
+    cells: &mut ElemTable,
+    states: &mut StateTable,
+    request: Request,
+    state: State,
+) -> Result<(), NoMemory>
+    requires grantable { IsGrantable cells.old request }
+    requires new { kept_of states.old request.id ≡ None }
+    ensures states { OnOk result (states.new ≡ with_request states.old request state) }
+    ensures counted { OnOk result (cells.new ≡ counted_by cells.old request state) }
+    ensures same_cells { OnErr result (cells.new ≡ cells.old) }
+    ensures same_states { OnErr result (states.new ≡ states.old) }
+{
+    states.add(request, state)?;
+    match count(cells, request, state) {
+        Ok(()) => Ok(()),
+        Err(NoMemory) => {
+            states.remove(request.id());
+            Err(NoMemory)
+        }
+    }
+}
+
+// The cell of an insert's element is made.
+fn add_cell(cells: &mut ElemTable, request: Request) -> Result<(), NoMemory>
+    requires { IsTrue (is_addable cells.old request.id request.edit) }
+    ensures added { OnOk result (cells.new ≡ with_element cells.old request) }
+    ensures unheard { OnOk result (IsUnheard cells.new request) }
+    ensures unchanged { OnErr result (cells.new ≡ cells.old) }
+{
+    match request.edit() {
+        Edit::Insert { .. } => cells.add(request),
+        Edit::Delete { .. } => Ok(()),
+        Edit::Update { .. } => Ok(()),
+    }
+}
+
+// It goes again.
+fn remove_cell(cells: &mut ElemTable, request: Request)
+    requires { IsUnheard cells.old request }
+    ensures { cells.new ≡ without_element cells.old request }
+{
+    if let Edit::Insert { .. } = request.edit() {
+        cells.remove(request.id());
+    }
+}
+
+// Both tables with the request, whose state is known.
+fn join_tables(
+    cells: &mut ElemTable,
+    states: &mut StateTable,
+    request: Request,
+    state: State,
+) -> Result<(), NoMemory>
+    requires joinable { IsJoinable cells.old request }
+    requires addable { IsTrue (is_addable cells.old request.id request.edit) }
+    requires new { kept_of states.old request.id ≡ None }
+    ensures states { OnOk result (states.new ≡ with_request states.old request state) }
+    ensures cells { OnOk result (cells.new ≡ cells_joined cells.old request state) }
+    ensures same_cells { OnErr result (cells.new ≡ cells.old) }
+    ensures same_states { OnErr result (states.new ≡ states.old) }
+{
+    add_cell(cells, request)?;
+    match keep_state(cells, states, request, state) {
+        Ok(()) => Ok(()),
+        Err(NoMemory) => {
+            remove_cell(cells, request);
+            Err(NoMemory)
+        }
+    }
+}
+
+// The state of a request: the one that is given, or what judging it over the log says.
+fn state_given(
+    log: &AdminLog,
+    seq: &TombSeq,
+    request: Request,
+    given: Option<State>,
+) -> Result<State, NoMemory>
+    requires carried { request.version ≤ length log.now }
+    requires element { has_name (names_in seq.now) (element_of request) ≡ true }
+    requires given { IsGivenState given (names_in seq.now) log.now request }
+    ensures { IfOk result (λ state. state ≡ state_of (names_in seq.now) log.now request) }
+{
+    match given {
+        Some(state) => Ok(state),
+        None => check_remote(log, request, seq),
+    }
+}
+
+/// The state of a granted request, by the version that validates it.
+pub(crate) fn validated_state(validation: Option<u32>) -> State
+    ensures { result ≡ state_by None validation }
+{
+    match validation {
+        Some(at) => State::Valid { at },
+        None => State::Tentative,
+    }
+}
+
+// The request joins both tables with its state.
+fn judge(
+    log: &AdminLog,
+    seq: &TombSeq,
+    cells: &mut ElemTable,
+    states: &mut StateTable,
+    request: Request,
+    given: Option<State>,
+) -> Result<State, NoMemory>
+    requires carried { request.version ≤ length log.now }
+    requires element { has_name (names_in seq.now) (element_of request) ≡ true }
+    requires joinable { IsJoinable cells.old request }
+    requires addable { IsTrue (is_addable cells.old request.id request.edit) }
+    requires new { kept_of states.old request.id ≡ None }
+    requires given { IsGivenState given (names_in seq.now) log.now request }
+    ensures state { IfOk result (λ state. state ≡ state_of (names_in seq.now) log.now request) }
+    ensures states { IfOk result (λ state. states.new ≡ with_request states.old request state) }
+    ensures cells { IfOk result (λ state. cells.new ≡ cells_joined cells.old request state) }
+    ensures same_cells { OnErr result (cells.new ≡ cells.old) }
+    ensures same_states { OnErr result (states.new ≡ states.old) }
+{
+    let state = state_given(log, seq, request, given)?;
+    join_tables(cells, states, request, state)?;
+    Ok(state)
+}
+
+// The element is marked by whether its cell shows.
+fn mark(seq: &mut TombSeq, cells: &ElemTable, element: Name)
+    requires { has_name (names_in seq.old) element ≡ true }
+    ensures { seq.new ≡ with_mark seq.old element (shows_by cells.now element) }
+{
+    seq.mark(element, is_shown(cells, element));
+}
+
+// Whether an element shows, by its cell.
+fn is_shown(cells: &ElemTable, element: Name) -> bool
+    ensures { result ≡ shows_by cells.now element }
+{
+    match cells.cell(element) {
+        Some(cell) => cell.shows(),
+        None => false,
+    }
+}
+
+/// Which elements show, by their cells.
+#[derive(Drop)]
+pub(crate) struct ByCells<'a>(pub(crate) &'a ElemTable);
+
+impl Shows for ByCells<'_> {
+    ghost use Rattle.peer_tables.specs.Kept.{shows_by};
+
+    ghost is_shown = { λ by. shows_by by.0.now };
+
+    fn shows(&self, name: Name) -> bool {
+        is_shown(self.0, name)
+    }
+}
+
+/// Judges a request over the log, at the place that its element has, where its state isn't given, and puts it in:
+/// its element, its cell, its state, and whether its element shows. What a want of memory cuts short is taken back.
+pub(crate) fn join(
+    log: &AdminLog,
+    seq: &mut TombSeq,
+    cells: &mut ElemTable,
+    states: &mut StateTable,
+    request: Request,
+    given: Option<State>,
+) -> Result<State, NoMemory>
+    requires carried { request.version ≤ length log.now }
+    requires placeable { IsPlaceable (names_in seq.old) request.id request.edit }
+    requires joinable { IsJoinable cells.old request }
+    requires addable { IsTrue (is_addable cells.old request.id request.edit) }
+    requires new { kept_of states.old request.id ≡ None }
+    requires given { IsGivenState given (names_after (names_in seq.old) request.id request.edit) log.now request }
+    ensures state { IfOk result (λ state. state ≡ state_of (names_after (names_in seq.old) request.id request.edit) log.now request) }
+    ensures slots { OnOk result (seq.new ≡ with_mark (slots_after seq.old request.id request.edit) (element_of request) (shows_by cells.new (element_of request))) }
+    ensures states { IfOk result (λ state. states.new ≡ with_request states.old request state) }
+    ensures cells { IfOk result (λ state. cells.new ≡ cells_joined cells.old request state) }
+    ensures same_seq { OnErr result (seq.new ≡ seq.old) }
+    ensures same_cells { OnErr result (cells.new ≡ cells.old) }
+    ensures same_states { OnErr result (states.new ≡ states.old) }
+{
+    place(seq, request)?;
+    match judge(log, seq, cells, states, request, given) {
+        Ok(state) => {
+            mark(seq, cells, request.element());
+            Ok(state)
+        }
+        Err(NoMemory) => {
+            take_back(seq, request);
+            Err(NoMemory)
+        }
+    }
+}

@@ -1,0 +1,20 @@
+//! A journal, and the tables that a peer keeps of it: the log, the elements in text order, the cells and the states. They are
+//! what the definitions make of the whole journal, whatever message joins it. Nothing here knows of steps or of what is
+//! held.
+#![tactic(auto)]
+
+mod advance;
+mod item;
+mod items;
+mod join;
+mod journal;
+pub mod laws;
+mod missing;
+mod reached;
+mod sweep;
+mod text;
+
+pub use advance::validated_by;
+pub use item::JournalItem;
+pub use journal::Journal;
+pub use sweep::{OneThread, Sweep};
