@@ -10,6 +10,7 @@ import subprocess
 import sys
 import tempfile
 import time
+from functools import partial
 
 from link_peer import Broken, Closed, accept, dial, free_port, listening
 from row import SECONDS, difference
@@ -20,25 +21,13 @@ TOP = os.path.join(os.path.dirname(os.path.abspath(__file__)), "../rows")
 MEMORY = "/dev/shm" if os.access("/dev/shm", os.W_OK) else None
 
 
-def run(program, row, port, used, file):
-    """The program, with the places in the words filled in."""
-    places = {"{FILE}": file, "{PORT}": str(port), "{USED}": str(used)}
+def run(program, row, folder, places):
+    """The program, with the places in its words filled in. Its input and its output are files of the folder."""
     words = [re.sub(r"\{[A-Z]{4}\}", lambda found: places[found[0]], word) for word in row.words]
-    pipes = {"stdin": subprocess.PIPE, "stdout": subprocess.PIPE, "stderr": subprocess.STDOUT}
-    return subprocess.Popen([program, *words], **pipes)
-
-
-def ended(running, row, link_opener):
-    """The exit code, what was written, and what is wrong at the other side of the link."""
-    if row.other is None:
-        written, _ = running.communicate(row.given, SECONDS)
-        return running.returncode, written, None
-    running.stdin.write(row.given)
-    running.stdin.close()
-    running.stdin = None
-    wrong = row.other(link_opener)
-    written, _ = running.communicate(timeout=SECONDS)
-    return running.returncode, written, wrong
+    with open(f"{folder}/given", "wb") as given:
+        given.write(row.given)
+    with open(f"{folder}/given", "rb") as given, open(f"{folder}/written", "wb") as written:
+        return subprocess.Popen([program, *words], stdin=given, stdout=written, stderr=subprocess.STDOUT)
 
 
 def wrong_file(row, file):
@@ -50,30 +39,35 @@ def wrong_file(row, file):
     return f"the file has {'no bytes, since there is none' if left is None else left.hex()}, and not {behind.hex()}"
 
 
+def wrong_end(program, row, status, written):
+    """What is wrong with how a run ends, and with what it writes."""
+    if status != row.status:
+        return f"it ends with {status}, and not with {row.status}; {written[-200:]!r} is written"
+    return row.check(program, written) if row.check else difference(written, row.written)
+
+
 def wrong_run(program, row, folder):
     """What is wrong with a run, None where nothing is."""
-    file = os.path.join(folder, "file")
+    file = f"{folder}/file"
     if row.disk[0] is not None:
         with open(file, "wb") as out:
             out.write(row.disk[0])
-    taken, used = listening()
-    listener, port = listening() if row.words[:1] == ["dial"] and row.other else (None, free_port())
-    with taken, run(program, row, port, used, file) as running:
+    listener, used = listening()
+    is_dialled = row.other is not None and row.words[0] == "dial"
+    port = used if is_dialled else free_port()
+    open_link = partial(accept, listener) if is_dialled else partial(dial, port)
+    places = {"{FILE}": file, "{PORT}": str(port), "{USED}": str(used)}
+    with listener, run(program, row, folder, places) as running:
         try:
-            opener = (lambda: accept(listener)) if listener else (lambda: dial(port))
-            status, written, wrong = ended(running, row, opener)
+            wrong = row.other(open_link) if row.other else None
+            running.wait(SECONDS)
         except subprocess.TimeoutExpired:
             return f"it has no end within {SECONDS} seconds"
         except (Broken, Closed, OSError) as error:
-            return f"the run or its link is broken: {error!r}"
+            return f"its link is broken: {error!r}"
         finally:
             running.kill()
-            if listener:
-                listener.close()
-    if status != row.status:
-        return f"it ends with {status}, and not with {row.status}; {written[-200:]!r} is written"
-    differs = row.check(program, written) if row.check else difference(written, row.written)
-    return differs or wrong or wrong_file(row, file)
+    return wrong_end(program, row, running.returncode, read(f"{folder}/written")) or wrong or wrong_file(row, file)
 
 
 def is_told(name):

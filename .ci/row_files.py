@@ -2,6 +2,7 @@
 import importlib.util
 import os
 import re
+from functools import partial
 
 from row import Row
 
@@ -63,8 +64,11 @@ def inputs_of(stem):
 
 
 def written_by(stem):
-    plain = read(f"{stem}.out")
-    return spelled(read(f"{stem}.written")) if plain is None else plain
+    """What a run of the row writes."""
+    plain, some = read(f"{stem}.out"), read(f"{stem}.written")
+    if plain is None and some is None:
+        raise ValueError(f"nothing says what {stem} writes")
+    return spelled(some) if plain is None else plain
 
 
 def disk_of(stem):
@@ -96,7 +100,7 @@ def other_of(stem):
     if some is None:
         return None
     lines = [line for line in some.decode().splitlines() if line and not line.startswith("#")]
-    return lambda open_link: play_link(lines, open_link)
+    return partial(play_link, lines)
 
 
 def rows_of(stem, folder):
@@ -121,11 +125,9 @@ def rows_made_by(path):
 def all_rows(top):
     """The name of each row below this folder, and a call that gives its runs."""
     for folder, inner, files in os.walk(top):
-        inner.sort()
+        inner[:] = sorted(set(inner) - {"__pycache__"})
         form = os.path.relpath(folder, top).split(os.sep)[0]
-        for file in sorted(files):
-            stem, kind = os.path.splitext(f"{folder}/{file}")
-            if kind in (".out", ".written"):
-                yield os.path.relpath(stem, top), lambda stem=stem, form=form: rows_of(stem, form)
-            elif kind == ".py":
-                yield os.path.relpath(stem, top), lambda path=f"{folder}/{file}": rows_made_by(path)
+        for name in sorted({os.path.splitext(file)[0] for file in files} - {"README"}):
+            stem = f"{folder}/{name}"
+            runs = partial(rows_made_by, f"{stem}.py") if f"{name}.py" in files else partial(rows_of, stem, form)
+            yield os.path.relpath(stem, top), runs
