@@ -1,4 +1,5 @@
 pub mod Words
+pub mod Reads
 pub mod Numbers
 pub mod Pieces
 pub mod Sets

@@ -3,6 +3,7 @@
 //! A call that takes memory fails where it is wanting.
 #![tactic(auto)]
 
+mod fail;
 pub mod laws;
 mod message;
 mod numbers;

@@ -3,11 +3,12 @@ ghost use Rattle.std.specs.Prelude.{◌≡◌, ◌==◌, ◌≤◌, ◌<◌, ◌
 ghost use Rattle.std.specs.List.{list_all};
 ghost use Rattle.std.specs.Char.{is_ascii_digit};
 ghost use Rattle.line_read.specs.Words.{bytes_of};
+ghost use Rattle.line_read.specs.Reads.{Reads};
 ghost use Rattle.line_read.specs.Numbers.{is_numeral, read_number, read_short, read_wide, read_name};
 ghost use Rattle.line_read.specs.Numbers.{one_short, two_shorts, one_wide, one_name, two_names};
 
 use element_name::{MAX_STAMP, Name};
-use line_spelling::POINT;
+use line_spelling::{LineFail, POINT};
 
 /// The digit that stands for zero.
 const ZERO_DIGIT: u8 = b'0';
@@ -103,55 +104,53 @@ pub fn read_name(word: &[u8]) -> Option<Name>
     Name::read(stamp, site)
 }
 
-pub(crate) fn one_short(args: &[&[u8]]) -> Option<u16>
-    ensures { result ≡ one_short (bytes_of args.now) }
+// ---- arguments: one word or two, and no more
+
+pub(crate) fn one_short(args: &[&[u8]]) -> Result<u16, LineFail>
+    ensures { Reads result (one_short (bytes_of args.now)) }
 {
     match args {
-        [a] => read_short(a),
-        _ => None,
+        [a] => read_short(a).ok_or(LineFail::Bad),
+        _ => Err(LineFail::Bad),
     }
 }
 
-pub(crate) fn two_shorts(args: &[&[u8]]) -> Option<(u16, u16)>
-    ensures { result ≡ two_shorts (bytes_of args.now) }
+pub(crate) fn two_shorts(args: &[&[u8]]) -> Result<(u16, u16), LineFail>
+    ensures { Reads result (two_shorts (bytes_of args.now)) }
+{
+    let [a, b] = args else {
+        return Err(LineFail::Bad);
+    };
+    let m = read_short(a).ok_or(LineFail::Bad)?;
+    let n = read_short(b).ok_or(LineFail::Bad)?;
+    Ok((m, n))
+}
+
+pub(crate) fn one_wide(args: &[&[u8]]) -> Result<u32, LineFail>
+    ensures { Reads result (one_wide (bytes_of args.now)) }
 {
     match args {
-        [a, b] => {
-            let m = read_short(a)?;
-            let n = read_short(b)?;
-            Some((m, n))
-        }
-        _ => None,
+        [a] => read_wide(a).ok_or(LineFail::Bad),
+        _ => Err(LineFail::Bad),
     }
 }
 
-pub(crate) fn one_wide(args: &[&[u8]]) -> Option<u32>
-    ensures { result ≡ one_wide (bytes_of args.now) }
+pub(crate) fn one_name(args: &[&[u8]]) -> Result<Name, LineFail>
+    ensures { Reads result (one_name (bytes_of args.now)) }
 {
     match args {
-        [a] => read_wide(a),
-        _ => None,
+        [a] => read_name(a).ok_or(LineFail::Bad),
+        _ => Err(LineFail::Bad),
     }
 }
 
-pub(crate) fn one_name(args: &[&[u8]]) -> Option<Name>
-    ensures { result ≡ one_name (bytes_of args.now) }
+pub(crate) fn two_names(args: &[&[u8]]) -> Result<(Name, Name), LineFail>
+    ensures { Reads result (two_names (bytes_of args.now)) }
 {
-    match args {
-        [a] => read_name(a),
-        _ => None,
-    }
-}
-
-pub(crate) fn two_names(args: &[&[u8]]) -> Option<(Name, Name)>
-    ensures { result ≡ two_names (bytes_of args.now) }
-{
-    match args {
-        [a, b] => {
-            let m = read_name(a)?;
-            let n = read_name(b)?;
-            Some((m, n))
-        }
-        _ => None,
-    }
+    let [a, b] = args else {
+        return Err(LineFail::Bad);
+    };
+    let m = read_name(a).ok_or(LineFail::Bad)?;
+    let n = read_name(b).ok_or(LineFail::Bad)?;
+    Ok((m, n))
 }

@@ -1,11 +1,11 @@
 //! Pieces of text, as words.
-ghost use Rattle.std.specs.Prelude.{◌≡◌, ◌==◌, IfOk, option_map, false};
+ghost use Rattle.std.specs.Prelude.{◌≡◌, ◌==◌, false};
 ghost use Rattle.std.specs.List.{list_any};
+ghost use Rattle.line_read.specs.Reads.{Reads, ReadsItems};
 ghost use Rattle.line_read.specs.Pieces.{escape_byte, unescaped_bytes, read_piece};
 
 use coop_request::Piece;
-use element_name::NoMemory;
-use line_spelling::{BACKSLASH, LINE_END, LINE_END_LETTER, SPACE, SPACE_LETTER};
+use line_spelling::{BACKSLASH, LINE_END, LINE_END_LETTER, LineFail, SPACE, SPACE_LETTER};
 use std::alloc::Global;
 
 // The byte that `\` and this byte stand for.
@@ -21,17 +21,15 @@ fn escape_byte(b: u8) -> Option<u8>
 }
 
 // The bytes that a word stands for.
-fn unescaped_bytes(alloc: Global, word: &[u8]) -> Result<Option<Vec<u8>>, NoMemory>
-    ensures { IfOk result (λ found. option_map (λ v. v.items) found ≡ unescaped_bytes false word.now) }
+fn unescaped_bytes(alloc: Global, word: &[u8]) -> Result<Vec<u8>, LineFail>
+    ensures { ReadsItems result (unescaped_bytes false word.now) }
 {
     let mut bytes = Vec::new(alloc);
     let mut behind = false;
     for b in word {
         let b = *b;
         if behind {
-            let Some(byte) = escape_byte(b) else {
-                return Ok(None);
-            };
+            let byte = escape_byte(b).ok_or(LineFail::Bad)?;
             bytes.push(byte)?;
             behind = false;
         } else if b == BACKSLASH {
@@ -41,9 +39,9 @@ fn unescaped_bytes(alloc: Global, word: &[u8]) -> Result<Option<Vec<u8>>, NoMemo
         }
     }
     if behind {
-        return Ok(None);
+        return Err(LineFail::Bad);
     }
-    Ok(Some(bytes))
+    Ok(bytes)
 }
 
 fn has_backslash(word: &[u8]) -> bool
@@ -54,14 +52,12 @@ fn has_backslash(word: &[u8]) -> bool
 
 /// The piece that a word spells. Takes no memory where the word has no `\`.
 #[tactic(auto, unfolding(crate::specs::Pieces::read_piece))]
-pub(crate) fn read_piece(alloc: Global, word: &[u8]) -> Result<Option<Piece>, NoMemory>
-    ensures { IfOk result (λ found. found ≡ read_piece word.now) }
+pub(crate) fn read_piece(alloc: Global, word: &[u8]) -> Result<Piece, LineFail>
+    ensures { Reads result (read_piece word.now) }
 {
     if !has_backslash(word) {
-        return Ok(Piece::checked(word));
+        return Piece::checked(word).ok_or(LineFail::Bad);
     }
-    let Some(bytes) = unescaped_bytes(alloc, word)? else {
-        return Ok(None);
-    };
-    Ok(Piece::checked(&bytes))
+    let bytes = unescaped_bytes(alloc, word)?;
+    Piece::checked(&bytes).ok_or(LineFail::Bad)
 }

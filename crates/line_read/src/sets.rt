@@ -1,78 +1,71 @@
 //! Lists of numbers and names, users, rights and signs, as words.
-ghost use Rattle.std.specs.Prelude.{◌≡◌, IfOk, option_map, map};
+ghost use Rattle.std.specs.Prelude.{◌≡◌, map};
 ghost use Rattle.line_read.specs.Words.{bytes_of, each_some};
+ghost use Rattle.line_read.specs.Reads.{Reads, ReadsItems};
 ghost use Rattle.line_read.specs.Numbers.{read_short, read_name};
 ghost use Rattle.line_read.specs.Sets.{read_numbers, read_names, read_users, read_rights, read_sign};
 
 use crate::numbers::{read_name, read_short};
 use crate::words::parts;
-use element_name::{Name, NoMemory};
-use line_spelling::{COMMA, GROUP_SIGN};
+use element_name::Name;
+use line_spelling::{COMMA, GROUP_SIGN, LineFail};
 use policy_book::{NameList, NumList, Rights, UserSet};
 use std::alloc::Global;
 
-fn read_each_short(alloc: Global, words: &[&[u8]]) -> Result<Option<Vec<u16>>, NoMemory>
-    ensures { IfOk result (λ found. option_map (λ v. v.items) found ≡ each_some (map read_short (bytes_of words.now))) }
+fn read_each_short(alloc: Global, words: &[&[u8]]) -> Result<Vec<u16>, LineFail>
+    ensures { ReadsItems result (each_some (map read_short (bytes_of words.now))) }
 {
     let mut numbers = Vec::with_capacity(alloc, words.len())?;
     for word in words {
-        let Some(number) = read_short(word) else {
-            return Ok(None);
-        };
+        let number = read_short(word).ok_or(LineFail::Bad)?;
         numbers.push(number)?;
     }
-    Ok(Some(numbers))
+    Ok(numbers)
 }
 
-fn read_each_name(alloc: Global, words: &[&[u8]]) -> Result<Option<Vec<Name>>, NoMemory>
-    ensures { IfOk result (λ found. option_map (λ v. v.items) found ≡ each_some (map read_name (bytes_of words.now))) }
+fn read_each_name(alloc: Global, words: &[&[u8]]) -> Result<Vec<Name>, LineFail>
+    ensures { ReadsItems result (each_some (map read_name (bytes_of words.now))) }
 {
     let mut names = Vec::with_capacity(alloc, words.len())?;
     for word in words {
-        let Some(name) = read_name(word) else {
-            return Ok(None);
-        };
+        let name = read_name(word).ok_or(LineFail::Bad)?;
         names.push(name)?;
     }
-    Ok(Some(names))
+    Ok(names)
 }
 
 /// Numbers joined by `,`.
 #[tactic(auto, unfolding(crate::specs::Sets::read_numbers))]
-pub(crate) fn read_numbers(alloc: Global, word: &[u8]) -> Result<Option<NumList>, NoMemory>
-    ensures { IfOk result (λ found. found ≡ read_numbers word.now) }
+pub(crate) fn read_numbers(alloc: Global, word: &[u8]) -> Result<NumList, LineFail>
+    ensures { Reads result (read_numbers word.now) }
 {
     let words = parts(alloc, COMMA, word)?;
-    let Some(numbers) = read_each_short(alloc, &words)? else {
-        return Ok(None);
-    };
-    Ok(NumList::checked(numbers))
+    let numbers = read_each_short(alloc, &words)?;
+    NumList::checked(numbers).ok_or(LineFail::Bad)
 }
 
 /// Names joined by `,`.
 #[tactic(auto, unfolding(crate::specs::Sets::read_names))]
-pub(crate) fn read_names(alloc: Global, word: &[u8]) -> Result<Option<NameList>, NoMemory>
-    ensures { IfOk result (λ found. found ≡ read_names word.now) }
+pub(crate) fn read_names(alloc: Global, word: &[u8]) -> Result<NameList, LineFail>
+    ensures { Reads result (read_names word.now) }
 {
     let words = parts(alloc, COMMA, word)?;
-    let Some(names) = read_each_name(alloc, &words)? else {
-        return Ok(None);
-    };
-    Ok(NameList::checked(names))
+    let names = read_each_name(alloc, &words)?;
+    NameList::checked(names).ok_or(LineFail::Bad)
 }
 
 /// Everyone, numbers of users, or numbers of groups behind `@`.
 #[tactic(auto, unfolding(crate::specs::Sets::read_users))]
-pub(crate) fn read_users(alloc: Global, word: &[u8]) -> Result<Option<UserSet>, NoMemory>
-    ensures { IfOk result (λ found. found ≡ read_users word.now) }
+pub(crate) fn read_users(alloc: Global, word: &[u8]) -> Result<UserSet, LineFail>
+    ensures { Reads result (read_users word.now) }
 {
     if word == b"all".as_slice() {
-        return Ok(Some(UserSet::All));
+        return Ok(UserSet::All);
     }
     match word {
-        [] => Ok(None),
-        [GROUP_SIGN, groups @ ..] => Ok(read_numbers(alloc, groups)?.map(UserSet::Groups)),
-        _ => Ok(read_numbers(alloc, word)?.map(UserSet::Listed)),
+        [] => Err(LineFail::Bad),
+        [GROUP_SIGN, groups @ ..] => Ok(UserSet::Groups(read_numbers(alloc, groups)?)),
+        _ => Ok(UserSet::Listed(read_numbers(alloc, word)?)),
     }
 }
 

@@ -1,54 +1,60 @@
 //! Step lines.
 ghost use Rattle.std.specs.Prelude.{◌≡◌, IfOk, IsErrOf, Some, None};
 ghost use Rattle.line_read.specs.Words.{bytes_of};
+ghost use Rattle.line_read.specs.Reads.{Reads};
 ghost use Rattle.line_read.specs.Step.{place_and_piece, read_local_edit, read_plain, read_step, step_line};
 
-use crate::message::read_message;
+use crate::fail::without_bad;
+use crate::message::message_of;
 use crate::numbers::{one_wide, read_wide};
-use crate::operation::read_operation;
+use crate::operation::operation_of;
 use crate::pieces::read_piece;
-use crate::words::{are_none, is_line, words_of};
+use crate::words::{are_none, is_line, parts};
 use coop_request::Piece;
 use element_name::NoMemory;
-use line_spelling::LineFail;
+use line_spelling::{LineFail, SPACE};
 use peer_step::{LocalEdit, Step};
 use std::alloc::Global;
 
-fn place_and_piece(alloc: Global, args: &[&[u8]]) -> Result<Option<(u32, Piece)>, NoMemory>
-    ensures { IfOk result (λ found. found ≡ place_and_piece (bytes_of args.now)) }
+fn place_and_piece(alloc: Global, args: &[&[u8]]) -> Result<(u32, Piece), LineFail>
+    ensures { Reads result (place_and_piece (bytes_of args.now)) }
 {
     let [place, piece] = args else {
-        return Ok(None);
+        return Err(LineFail::Bad);
     };
-    let Some(place) = read_wide(place) else {
-        return Ok(None);
+    let place = read_wide(place).ok_or(LineFail::Bad)?;
+    let piece = read_piece(alloc, piece)?;
+    Ok((place, piece))
+}
+
+// The edit at a place that the words spell.
+#[tactic(auto, unfolding(crate::specs::Step::read_local_edit))]
+fn local_edit_of(alloc: Global, words: &[&[u8]]) -> Result<LocalEdit, LineFail>
+    ensures { Reads result (read_local_edit (bytes_of words.now)) }
+{
+    let [word, args @ ..] = words else {
+        return Err(LineFail::Bad);
     };
-    let Some(piece) = read_piece(alloc, piece)? else {
-        return Ok(None);
-    };
-    Ok(Some((place, piece)))
+    if *word == b"insert".as_slice() {
+        let (at, letter) = place_and_piece(alloc, args)?;
+        return Ok(LocalEdit::Insert { at, letter });
+    }
+    if *word == b"delete".as_slice() {
+        let at = one_wide(args)?;
+        return Ok(LocalEdit::Delete { at });
+    }
+    if *word == b"update".as_slice() {
+        let (at, letter) = place_and_piece(alloc, args)?;
+        return Ok(LocalEdit::Update { at, letter });
+    }
+    Err(LineFail::Bad)
 }
 
 /// An edit at a place, by its words. Takes time in their length.
-#[tactic(auto, unfolding(crate::specs::Step::read_local_edit))]
 pub fn read_local_edit(alloc: Global, words: &[&[u8]]) -> Result<Option<LocalEdit>, NoMemory>
     ensures { IfOk result (λ found. found ≡ read_local_edit (bytes_of words.now)) }
 {
-    let [word, args @ ..] = words else {
-        return Ok(None);
-    };
-    if *word == b"insert".as_slice() {
-        let found = place_and_piece(alloc, args)?;
-        return Ok(found.map(|(at, letter)| LocalEdit::Insert { at, letter }));
-    }
-    if *word == b"delete".as_slice() {
-        return Ok(one_wide(args).map(|at| LocalEdit::Delete { at }));
-    }
-    if *word == b"update".as_slice() {
-        let found = place_and_piece(alloc, args)?;
-        return Ok(found.map(|(at, letter)| LocalEdit::Update { at, letter }));
-    }
-    Ok(None)
+    without_bad(local_edit_of(alloc, words))
 }
 
 // A step that is one word.
@@ -70,28 +76,29 @@ fn read_plain(word: &[u8]) -> Option<Step>
 
 // A step by its words.
 #[tactic(auto, unfolding(crate::specs::Step::read_step))]
-fn read_step(alloc: Global, words: &[&[u8]]) -> Result<Option<Step>, NoMemory>
-    ensures { IfOk result (λ found. found ≡ read_step (bytes_of words.now)) }
+fn read_step(alloc: Global, words: &[&[u8]]) -> Result<Step, LineFail>
+    ensures { Reads result (read_step (bytes_of words.now)) }
 {
     let [word, args @ ..] = words else {
-        return Ok(None);
+        return Err(LineFail::Bad);
     };
     if *word == b"edit".as_slice() {
-        return Ok(read_local_edit(alloc, args)?.map(Step::Edit));
+        return Ok(Step::Edit(local_edit_of(alloc, args)?));
     }
     if *word == b"look".as_slice() {
-        return Ok(one_wide(args).map(|from| Step::Look { from }));
+        let from = one_wide(args)?;
+        return Ok(Step::Look { from });
     }
     if *word == b"message".as_slice() {
-        return Ok(read_message(alloc, args)?.map(Step::Receive));
+        return Ok(Step::Receive(message_of(alloc, args)?));
     }
     if *word == b"admin".as_slice() {
-        return Ok(read_operation(alloc, args)?.map(Step::Administer));
+        return Ok(Step::Administer(operation_of(alloc, args)?));
     }
     if !are_none(args) {
-        return Ok(None);
+        return Err(LineFail::Bad);
     }
-    Ok(read_plain(word))
+    read_plain(word).ok_or(LineFail::Bad)
 }
 
 /// The step that a step line says, for its bytes without the line end. Takes time in their number.
@@ -104,12 +111,6 @@ pub fn step_line(alloc: Global, bytes: &[u8]) -> Result<Step, LineFail>
     if !is_line(bytes) {
         return Err(LineFail::Bad);
     }
-    let Ok(words) = words_of(alloc, bytes) else {
-        return Err(LineFail::NoMemory);
-    };
-    match read_step(alloc, &words) {
-        Ok(Some(step)) => Ok(step),
-        Ok(None) => Err(LineFail::Bad),
-        Err(_) => Err(LineFail::NoMemory),
-    }
+    let words = parts(alloc, SPACE, bytes)?;
+    read_step(alloc, &words)
 }

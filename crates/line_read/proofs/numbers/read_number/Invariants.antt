@@ -1,4 +1,4 @@
-use Rattle.std.proofs.Common.{◌≡◌, ◌-◌, ◌≤◌, take}
+use Rattle.std.proofs.Common.{◌≡◌, ◌≤◌, take}
 use Rattle.std.specs.Int.Digits.{number_from_digits}
 use Rattle.line_read.specs.Numbers.{digits_of}
 use Rattle.line_read.proofs.numbers.read_number.Given as goal
