@@ -269,7 +269,8 @@ impl Policy {
         ensures unchanged { OnErr result (self.new ≡ self.old) }
     {
         operation_in_range(op);
-        self.tables.change(version, op)
+        self.tables.change(version, op)?;
+        Ok(())
     }
 
     /// Whose requests a legal operation may deny: nobody else's are to be judged anew after it.
