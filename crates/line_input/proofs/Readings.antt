@@ -1,16 +1,16 @@
 -- Reading, from the engine's run.
-use Rattle.std.proofs.Common.{◌≡◌, ◌≢◌, ℕ, ◌+◌, ◌≤◌, Bool, true, false, List, [], ◌∷◌, ◌++◌, Option, Some, None, length, refl, sym, ap, ◌∙◌, subst, arith}
-use Rattle.std.specs.Prelude.{⊤, IsTrue}
+use Rattle.std.proofs.Common.{◌≡◌, ◌≢◌, ℕ, ◌+◌, Bool, true, false, List, [], ◌++◌, Option, Some, None, length, refl, sym, ap, ◌∙◌, subst, arith}
+use Rattle.std.specs.Prelude.{IsTrue}
 use Rattle.edit_io.specs.Causes.{next_count}
 use Rattle.line_engine.specs.declared.status.Status.{Status}
 use Rattle.line_engine.specs.declared.status.Status.TheVariants.{Done, Usage, BadInput, ReadFault, WriteFault, LinkFault, NoMemory, TooLong, NotShown, DiskFault, BadStore, StoreFull}
-use Rattle.line_engine.specs.Output.{Output, bad_line, too_long, is_whole}
-use Rattle.line_engine.specs.Input.{is_cut, counted_bytes, parts_of}
+use Rattle.line_engine.specs.Output.{Output, is_whole}
+use Rattle.line_engine.specs.Input.{is_cut, parts_of}
 use Rattle.line_engine.specs.Engine.{Told, RanLines, StatusCause}
 use Rattle.peer_step.specs.declared.step.Step.{Step}
 use Rattle.line_input.specs.declared.reading.InputEnd.{InputEnd}
 use Rattle.line_input.specs.declared.reading.InputEnd.TheVariants as ends
-use Rattle.line_input.specs.Steps.{good_steps, first_bad, input_lines, steps_of, end_at, end_of, whole_lines, ReadSteps, EndCause}
+use Rattle.line_input.specs.Steps.{first_bad, input_lines, steps_of, end_at, end_of, whole_lines, ReadSteps, EndCause}
 use Rattle.line_input.specs.Turn.{step_line_turn, step_line_closing, IsReadingStatus, end_after}
 use Rattle.line_input.proofs.Lines.{world_is, output_at, output_is, bad_number, none_bad}
 
