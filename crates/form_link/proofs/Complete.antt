@@ -21,7 +21,7 @@ nothing_added before now (suc more) is stood = let rose : Rose before now = omeg
 
 -- nor has the door failed then
 door_stood : (failed : Bool) → (if failed then 1 else 0) ≡ 0 → failed ≡ false
-door_stood true e = absurd cc
+door_stood true e = absurd (omega (arith, e))
 door_stood false e = refl
 
 module _ {L : Type 0} (Ends : RunEnds) (d d' : DoorState L) (site : ℕ) (end : InputEnd) (source_before source_now sink_before sink_now : ℕ) (a b : Option (List ℕ)) (s : Status)
