@@ -1,9 +1,9 @@
 pub mod Counts
 pub mod Ends
-mod Gathered
-mod Jobs
-mod Passes
+pub mod Gathered
+pub mod Jobs
+pub mod Passes
 pub mod Served
 pub mod Standing
 pub mod Taken
-mod Worked
+pub mod Worked
