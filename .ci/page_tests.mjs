@@ -707,11 +707,11 @@ const tries = {
     const { area, copy } = opened(0);
     area.type(0, 0, 'a');
     const { peer } = copy;
-    peer.count = () => {
+    peer.shows = () => {
       throw new NoMemory();
     };
     assert.throws(() => copy.insert(1, 'b'), NoMemory);
-    delete peer.count;
+    delete peer.shows;
     assert.equal(copy.pieces.text, 'ab');
   },
 

@@ -199,11 +199,10 @@ export class Copy {
 
   // Puts what a new request changed into the pieces, where one piece came or went by it; else they are asked for anew.
   follow({ name, edit }) {
-    const { shown } = this;
+    const { peer, shown } = this;
     if (!shown) return;
-    const came = this.peer.count() - shown.count;
-    if (edit.kind === 'insert' && came === 1) shown.splice(this.peer.shownUpTo(name) - 1, 0, [edit.piece]);
-    else if (edit.kind === 'delete' && came === -1) shown.splice(this.peer.shownUpTo(edit.name), 1, []);
-    else if (came !== 0 || edit.kind === 'update') this.forgetPieces();
+    if (edit.kind === 'insert' && peer.shows(shown.count + 1)) shown.splice(peer.shownUpTo(name) - 1, 0, [edit.piece]);
+    else if (edit.kind === 'delete' && peer.shows(shown.count - 1)) shown.splice(peer.shownUpTo(edit.name), 1, []);
+    else if (edit.kind === 'update' || !peer.shows(shown.count)) this.forgetPieces();
   }
 }

@@ -1,6 +1,6 @@
 // Where a text that was typed differs from the one that was shown, and which pieces it takes.
+import { MOST_PIECE_BYTES } from './limits.mjs';
 
-const MOST_BYTES = 255; // of a piece
 const encoder = new TextEncoder();
 
 const isHigh = (unit) => (unit & 0xfc00) === 0xd800;
@@ -35,8 +35,8 @@ export function cut(text) {
   const pieces = [];
   let size = Infinity; // of the last piece
   for (const letter of text) {
-    const bytes = letter === '\n' ? MOST_BYTES : encoder.encode(letter).length;
-    if (size + bytes > MOST_BYTES) {
+    const bytes = letter === '\n' ? MOST_PIECE_BYTES : encoder.encode(letter).length;
+    if (size + bytes > MOST_PIECE_BYTES) {
       pieces.push(letter);
       size = bytes;
     } else {

@@ -1,28 +1,28 @@
 // Frames of messages, one behind another, as docs/FORMATS.md has them.
+import { ENTRY_KIND, LENGTH_BYTES } from './limits.mjs';
 
-const HEAD_SIZE = 4; // the length field, which counts the bytes behind it
-const KIND_AT = 5;
-const NAME_AT = 6;
-const SITE_AT = 12;
-const ENTRY = 4;
+// Behind the length, which counts the bytes behind it, and the version of the frame.
+const KIND_AT = LENGTH_BYTES + 1;
+const NAME_AT = KIND_AT + 1;
+const SITE_AT = NAME_AT + 6;
 const FIRST_ROOM = 4096;
 const FIRST_COUNT = 64;
 
 function lengthAt(bytes, at) {
-  return HEAD_SIZE + new DataView(bytes.buffer, bytes.byteOffset + at).getUint32(0);
+  return LENGTH_BYTES + new DataView(bytes.buffer, bytes.byteOffset + at).getUint32(0);
 }
 
 // The frames that bytes are, as views; what stands behind the last whole one is the last view.
 export function* split(bytes) {
   for (let at = 0; at < bytes.length; ) {
-    const end = bytes.length - at < HEAD_SIZE ? bytes.length : Math.min(bytes.length, at + lengthAt(bytes, at));
+    const end = bytes.length - at < LENGTH_BYTES ? bytes.length : Math.min(bytes.length, at + lengthAt(bytes, at));
     yield bytes.subarray(at, end);
     at = end;
   }
 }
 
 export function isEntry(frame) {
-  return frame[KIND_AT] === ENTRY;
+  return frame[KIND_AT] === ENTRY_KIND;
 }
 
 // The stamp and the user, who is the site, of the name of the request of a frame, and the name.

@@ -2,11 +2,11 @@
 import { Module, NoJournal, NoMemory } from './peer.mjs';
 import { Copy } from './copy.mjs';
 import { download, of, say } from './elements.mjs';
+import { MOST_SITES } from './limits.mjs';
 import { Page } from './page.mjs';
 import { Store } from './store.mjs';
 import * as words from './words.mjs';
 
-const LAST_SITE = 65535;
 const LAST_PORT = 65535;
 const OTHER_NAMES = ['127.0.0.1', '[::1]'];
 const LOCK_PATIENCE_MS = 4000; // a page that is loaded again waits for itself to be gone
@@ -99,7 +99,7 @@ function goesToLocalhost() {
 async function start() {
   if (top !== self) throw new Error(FRAMED);
   if (goesToLocalhost()) return;
-  const site = numberIn('site', LAST_SITE);
+  const site = numberIn('site', MOST_SITES - 1);
   if (site === null) throw new Error('Whose page is this? Put ?site=1 behind the address, with the number of a person; 0 is the administrator.');
   if (!navigator.locks) throw new Error('Open this page from localhost or over https: it cannot tell here whether the person has another page.');
   document.title = `Roastcliff: ${words.person(site)}`;
@@ -112,4 +112,5 @@ function fail(error) {
 }
 
 addEventListener('error', (event) => tell(event.error ?? new Error(event.message)));
+addEventListener('unhandledrejection', ({ reason }) => tell(reason instanceof Error ? reason : new Error(String(reason))));
 start().catch(fail);

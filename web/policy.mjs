@@ -1,6 +1,5 @@
 // The policy that a row of entries makes, for reading alone: the peer decides by its own.
 
-export const MOST_VERSIONS = 16383; // of a text's rules
 export const MOST_TO_CONFIRM = 12000; // up to this one edits are confirmed; the others are left for rules
 
 function setOf(word) {

@@ -1,22 +1,23 @@
 // What is told to a person, in words.
+import { Fault, MOST_VERSIONS } from './limits.mjs';
 import { deniedBy } from './lines.mjs';
-import { MOST_TO_CONFIRM, MOST_VERSIONS } from './policy.mjs';
+import { MOST_TO_CONFIRM } from './policy.mjs';
 
 const RIGHTS = { i: 'insert', d: 'delete', u: 'change' };
 
 const FAULTS = {
-  1: 'this person is here already',
-  2: 'there is no such person',
-  3: 'the administrator stays',
-  4: 'this number is taken',
-  5: 'there is no such part',
-  6: 'there is no such place in the list of rules',
-  7: 'there are as many as there may be',
-  8: 'it is confirmed already',
-  9: 'this group is here already',
-  10: 'there is no such group',
-  11: 'this person is in the group already',
-  12: 'this person is not in the group',
+  [Fault.UserThere]: 'this person is here already',
+  [Fault.NoUser]: 'there is no such person',
+  [Fault.IsAdministrator]: 'the administrator stays',
+  [Fault.ObjectThere]: 'this number is taken',
+  [Fault.NoObject]: 'there is no such part',
+  [Fault.BadPlace]: 'there is no such place in the list of rules',
+  [Fault.TooMany]: 'there are as many as there may be',
+  [Fault.ValidatedAt]: 'it is confirmed already',
+  [Fault.GroupThere]: 'this group is here already',
+  [Fault.NoGroup]: 'there is no such group',
+  [Fault.MemberThere]: 'this person is in the group already',
+  [Fault.NoMember]: 'this person is not in the group',
 };
 
 function listed(words, last = 'and') {
