@@ -1,6 +1,6 @@
 // The administrator's buttons: each is one operation of the policy, but for the protection of a paragraph, which is two, and for
 // confirming all edits, which is one for each.
-import { of, say } from './elements.mjs';
+import { of, say, sentBy } from './elements.mjs';
 import * as words from './words.mjs';
 
 export class Administration {
@@ -21,24 +21,25 @@ export class Administration {
 
   // Whether what comes over the link is confirmed at once.
   get validates() {
-    return this.isOpen && of('validates').checked;
+    return this.isOpen && of('validates', HTMLInputElement).checked;
   }
 
   show() {
     const { isReserved } = this.copy;
-    of('powers').disabled = !this.isOpen;
-    for (const it of ['validates', 'validate-all']) of(it).disabled = isReserved;
+    of('powers', HTMLFieldSetElement).disabled = !this.isOpen;
+    of('validates', HTMLInputElement).disabled = isReserved;
+    of('validate-all', HTMLButtonElement).disabled = isReserved;
     say('confirming', words.confirming(isReserved));
   }
 
   listen() {
     of('people-form').addEventListener('submit', (event) => {
       event.preventDefault();
-      this.make(`admin ${event.submitter.value} ${Number(of('user').value)}`);
+      this.make(`admin ${sentBy(event)} ${Number(of('user', HTMLInputElement).value)}`);
     });
     of('rule-form').addEventListener('submit', (event) => {
       event.preventDefault();
-      this.addRule(event.submitter.value);
+      this.addRule(sentBy(event));
     });
     of('protect').addEventListener('click', () => this.protect());
     of('validate').addEventListener('click', () => this.make('validatenext'));
@@ -62,11 +63,14 @@ export class Administration {
   }
 
   addRule(sign) {
-    const rights = [...document.querySelectorAll('input[name=right]:checked')].map((it) => it.value).join('');
-    const whom = of('whom').value;
+    /** @type {NodeListOf<HTMLInputElement>} */
+    const checked = document.querySelectorAll('input[name=right]:checked');
+    const rights = [...checked].map((it) => it.value).join('');
+    const whom = of('whom', HTMLInputElement).value;
     const numbers = whom.split(',').map(Number).sort((a, b) => a - b);
     if (!rights) return say('status', 'A rule is about one of insert, delete and change at least.');
-    this.make(`admin addauth 0 ${sign} ${whom === 'all' ? whom : [...new Set(numbers)].join(',')} ${rights} ${of('object').value}`);
+    const users = whom === 'all' ? whom : [...new Set(numbers)].join(',');
+    this.make(`admin addauth 0 ${sign} ${users} ${rights} ${of('object', HTMLSelectElement).value}`);
   }
 
   removeRule(place) {

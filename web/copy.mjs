@@ -13,18 +13,27 @@ const ITEM = 'item ';
 const EXCERPT = 24; // letters by which a paragraph is told
 
 export class Copy {
-  // The copy of a site's peer whose journal the bytes are; a fresh one for none. Throws NoJournal.
+  /**
+   * The copy of a site's peer whose journal the bytes are; a fresh one for none. Throws NoJournal.
+   *
+   * @param {import('./peer.mjs').Module} module
+   * @param {number} site
+   * @param {Uint8Array} [bytes]
+   */
   constructor(module, site, bytes) {
     this.peer = new Peer(module, site, bytes);
     this.site = site;
     this.journal = new Frames();
     this.kept = 0; // so many of its items are in the browser's store
     this.policy = new Policy();
-    this.entries = []; // the messages of the policy's versions
-    this.tentative = new Map(); // by their names, the places in the journal of those that a new version may undo
+    /** @type {import('./lines.mjs').Entry[]} the messages of the policy's versions */
+    this.entries = [];
+    /** @type {Map<string, number>} by their names, the places in the journal of those that a new version may undo */
+    this.tentative = new Map();
     this.undone = new Undone();
     this.isStale = false; // this site wrote before what isn't here
-    this.shown = null; // the pieces that show, where they are known
+    /** @type {Pieces | null} those that show, where they are known */
+    this.shown = null;
     if (bytes) this.takeAll(bytes);
   }
 
@@ -35,14 +44,14 @@ export class Copy {
       const place = this.journal.count;
       this.journal.append(frame);
       if (isEntry(frame)) {
-        this.takeVersion(this.item(place).message);
+        this.takeVersion(this.entryAt(place));
         continue;
       }
       const denial = this.denialOf(requestOf(frame), place);
       if (denial) undone.push({ place, denial });
     }
     undone.sort((a, b) => a.denial.version - b.denial.version);
-    for (const { place, denial } of undone) this.undone.put(this.item(place).message, denial);
+    for (const { place, denial } of undone) this.undone.put(this.requestAt(place), denial);
     this.kept = this.journal.count;
   }
 
@@ -83,7 +92,7 @@ export class Copy {
   covers({ kind, words }, place) {
     if (kind === 'all') return true;
     if (kind === 'span') return this.firstOf(words[0]) <= place && place < (this.peer.shownUpTo(words[1]) ?? 0);
-    const name = this.peer.nameAt(place);
+    const name = this.peer.nameAt(place) ?? '';
     return kind === 'by' ? name.endsWith(`.${words[0]}`) : words[0].split(',').includes(name);
   }
 
@@ -131,6 +140,20 @@ export class Copy {
     return answer.startsWith(ITEM) ? { message: readMessage(answer.slice(ITEM.length)), frame } : null;
   }
 
+  // The journal's entry at a place that has one.
+  entryAt(place) {
+    const message = this.item(place)?.message;
+    if (message?.kind !== 'entry') throw new Error(`the journal has no entry at ${place}`);
+    return message;
+  }
+
+  // The journal's request at a place that has one.
+  requestAt(place) {
+    const message = this.item(place)?.message;
+    if (message?.kind !== 'request') throw new Error(`the journal has no request at ${place}`);
+    return message;
+  }
+
   // Takes in what the journal has since a step that had this answer: an item, if any. Where that ends halfway the pieces are asked for
   // anew.
   takeIn(answer) {
@@ -155,7 +178,9 @@ export class Copy {
     this.policy.take(entry);
     this.entries.push(entry);
     const [kind, number, extent, first, last] = entry.op;
-    if (kind === 'addobj' && extent === 'span') this.policy.named.get(Number(number)).said = this.excerpt(first, last);
+    if (kind !== 'addobj' || extent !== 'span') return;
+    const named = this.policy.named.get(Number(number));
+    if (named) named.said = this.excerpt(first, last);
   }
 
   // The first letters of what shows from one element to another.
@@ -178,7 +203,7 @@ export class Copy {
   judge(name, place) {
     const denial = this.denialOf({ user: null, name }, place);
     if (!denial) return;
-    this.undone.put(this.item(place).message, denial);
+    this.undone.put(this.requestAt(place), denial);
     this.forgetPieces();
   }
 
@@ -201,8 +226,9 @@ export class Copy {
   follow({ name, edit }) {
     const { peer, shown } = this;
     if (!shown) return;
-    if (edit.kind === 'insert' && peer.shows(shown.count + 1)) shown.splice(peer.shownUpTo(name) - 1, 0, [edit.piece]);
-    else if (edit.kind === 'delete' && peer.shows(shown.count - 1)) shown.splice(peer.shownUpTo(edit.name), 1, []);
+    const upTo = peer.shownUpTo(edit.kind === 'insert' ? name : edit.name) ?? 0;
+    if (edit.kind === 'insert' && peer.shows(shown.count + 1)) shown.splice(upTo - 1, 0, [edit.piece]);
+    else if (edit.kind === 'delete' && peer.shows(shown.count - 1)) shown.splice(upTo, 1, []);
     else if (edit.kind === 'update' || !peer.shows(shown.count)) this.forgetPieces();
   }
 }

@@ -24,10 +24,14 @@ export class Link {
     this.dial = dial;
     this.wait = FIRST_WAIT_MS;
     this.address = null;
+    /** @type {WebSocket | null} */
     this.socket = null;
-    this.timer = null;
+    this.session = new Session(copy, () => {}, validates); // each link has its own; this one stands for none
+    /** @type {ReturnType<typeof setTimeout> | undefined} */
+    this.timer = undefined;
     this.isSoon = false; // the timer's wait is the short one
-    this.due = null; // the timer of the turn that is due
+    /** @type {ReturnType<typeof setTimeout> | undefined} the timer of the turn that is due */
+    this.due = undefined;
     this.hasBegun = false; // something came on this link: a program that serves waits for all its links before it says anything
     this.untaken = 0; // messages that came on it and wait to be taken
   }
@@ -101,7 +105,7 @@ export class Link {
   ifDead(late) {
     if (!this.session.isListening) return;
     if (this.untaken || late > DUE_MS) return this.awaitTurn();
-    this.socket.close();
+    this.socket?.close();
     this.lost();
   }
 
@@ -136,7 +140,7 @@ export class Link {
 
   stopTimer() {
     clearTimeout(this.timer);
-    this.timer = null;
+    this.timer = undefined;
     this.isSoon = false;
   }
 
@@ -144,7 +148,7 @@ export class Link {
     this.stopTimer();
     const { socket, session } = this;
     this.run(() => {
-      if (this.socket !== socket || socket.readyState !== OPEN) return;
+      if (this.socket !== socket || socket?.readyState !== OPEN) return;
       const before = session.mark;
       session.begin();
       if (this.hasBegun) this.awaitTurn(DUE_MS + ITEM_MS * (session.mark - before));
@@ -155,7 +159,7 @@ export class Link {
   plan() {
     if (this.socket?.readyState !== OPEN || this.session.isListening || this.session.isOver) return;
     const isSoon = this.session.hasNews;
-    if (this.timer !== null && (this.isSoon || !isSoon)) return;
+    if (this.timer !== undefined && (this.isSoon || !isSoon)) return;
     this.stopTimer();
     this.isSoon = isSoon;
     const { socket } = this;

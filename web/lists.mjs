@@ -44,10 +44,10 @@ export class Lists {
     say('people', `People: ${[...policy.users].sort((a, b) => a - b).map(words.person).join(', ')}.`);
     const rules = policy.authorizations.map((it) => [it.version, words.rule(it, policy)]);
     if (!this.isNew('rules', mayRemove, rules)) return;
-    const buttons = (place) => (mayRemove ? [button('Remove', `Remove rule ${place + 1}`, () => this.administration.removeRule(place))] : []);
+    const buttons = (place) => (mayRemove ? [button('Remove', `Remove rule ${place + 1}`, () => this.administration?.removeRule(place))] : []);
     const items = rules.map(([version, text], place) => {
       const made = item(text, ...buttons(place));
-      made.dataset.version = version;
+      made.dataset.version = String(version);
       return made;
     });
     this.stayingInRules(() => of('rules').replaceChildren(...items));
@@ -56,13 +56,18 @@ export class Lists {
   // Who stands at a rule with the keyboard stands at the same rule afterwards, where it is gone at the next one, and where there is none
   // at the heading.
   stayingInRules(action) {
+    /** @type {HTMLLIElement | null | undefined} */
     const stood = document.activeElement?.closest('#rules li');
-    const place = [...of('rules').children].indexOf(stood);
+    const place = this.ruleItems().findIndex((it) => it === stood);
     action();
     if (!stood) return;
-    const items = [...of('rules').children];
+    const items = this.ruleItems();
     const now = items.find((it) => it.dataset.version === stood.dataset.version) ?? items[place] ?? items.at(-1);
     (now?.querySelector('button') ?? of('rules-title')).focus();
+  }
+
+  ruleItems() {
+    return /** @type {HTMLLIElement[]} */ ([...of('rules').children]);
   }
 
   // Where a rule may apply, made anew only where that changed; the choice stays where it can.
@@ -70,15 +75,16 @@ export class Lists {
     const { policy } = this.copy;
     const objects = [...policy.objects.keys()].map((number) => [words.object(number, policy), String(number)]);
     if (!this.isNew('object', objects)) return;
-    const chosen = Number(of('object').value);
-    of('object').replaceChildren(...objects.map((it) => new Option(...it)));
-    if (policy.objects.has(chosen)) of('object').value = String(chosen);
+    const list = of('object', HTMLSelectElement);
+    const chosen = Number(list.value);
+    list.replaceChildren(...objects.map(([text, value]) => new Option(text, value)));
+    if (policy.objects.has(chosen)) list.value = String(chosen);
   }
 
   showUndone() {
     const { undone, policy } = this.copy;
     of('nothing-undone').hidden = undone.count > 0;
-    of('undone').start = undone.rows.length;
+    of('undone', HTMLOListElement).start = undone.rows.length;
     of('undone').replaceChildren(...undone.rows.slice(-MOST_SHOWN).toReversed().map((it) => item(words.undone(it, policy))));
   }
 

@@ -68,13 +68,14 @@ async function open(site) {
   if (bytes.length && !copy.isStale) say('status', 'This page is back with what this browser kept.');
   const port = numberIn('link', LAST_PORT);
   if (!port) return;
-  of('address').value = `ws://127.0.0.1:${port}/`;
-  page.link.open(of('address').value);
+  const address = of('address', HTMLInputElement);
+  address.value = `ws://127.0.0.1:${port}/`;
+  page.link.open(address.value);
 }
 
 // Runs an action while this browser has no other page of the site.
 async function alone(site, action) {
-  const signal = AbortSignal.timeout(LOCK_PATIENCE_MS);
+  const signal = /** @type {any} */ (AbortSignal).timeout(LOCK_PATIENCE_MS);
   try {
     await navigator.locks.request(`roastcliff site ${site}`, { signal }, async () => {
       action().catch(fail);

@@ -21,7 +21,7 @@ export class Page {
     this.wasLinkedTo = null; // the address that was dialled when the page was left
     const run = (action) => this.editor.run(action);
     const refused = (answer) => say('status', words.refusal(answer, copy.policy));
-    this.editor = new Editor(copy, of('text'), { refused, changed: () => this.changed() });
+    this.editor = new Editor(copy, of('text', HTMLTextAreaElement), { refused, changed: () => this.changed() });
     this.administration = copy.site === 0 ? new Administration(copy, this.editor, refused) : null;
     this.lists = new Lists(copy, this.administration);
     this.keeper = new Keeper(copy, store, { kept: () => this.kept(), failed: (error) => this.stop(error) });
@@ -40,7 +40,7 @@ export class Page {
     of('text').addEventListener('beforeinput', () => Date.now() < this.saidUntil || say('status', ''));
     of('link-form').addEventListener('submit', (event) => {
       event.preventDefault();
-      this.link.open(of('address').value);
+      this.link.open(of('address', HTMLInputElement).value);
     });
     of('unlink').addEventListener('click', () => this.link.close());
     of('download').addEventListener('click', () => this.download());

@@ -2,16 +2,35 @@
 
 export const MOST_TO_CONFIRM = 12000; // up to this one edits are confirmed; the others are left for rules
 
+/**
+ * @typedef {{ kind: string, words: string[], said?: string }} Extent the words behind its kind, and the letters by which it is told
+ * @typedef {{ kind: string, numbers: number[] }} UserSet
+ * @typedef {{ version: number, allows: boolean, users: UserSet, rights: string, objects: number[] }} Authorization
+ */
+
+/**
+ * @param {string} word
+ * @returns {UserSet}
+ */
 function setOf(word) {
-  if (word === 'all') return { kind: 'all' };
+  if (word === 'all') return { kind: 'all', numbers: [] };
   if (word.startsWith('@')) return { kind: 'groups', numbers: word.slice(1).split(',').map(Number) };
   return { kind: 'users', numbers: word.split(',').map(Number) };
 }
 
+/**
+ * @param {string[]} words
+ * @returns {Extent}
+ */
 function extentOf([kind, ...words]) {
   return { kind, words };
 }
 
+/**
+ * @param {number} version
+ * @param {string[]} words
+ * @returns {Authorization}
+ */
 function authorizationOf(version, [sign, users, rights, objects]) {
   return { version, allows: sign === '+', users: setOf(users), rights, objects: objects.split(',').map(Number) };
 }
@@ -20,14 +39,23 @@ export class Policy {
   constructor() {
     this.version = 0;
     this.users = new Set([0]);
+    /** @type {Map<number, Extent>} */
     this.objects = new Map([[0, { kind: 'all', words: [] }]]);
+    /** @type {Map<number, Set<number>>} */
     this.groups = new Map();
+    /** @type {Authorization[]} */
     this.authorizations = [];
-    this.made = new Map(); // each authorization that was ever made, by its version
-    this.named = new Map([[0, { kind: 'all', words: [] }]]); // each object that was ever made, by its number: the last
+    /** @type {Map<number, Authorization>} each that was ever made, by its version */
+    this.made = new Map();
+    /** @type {Map<number, Extent>} each object that was ever made, by its number: the last */
+    this.named = new Map([[0, { kind: 'all', words: [] }]]);
   }
 
-  // Takes the next entry, which is legal since the peer has it.
+  /**
+   * Takes the next entry, which is legal since the peer has it.
+   *
+   * @param {import('./lines.mjs').Entry} entry
+   */
   take({ version, op: [kind, first, ...rest] }) {
     const number = Number(first);
     this.version = version;
@@ -37,29 +65,49 @@ export class Policy {
     else if (kind === 'delobj') this.objects.delete(number);
     else if (kind === 'addgroup') this.groups.set(number, new Set());
     else if (kind === 'delgroup') this.groups.delete(number);
-    else if (kind === 'addmember') this.groups.get(number).add(Number(rest[0]));
-    else if (kind === 'delmember') this.groups.get(number).delete(Number(rest[0]));
+    else if (kind === 'addmember') this.groups.get(number)?.add(Number(rest[0]));
+    else if (kind === 'delmember') this.groups.get(number)?.delete(Number(rest[0]));
     else if (kind === 'addauth') this.addAuthorization(number, authorizationOf(version, rest));
     else if (kind === 'delauth') this.authorizations.splice(number, 1);
   }
 
+  /**
+   * @param {number} number
+   * @param {Extent} extent
+   */
   addObject(number, extent) {
     this.objects.set(number, extent);
     this.named.set(number, extent);
   }
 
+  /**
+   * @param {number} place
+   * @param {Authorization} authorization
+   */
   addAuthorization(place, authorization) {
     this.authorizations.splice(place, 0, authorization);
     this.made.set(authorization.version, authorization);
   }
 
-  // Whether a user has a right, as `i`, to an element of which `covers` tells whether an extent has it.
+  /**
+   * Whether a user has a right, as `i`, to an element of which `covers` tells whether an extent has it.
+   *
+   * @param {number} user
+   * @param {string} right
+   * @param {(extent: Extent) => boolean} covers
+   */
   allows(user, right, covers) {
+    /** @param {UserSet} users */
     const isFor = ({ kind, numbers }) => {
       if (kind === 'all') return true;
       return kind === 'users' ? numbers.includes(user) : numbers.some((it) => this.groups.get(it)?.has(user));
     };
-    const isIn = (number) => this.objects.has(number) && covers(this.objects.get(number));
+    /** @param {number} number */
+    const isIn = (number) => {
+      const extent = this.objects.get(number);
+      return extent !== undefined && covers(extent);
+    };
+    /** @param {Authorization} authorization */
     const isFirst = ({ users, rights, objects }) => isFor(users) && rights.includes(right) && objects.some(isIn);
     return user === 0 || (this.users.has(user) && (this.authorizations.find(isFirst)?.allows ?? false));
   }

@@ -69,7 +69,7 @@ export class Store {
   change(action) {
     const transaction = this.database.transaction([FRAMES, MARKS], 'readwrite', { durability: 'strict' });
     return new Promise((done, failed) => {
-      transaction.oncomplete = () => done();
+      transaction.oncomplete = () => done(undefined);
       transaction.onabort = () => failed(transaction.error ?? new Error('the browser gave it up'));
       action(transaction.objectStore(FRAMES), transaction.objectStore(MARKS));
       transaction.commit();

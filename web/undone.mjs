@@ -3,12 +3,22 @@
 
 const MOST_LETTERS = 61; // one more than is shown, so that it is known whether there are more
 
+/**
+ * @typedef {import('./lines.mjs').Denial} Denial
+ * @typedef {{ user: number, denial: Denial, counts: Record<string, number>, letters: string[] }} Row
+ */
+
 export class Undone {
   constructor() {
     this.count = 0;
-    this.rows = []; // the last last
+    /** @type {Row[]} the last last */
+    this.rows = [];
   }
 
+  /**
+   * @param {import('./lines.mjs').EditRequest} request
+   * @param {Denial} denial
+   */
   put({ user, edit }, denial) {
     this.count++;
     const last = this.rows.at(-1);
