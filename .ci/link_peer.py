@@ -273,8 +273,9 @@ def op_body(words):
 
 def op_text(body):
     operation, fields = body[0], body[1:]
-    if operation in (1, 2):
-        return f"{'adduser' if operation == 1 else 'deluser'} {int.from_bytes(fields, 'big')}"
+    of_one_number = {1: "adduser", 2: "deluser", 6: "delauth"}
+    if operation in of_one_number:
+        return f"{of_one_number[operation]} {int.from_bytes(fields, 'big')}"
     if operation == 5:
         place, sign_number, bits = struct.unpack(">HBB", fields[:4])
         rights = "".join(letter for at, letter in enumerate("idu") if bits >> at & 1)
