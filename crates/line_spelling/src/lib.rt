@@ -2,6 +2,7 @@
 //! definitions of what is written.
 #![tactic(auto)]
 
+pub mod laws;
 mod line;
 mod signs;
 
