@@ -19,8 +19,12 @@ nothing_added : (before now more : ℕ) → now ≡ before + more → ¬ Rose be
 nothing_added before now zero is stood = refl
 nothing_added before now (suc more) is stood = let rose : Rose before now = omega arith in absurd (stood rose)
 
--- nor has the door failed then
-door_stood : (failed : Bool) → (if failed then 1 else 0) ≡ 0 → failed ≡ false
+-- how often a door has failed that did or didn't
+abbrev times_failed : Bool → ℕ
+times_failed failed = if failed then 1 else 0
+
+-- never, where its count didn't rise
+door_stood : (failed : Bool) → times_failed failed ≡ 0 → failed ≡ false
 door_stood true e = absurd (omega (arith, e))
 door_stood false e = refl
 
@@ -38,7 +42,7 @@ module _ {L : Type 0} (Ends : RunEnds) (d d' : DoorState L) (site : ℕ) (end : 
   told_whole told = by told.says.given
     where
       door : told.door_failed ≡ false
-      door = door_stood told.door_failed (nothing_added d.faults d'.faults (if told.door_failed then 1 else 0) told.door.faults_are stood.door)
+      door = door_stood told.door_failed (nothing_added d.faults d'.faults (times_failed told.door_failed) told.door.faults_are stood.door)
 
       by : (link_output site told.run (faults_of told.door_failed end told.own told.outcomes) ≡ record { written = told.written; status = s }) ⊎ IsSinkFail s
           → (s ≡ status.NoMemory) ⊎ ToldWhole Ends site end a b s
