@@ -1,5 +1,5 @@
 -- The pages of a run.
-use Rattle.std.proofs.Common.{◌≡◌, ℕ, ◌<◌, List, [], ◌∷◌, ◌++◌, length, sym, refl, ap, ◌∙◌, subst, arith, length-append, append_assoc, append-nil, le_refl, Ok}
+use Rattle.std.proofs.Common.{◌≡◌, ℕ, ◌<◌, List, [], ◌∷◌, ◌++◌, length, sym, refl, ap, ◌∙◌, subst, arith, length-append, append_assoc, le_refl}
 use Rattle.std.proofs.Math.Seq.{take-length}
 use Rattle.std.proofs.lemmas.List.{take-append-le}
 use Rattle.peer_step.specs.declared.step.Step.TheVariants.{Show}
@@ -13,8 +13,7 @@ use Rattle.peer_lock.specs.KnownPass.{KnownPass}
 use Rattle.peer_lock.specs.Answers.{Stepped, IsSame}
 use Rattle.peer_lock.proofs.RunLemmas.{peer_after_run-push}
 use Rattle.screen_read.specs.Pages.{PageText, page_text, IsAscending}
-use Rattle.screen_read.specs.Ends.{ReaderPages}
-use Rattle.screen_read.specs.Screen.{page_after, ArePagesOf, ArePublished, KnownScreen, known_screen, IsPassOf, StepsShow, OpensScreen, Publishes}
+use Rattle.screen_read.specs.Screen.{page_after, ArePagesOf, ArePublished, KnownScreen, IsPassOf, StepsShow}
 
 abbrev shown_text : Answer → List (List ℕ)
 shown_text (Shown pieces) = pieces
@@ -85,16 +84,6 @@ next_pages s k l a own same st known =
 -- a first page is published
 pub first_page : (v : View) → ArePublished v (page_after v.origin v.seen ∷ [])
 first_page v = record { ascending = tt; of_run = ((le_refl (length v.seen), ap (page_after v.origin) (sym (take-length v.seen))), tt) }
-
--- a pass can publish on the screen that it has published on last
-own_pass : (k : KnownPass) (s : KnownScreen) → s.pass ≡ k → IsPassOf s k
-own_pass k s e = subst (λ (p : KnownPass). IsPassOf (known_screen s.table p s.pages) k) (sym e) record { table = refl; id = refl; origin = refl; seen = ([], sym (append-nil k.view.seen)) }
-
-pub still_pass : (s t : KnownScreen) (k : KnownPass) (steps : ℕ) → Publishes s k (Ok steps) t → IsPassOf t k
-still_pass s t k steps p = own_pass k t (ap (λ (x : KnownScreen). x.pass) p.1)
-
-pub opened_pass : (k : KnownPass) (s : KnownScreen) (r : ReaderPages) → OpensScreen k s r → IsPassOf s k
-opened_pass k s r o = own_pass k s o.pass
 
 -- the page of a pass that made one more Show step can follow
 pub next_page : (s : KnownScreen) (k l : KnownPass) (page : PageText) → page ≡ page_after l.view.origin l.view.seen → IsPassOf s k → IsSame k l → StepsShow k.view l.view → ArePublished s.pass.view s.pages
