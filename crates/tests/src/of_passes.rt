@@ -1,10 +1,12 @@
-//! What no clause says: that a try makes its step where nobody else steps and memory is there.
+//! What no clause says of passes: that a try makes its step where nobody else steps and memory is there.
 ghost use Rattle.std.specs.Prelude.{◌≡◌, IfOk};
+ghost use Rattle.peer_lock.specs.Answers.{IsSame};
 ghost use Rattle.peer_lock.specs.Rule.{newcomer};
 
 use coop_request::Piece;
 use element_name::NoMemory;
-use peer_lock::{Pass, SharedPeer, TryFail};
+use peer_core::Peer;
+use peer_lock::{History, Pass, SharedPeer};
 use peer_step::{Answer, LocalEdit, Step};
 use std::alloc::Global;
 use std::test::Fail;
@@ -24,40 +26,44 @@ fn two_passes(alloc: Global) -> Result<(SharedPeer, Pass, Pass), NoMemory>
     Ok((shared, zero, one))
 }
 
-fn is_done(tried: &Result<Answer, TryFail>) -> bool {
-    matches!(tried, Ok(Answer::Done(_)))
+// Whether an insert of `a` is made.
+fn inserts(shared: &SharedPeer, pass: &mut Pass) -> bool
+    requires { pass.old.table ≡ shared.now }
+    ensures { IsSame pass.old pass.new }
+{
+    let edit = LocalEdit::Insert {
+        at: 0,
+        letter: Piece::of('a'),
+    };
+    matches!(shared.try_step(pass, Step::Edit(edit)), Ok(Answer::Done(_)))
 }
 
-fn is_shown(tried: &Result<Answer, TryFail>, text: &str) -> bool {
-    match tried {
-        Ok(Answer::Shown(shown)) => shown.as_str() == text,
+// Whether `a` shows.
+fn shows(shared: &SharedPeer, pass: &mut Pass) -> bool
+    requires { pass.old.table ≡ shared.now }
+    ensures { IsSame pass.old pass.new }
+{
+    match shared.try_step(pass, Step::Show) {
+        Ok(Answer::Shown(text)) => text.as_str() == "a",
         _ => false,
     }
 }
 
-// Lets a try's answer go, whatever it is.
-fn forget(_tried: Result<Answer, TryFail>) {}
+// Whether the run has a step of each, in turn.
+fn is_by_both(closed: (Peer, History)) -> bool {
+    let (_peer, history) = closed;
+    history.len() == 2 && history.caller(0) == Some(0) && history.caller(1) == Some(1)
+}
 
 // The edit of one pass shows to the other.
 #[test]
 fn two_passes_in_turn(rt: HostRuntime) -> Result<(), Fail> {
     let (shared, mut zero, mut one) = two_passes(rt.alloc())?;
-    let edit = LocalEdit::Insert {
-        at: 0,
-        letter: Piece::of('a'),
-    };
-    let edited = shared.try_step(&mut zero, Step::Edit(edit));
-    assert!(rt; is_done(&edited));
-    forget(edited);
-    let looked = shared.try_step(&mut one, Step::Show);
-    assert!(rt; is_shown(&looked, "a"));
-    forget(looked);
+    assert!(rt; inserts(&shared, &mut zero));
+    assert!(rt; shows(&shared, &mut one));
     assert_eq!(rt; shared.seen(&mut zero), 2);
     assert_eq!(rt; shared.seen(&mut one), 2);
     shared.join(&mut zero, one);
-    let (_peer, history) = shared.close(zero);
-    assert_eq!(rt; history.len(), 2);
-    assert_eq!(rt; history.caller(0), Some(0));
-    assert_eq!(rt; history.caller(1), Some(1));
+    assert!(rt; is_by_both(shared.close(zero)));
     Ok(())
 }
