@@ -3,6 +3,7 @@ ghost use Rattle.std.specs.Prelude.{◌≡◌, ◌⊎◌, ◌∷◌, [], ℕ, Li
 ghost use Rattle.std.specs.declared.option.Option.{Option};
 ghost use Rattle.std.specs.Io.KnownBytes.{Appends};
 ghost use Rattle.line_engine.specs.Engine.{Reads};
+ghost use Rattle.peer_core.specs.Peer.{text};
 ghost use Rattle.peer_store.specs.Store.{HasGate};
 ghost use Rattle.line_spelling.specs.Answers.{answer_line};
 ghost use Rattle.report_text.specs.Closing.{closing_lines};
@@ -17,6 +18,7 @@ use edit_io::{OutFail, Sink, Source};
 use element_name::NoMemory;
 use line_engine::offer;
 use line_write::answer_line;
+use peer_core::Peer;
 use peer_disk::Disk;
 use peer_step::{Answer, Step};
 use peer_store::Store;
@@ -102,6 +104,16 @@ pub(crate) fn answer_steps<S: Source, K: Sink, D: Disk>(
     Ok(())
 }
 
+// The closing lines of a peer that has answered so to `Show`.
+fn shown_closing(alloc: Global, shown: Answer, peer: &Peer) -> Result<Vec<u8>, NoMemory>
+    requires { shown ≡ Answer.Shown (text peer.now) }
+    ensures { IfOk result (λ lines. lines.items ≡ closing_lines peer.now) }
+{
+    let mut lines = Vec::new(alloc);
+    closing_lines(alloc, &shown, peer, &mut lines)?;
+    Ok(lines)
+}
+
 /// The closing lines of a store's peer.
 pub(crate) fn closing_text<D: Disk>(
     alloc: Global,
@@ -116,7 +128,6 @@ pub(crate) fn closing_text<D: Disk>(
 {
     peer_store::laws::changing_steps();
     let answer = store.put(disk, Step::Show)?;
-    let mut lines = Vec::new(alloc);
-    closing_lines(alloc, &answer, store.peer(), &mut lines)?;
+    let lines = shown_closing(alloc, answer, store.peer())?;
     Ok(lines)
 }
