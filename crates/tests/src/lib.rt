@@ -13,6 +13,8 @@ mod of_failing_streams;
 #[cfg(test)]
 mod of_held_workers;
 #[cfg(test)]
+mod of_lines;
+#[cfg(test)]
 mod of_one_peer;
 #[cfg(test)]
 mod of_passes;
