@@ -37,7 +37,11 @@ export class Copy {
     if (bytes) this.takeAll(bytes);
   }
 
-  // Takes in a journal whose requests have their last states already.
+  /**
+   * Takes in a journal whose requests have their last states already.
+   *
+   * @param {Uint8Array} bytes
+   */
   takeAll(bytes) {
     const undone = [];
     for (const frame of split(bytes)) {
@@ -61,7 +65,12 @@ export class Copy {
     return this.shown;
   }
 
-  // Makes a step, and takes in what the journal has since. The answer, and an error where the code isn't DONE.
+  /**
+   * Makes a step, and takes in what the journal has since. The answer, and an error where the code isn't DONE.
+   *
+   * @param {string} line
+   * @returns {string}
+   */
   step(line) {
     const told = this.peer.step(line);
     this.takeIn(told.answer);
@@ -70,10 +79,15 @@ export class Copy {
     return told.answer;
   }
 
+  /**
+   * @param {number} place
+   * @param {string} piece
+   */
   insert(place, piece) {
     return this.step(`edit insert ${place} ${spelled(piece)}`);
   }
 
+  /** @param {number} place */
   delete(place) {
     return this.step(`edit delete ${place}`);
   }
@@ -83,12 +97,21 @@ export class Copy {
     this.shown = null;
   }
 
-  // Whether the rules let this person delete the piece at a place, as far as this page reads them.
+  /**
+   * Whether the rules let this person delete the piece at a place, as far as this page reads them.
+   *
+   * @param {number} place
+   */
   mayDelete(place) {
     return this.policy.allows(this.site, 'd', (extent) => this.covers(extent, place));
   }
 
-  // Whether an extent has the piece at a place.
+  /**
+   * Whether an extent has the piece at a place.
+   *
+   * @param {import('./policy.mjs').Extent} extent
+   * @param {number} place
+   */
   covers({ kind, words }, place) {
     if (kind === 'all') return true;
     if (kind === 'span') return this.firstOf(words[0]) <= place && place < (this.peer.shownUpTo(words[1]) ?? 0);
@@ -96,13 +119,21 @@ export class Copy {
     return kind === 'by' ? name.endsWith(`.${words[0]}`) : words[0].split(',').includes(name);
   }
 
-  // The place of the first piece that shows from an element on.
+  /**
+   * The place of the first piece that shows from an element on.
+   *
+   * @param {string} name
+   */
   firstOf(name) {
     const upTo = this.peer.shownUpTo(name) ?? 0;
     return upTo && this.peer.nameAt(upTo - 1) === name ? upTo - 1 : upTo;
   }
 
-  // Receives a message, and settles what is due by then.
+  /**
+   * Receives a message, and settles what is due by then.
+   *
+   * @param {Uint8Array} frame
+   */
   receive(frame) {
     const { code, answer } = this.peer.receive(frame);
     this.takeIn(answer);
@@ -113,13 +144,21 @@ export class Copy {
     return answer;
   }
 
-  // Whether an answer to a message says that this site issued it before, and doesn't have it.
+  /**
+   * Whether an answer to a message says that this site issued it before, and doesn't have it.
+   *
+   * @param {string} answer
+   */
   tellsOfOwn(answer) {
     if (answer.startsWith('conflict ')) return this.isOwn(readMessage(answer.slice('conflict '.length)));
     return answer === 'own site' || answer === 'own log';
   }
 
-  // Whether a message is this site's own.
+  /**
+   * Whether a message is this site's own.
+   *
+   * @param {import('./lines.mjs').Message} message
+   */
   isOwn(message) {
     return message.kind === 'entry' ? this.site === 0 : message.user === this.site;
   }
@@ -134,28 +173,44 @@ export class Copy {
     while (!this.isReserved && this.step('validatenext').startsWith('entry '));
   }
 
-  // The journal's item at a place, as a message; null where it is shorter.
+  /**
+   * The journal's item at a place, as a message; null where it is shorter.
+   *
+   * @param {number} place
+   */
   item(place) {
     const { answer, frame } = this.peer.step(`look ${place}`);
     return answer.startsWith(ITEM) ? { message: readMessage(answer.slice(ITEM.length)), frame } : null;
   }
 
-  // The journal's entry at a place that has one.
+  /**
+   * The journal's entry at a place that has one.
+   *
+   * @param {number} place
+   */
   entryAt(place) {
     const message = this.item(place)?.message;
     if (message?.kind !== 'entry') throw new Error(`the journal has no entry at ${place}`);
     return message;
   }
 
-  // The journal's request at a place that has one.
+  /**
+   * The journal's request at a place that has one.
+   *
+   * @param {number} place
+   */
   requestAt(place) {
     const message = this.item(place)?.message;
     if (message?.kind !== 'request') throw new Error(`the journal has no request at ${place}`);
     return message;
   }
 
-  // Takes in what the journal has since a step that had this answer: an item, if any. Where that ends halfway the pieces are asked for
-  // anew.
+  /**
+   * Takes in what the journal has since a step that had this answer: an item, if any. Where that ends halfway the pieces are asked for
+   * anew.
+   *
+   * @param {string} answer
+   */
   takeIn(answer) {
     try {
       this.takeItems(answer);
@@ -165,6 +220,7 @@ export class Copy {
     }
   }
 
+  /** @param {string} answer */
   takeItems(answer) {
     for (let it = this.item(this.journal.count); it; it = this.item(this.journal.count)) {
       const place = this.journal.count;
@@ -174,6 +230,7 @@ export class Copy {
     }
   }
 
+  /** @param {import('./lines.mjs').Entry} entry */
   takeVersion(entry) {
     this.policy.take(entry);
     this.entries.push(entry);
@@ -183,23 +240,38 @@ export class Copy {
     if (named) named.said = this.excerpt(first, last);
   }
 
-  // The first letters of what shows from one element to another.
+  /**
+   * The first letters of what shows from one element to another.
+   *
+   * @param {string} first
+   * @param {string} last
+   */
   excerpt(first, last) {
     const { peer, pieces } = this;
     const letters = Array.from(pieces.text.slice(pieces.startOf(this.firstOf(first)), pieces.startOf(peer.shownUpTo(last) ?? 0)));
     return letters.length > EXCERPT ? `${letters.slice(0, EXCERPT).join('')}…` : letters.join('');
   }
 
+  /**
+   * @param {import('./lines.mjs').Entry} entry
+   * @param {boolean} mayUndo
+   */
   takeEntry(entry, mayUndo) {
     this.takeVersion(entry);
     const [kind, name] = entry.op;
     const asked = mayUndo ? [...this.tentative.keys()] : [];
     for (const it of kind === 'validate' ? [name] : asked) {
-      if (this.tentative.has(it)) this.judge(it, this.tentative.get(it));
+      const place = this.tentative.get(it);
+      if (place !== undefined) this.judge(it, place);
     }
   }
 
-  // What showed until now may be undone. Where it is, all of the text may be another.
+  /**
+   * What showed until now may be undone. Where it is, all of the text may be another.
+   *
+   * @param {string} name
+   * @param {number} place
+   */
   judge(name, place) {
     const denial = this.denialOf({ user: null, name }, place);
     if (!denial) return;
@@ -207,13 +279,22 @@ export class Copy {
     this.forgetPieces();
   }
 
+  /**
+   * @param {import('./lines.mjs').EditRequest} request
+   * @param {number} place
+   */
   takeRequest(request, place) {
     const denial = this.denialOf(request, place);
     if (denial) this.undone.put(request, denial);
     else this.follow(request);
   }
 
-  // Asks the peer for the state of a request that isn't the administrator's: its denial, or null.
+  /**
+   * Asks the peer for the state of a request that isn't the administrator's: its denial, or null.
+   *
+   * @param {{ user: number | null, name: string }} request
+   * @param {number} place
+   */
   denialOf({ user, name }, place) {
     if (user === 0) return null;
     const state = this.peer.state(name);
@@ -222,7 +303,11 @@ export class Copy {
     return undoneBy(state);
   }
 
-  // Puts what a new request changed into the pieces, where one piece came or went by it; else they are asked for anew.
+  /**
+   * Puts what a new request changed into the pieces, where one piece came or went by it; else they are asked for anew.
+   *
+   * @param {import('./lines.mjs').EditRequest} request
+   */
   follow({ name, edit }) {
     const { peer, shown } = this;
     if (!shown) return;

@@ -6,7 +6,13 @@ const encoder = new TextEncoder();
 const isHigh = (unit) => (unit & 0xfc00) === 0xd800;
 const isLow = (unit) => (unit & 0xfc00) === 0xdc00;
 
-// In units of UTF-16: `text` replaces what stands from `start` to `end`. No more than `behind` units are taken for alike at the end.
+/**
+ * In units of UTF-16: `text` replaces what stands from `start` to `end`. No more than `behind` units are taken for alike at the end.
+ *
+ * @param {string} from
+ * @param {string} to
+ * @param {number} behind
+ */
 function differenceUpTo(from, to, behind) {
   const most = Math.min(from.length, to.length);
   let back = 0;
@@ -20,8 +26,14 @@ function differenceUpTo(from, to, behind) {
 
 const sizeOf = ({ start, end, text }) => end - start + text.length;
 
-// The difference of two texts. Among equal letters the place of the caret decides, which stands so many units in front of the end:
-// unless what was written isn't in front of it, where another difference is smaller.
+/**
+ * The difference of two texts. Among equal letters the place of the caret decides, which stands so many units in front of the end:
+ * unless what was written isn't in front of it, where another difference is smaller.
+ *
+ * @param {string} from
+ * @param {string} to
+ * @param {number} [behind]
+ */
 export function difference(from, to, behind = Infinity) {
   const atCaret = differenceUpTo(from, to, behind);
   if (behind === Infinity || sizeOf(atCaret) < 2) return atCaret;
@@ -29,8 +41,12 @@ export function difference(from, to, behind = Infinity) {
   return sizeOf(least) < sizeOf(atCaret) ? least : atCaret;
 }
 
-// The pieces that a text is written in: a line end is one of its own, so that paragraphs begin and end with pieces, and what stands
-// between two is as few as can be.
+/**
+ * The pieces that a text is written in: a line end is one of its own, so that paragraphs begin and end with pieces, and what stands
+ * between two is as few as can be.
+ *
+ * @param {string} text
+ */
 export function cut(text) {
   const pieces = [];
   let size = Infinity; // of the last piece
@@ -47,8 +63,13 @@ export function cut(text) {
   return pieces;
 }
 
-// What a difference does to pieces: `removed` ones from the place `at` are replaced by `added`. The first of these is what stays of the
-// piece in which it begins where `isFrontSplit`, and the last what stays of the one in which it ends where `isBackSplit`.
+/**
+ * What a difference does to pieces: `removed` ones from the place `at` are replaced by `added`. The first of these is what stays of the
+ * piece in which it begins where `isFrontSplit`, and the last what stays of the one in which it ends where `isBackSplit`.
+ *
+ * @param {import('./pieces.mjs').Pieces} pieces
+ * @param {{ start: number, end: number, text: string }} change
+ */
 export function replacement(pieces, { start, end, text }) {
   const first = pieces.behind(start);
   const isWithin = first.start < start;

@@ -161,7 +161,12 @@ export class Editor {
     return isMade;
   }
 
-  // The peer's text goes into the area, where another one stands there. `placed` tells where a caret goes.
+  /**
+   * The peer's text goes into the area, where another one stands there. `placed` tells where a caret goes.
+   *
+   * @param {(caret: any, change: ReturnType<typeof difference>) => number} [placed]
+   * @param {any[]} [carets]
+   */
   show(placed = moved, carets = [this.area.selectionStart, this.area.selectionEnd]) {
     const { area } = this;
     area.readOnly = this.isReadOnly;

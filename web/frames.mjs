@@ -8,11 +8,19 @@ const SITE_AT = NAME_AT + 6;
 const FIRST_ROOM = 4096;
 const FIRST_COUNT = 64;
 
+/**
+ * @param {Uint8Array} bytes
+ * @param {number} at
+ */
 function lengthAt(bytes, at) {
   return LENGTH_BYTES + new DataView(bytes.buffer, bytes.byteOffset + at).getUint32(0);
 }
 
-// The frames that bytes are, as views; what stands behind the last whole one is the last view.
+/**
+ * The frames that bytes are, as views; what stands behind the last whole one is the last view.
+ *
+ * @param {Uint8Array} bytes
+ */
 export function* split(bytes) {
   for (let at = 0; at < bytes.length; ) {
     const end = bytes.length - at < LENGTH_BYTES ? bytes.length : Math.min(bytes.length, at + lengthAt(bytes, at));
@@ -21,11 +29,16 @@ export function* split(bytes) {
   }
 }
 
+/** @param {Uint8Array} frame */
 export function isEntry(frame) {
   return frame[KIND_AT] === ENTRY_KIND;
 }
 
-// The stamp and the user, who is the site, of the name of the request of a frame, and the name.
+/**
+ * The stamp and the user, who is the site, of the name of the request of a frame, and the name.
+ *
+ * @param {Uint8Array} frame
+ */
 export function requestOf(frame) {
   const view = new DataView(frame.buffer, frame.byteOffset);
   const stamp = view.getUint16(NAME_AT) * 2 ** 32 + view.getUint32(NAME_AT + 2);
@@ -33,9 +46,16 @@ export function requestOf(frame) {
   return { stamp, user, name: `${stamp}.${user}` };
 }
 
-// A copy of these bytes with more room behind them.
+/**
+ * A copy of these bytes with more room behind them.
+ *
+ * @template {Uint8Array | Uint32Array} T
+ * @param {T} old
+ * @param {number} room
+ * @returns {T}
+ */
 function roomier(old, room) {
-  const larger = new old.constructor(room);
+  const larger = new /** @type {new (room: number) => T} */ (old.constructor)(room);
   larger.set(old);
   return larger;
 }
@@ -52,10 +72,12 @@ export class Frames {
     return this.startOf(this.count);
   }
 
+  /** @param {number} place */
   startOf(place) {
     return place ? this.ends[place - 1] : 0;
   }
 
+  /** @param {Uint8Array} frame */
   append(frame) {
     const end = this.size + frame.length;
     if (end > this.bytes.length) this.bytes = roomier(this.bytes, 2 * this.bytes.length);
@@ -64,23 +86,37 @@ export class Frames {
     this.ends[this.count++] = end;
   }
 
+  /** @param {number} place */
   at(place) {
     return this.slice(place, place + 1);
   }
 
-  // The frame at a place, for at once.
+  /**
+   * The frame at a place, for at once.
+   *
+   * @param {number} place
+   */
   view(place) {
     return this.bytes.subarray(this.startOf(place), this.ends[place]);
   }
 
-  // The bytes of the frames at these places.
+  /**
+   * The bytes of the frames at these places.
+   *
+   * @param {Iterable<number>} places
+   */
   choose(places) {
     const chosen = new Frames();
     for (const it of places) chosen.append(this.view(it));
     return chosen.slice(0, chosen.count);
   }
 
-  // The bytes of the frames from one place to another.
+  /**
+   * The bytes of the frames from one place to another.
+   *
+   * @param {number} from
+   * @param {number} to
+   */
   slice(from, to) {
     return this.bytes.slice(this.startOf(from), this.startOf(to));
   }

@@ -3,7 +3,13 @@
 const FIRST_ROOM = 256;
 const decoder = new TextDecoder('utf-8', { ignoreBOM: true }); // U+FEFF is a letter like others
 
-// How many units of UTF-16 these bytes of UTF-8 make.
+/**
+ * How many units of UTF-16 these bytes of UTF-8 make.
+ *
+ * @param {Uint8Array} bytes
+ * @param {number} from
+ * @param {number} to
+ */
 function unitsOf(bytes, from, to) {
   let units = 0;
   for (let at = from; at < to; at++) {
@@ -13,7 +19,12 @@ function unitsOf(bytes, from, to) {
 }
 
 export class Pieces {
-  // The pieces of these sizes in bytes that a text's bytes are.
+  /**
+   * The pieces of these sizes in bytes that a text's bytes are.
+   *
+   * @param {Uint8Array} bytes
+   * @param {Uint8Array} sizes
+   */
   static of(bytes, sizes) {
     const pieces = new Pieces();
     pieces.text = decoder.decode(bytes);
@@ -33,21 +44,35 @@ export class Pieces {
     this.count = 0;
   }
 
-  // Where the piece at a place begins.
+  /**
+   * Where the piece at a place begins.
+   *
+   * @param {number} place
+   */
   startOf(place) {
     let start = 0;
     for (let i = 0; i < place; i++) start += this.sizes[i];
     return start;
   }
 
-  // The first piece that ends behind a place of the text: its place, and where it begins and ends. At the text's end the place is the count.
+  /**
+   * The first piece that ends behind a place of the text: its place, and where it begins and ends. At the text's end the place is the count.
+   *
+   * @param {number} offset
+   */
   behind(offset) {
     let [place, end] = [0, 0];
     while (place < this.count && end + this.sizes[place] <= offset) end += this.sizes[place++];
     return { place, start: end, end: end + (place < this.count ? this.sizes[place] : 0) };
   }
 
-  // So many pieces from a place are replaced by these.
+  /**
+   * So many pieces from a place are replaced by these.
+   *
+   * @param {number} place
+   * @param {number} removed
+   * @param {string[]} added
+   */
   splice(place, removed, added) {
     const start = this.startOf(place);
     let end = start;
@@ -57,7 +82,12 @@ export class Pieces {
     added.forEach((it, i) => (this.sizes[place + i] = it.length));
   }
 
-  // The sizes from one place on go to another.
+  /**
+   * The sizes from one place on go to another.
+   *
+   * @param {number} from
+   * @param {number} to
+   */
   move(from, to) {
     const count = this.count + to - from;
     if (count > this.sizes.length) {

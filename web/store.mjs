@@ -7,6 +7,11 @@ const STALE = 'stale';
 const VERSION = 2; // of the database: the first had no marks
 const MOST_ROWS = 64; // of so many one is made
 
+/**
+ * @template T
+ * @param {IDBRequest<T>} request
+ * @returns {Promise<T>}
+ */
 function result(request) {
   return new Promise((done, failed) => {
     request.onsuccess = () => done(request.result);
@@ -14,6 +19,7 @@ function result(request) {
   });
 }
 
+/** @param {Uint8Array[]} rows */
 function joined(rows) {
   const all = new Uint8Array(rows.reduce((size, it) => size + it.length, 0));
   let at = 0;
@@ -25,7 +31,11 @@ function joined(rows) {
 }
 
 export class Store {
-  // The browser is asked to clear it only when the person does.
+  /**
+   * The browser is asked to clear it only when the person does.
+   *
+   * @param {number} site
+   */
   static async open(site) {
     navigator.storage?.persist?.().catch(() => {});
     const request = indexedDB.open(`roastcliff site ${site}`, VERSION);
@@ -36,6 +46,7 @@ export class Store {
     return new Store(await result(request));
   }
 
+  /** @param {IDBDatabase} database */
   constructor(database) {
     this.database = database;
   }
@@ -48,6 +59,7 @@ export class Store {
     return all;
   }
 
+  /** @param {Uint8Array} bytes */
   append(bytes) {
     return this.change((frames) => frames.add(bytes));
   }
@@ -65,7 +77,11 @@ export class Store {
     return Boolean(await result(this.database.transaction(MARKS).objectStore(MARKS).get(STALE)));
   }
 
-  // Changes rows and marks all at once; it is done when they are on the disk.
+  /**
+   * Changes rows and marks all at once; it is done when they are on the disk.
+   *
+   * @param {(frames: IDBObjectStore, marks: IDBObjectStore) => unknown} action
+   */
   change(action) {
     const transaction = this.database.transaction([FRAMES, MARKS], 'readwrite', { durability: 'strict' });
     return new Promise((done, failed) => {
