@@ -1,0 +1,101 @@
+import assert from 'node:assert/strict';
+import test from 'node:test';
+import { Copy } from './copy.mjs';
+import { Editor } from './editor.mjs';
+import { Module, NoMemory } from './peer.mjs';
+import { MOST_TO_CONFIRM } from './policy.mjs';
+import { administratorAndUser, Area, bytes, exchange, framesOf, limited, opened, until } from './testing.mjs';
+import * as words from './words.mjs';
+
+test('undone', () => {
+  const [administrator, user] = administratorAndUser('Tea.');
+  user.area.type(4, 4, ' Now.');
+  administrator.copy.step('admin addauth 0 - 1 idu 0');
+  exchange(administrator, user);
+  assert.equal(user.area.value, 'Tea.');
+  const again = opened(1, user.copy.journal.slice(0, user.copy.journal.count));
+  for (const { copy } of [administrator, user, again]) {
+    assert.deepEqual(copy.undone.rows.map((it) => words.undone(it, copy.policy)), [
+      'User 1: 5 letters written (“\u2068 Now.\u2069”). Version 3 of the rules denies it, by the rule that version 3 made: “User 1 may not insert, delete or change in the whole text.”',
+    ]);
+  }
+});
+
+test('pieces of made texts', () => {
+  const sides = administratorAndUser();
+  const texts = ['a', 'long ', 'é𝟝\n', ''];
+  for (let i = 0; i < 600; i++) {
+    const side = sides[i % 2];
+    const { length } = side.area.value;
+    const start = Math.min(length, (i * 7919) % (length + 1));
+    const end = Math.min(length, start + (i % 7 === 6 ? i % 9 : 0));
+    side.area.type(start, end, texts[i % texts.length]);
+    if (i % 50 === 49) side.copy.step(`edit update 0 new${i}`);
+    if (i === 300) sides[0].copy.step('admin addauth 0 - 1 d 0');
+    if (i % 13 === 12) exchange(...sides);
+  }
+  exchange(...sides);
+  assert.equal(sides[0].area.value, sides[1].area.value);
+  assert.ok(sides[0].copy.undone.count > 0);
+});
+
+// Where memory is wanting halfway the pieces are asked for anew.
+test('pieces that are not followed', () => {
+  const { area, copy } = opened(0);
+  area.type(0, 0, 'a');
+  const { peer } = copy;
+  peer.shows = () => {
+    throw new NoMemory();
+  };
+  assert.throws(() => copy.insert(1, 'b'), NoMemory);
+  delete peer.shows;
+  assert.equal(copy.pieces.text, 'ab');
+});
+
+// Confirming ends where versions have to be left for rules.
+test('confirming', () => {
+  const [administrator, user] = administratorAndUser();
+  const { copy } = administrator;
+  while (copy.policy.version < MOST_TO_CONFIRM - 2) copy.step(`admin ${copy.policy.users.has(2) ? 'deluser' : 'adduser'} 2`);
+  for (const it of 'abc') user.area.type(0, 0, it);
+  exchange(administrator, user);
+  copy.validateAll();
+  assert.equal(copy.policy.version, MOST_TO_CONFIRM);
+  copy.validateAll();
+  assert.equal(copy.policy.version, MOST_TO_CONFIRM);
+  assert.equal(copy.tentative.size, 1);
+  assert.match(copy.step('validatenext'), /^entry/);
+  const shown = words.versions(copy.entries, copy.policy, 3);
+  assert.deepEqual(shown.map((it) => it.version), [MOST_TO_CONFIRM - 3, MOST_TO_CONFIRM - 2, MOST_TO_CONFIRM - 1]);
+  assert.equal(shown[2].text, `3 edits are confirmed, up to version ${MOST_TO_CONFIRM + 1}.`);
+  assert.deepEqual(words.versions(copy.entries.slice(0, 2), copy.policy, 3).map((it) => it.text), ['User 1 may take part.', 'User 1 may insert, delete or change in the whole text.']);
+});
+
+test('want of memory', async () => {
+  const copy = new Copy(await Module.load(limited(bytes, 64)), 0);
+  const editor = new Editor(copy, new Area(), { refused: () => {}, changed: () => {} });
+  const made = () => {
+    for (let i = 0; i < 100000; i++) copy.step(`edit insert ${i} x`);
+  };
+  assert.throws(made, NoMemory);
+  const { count } = copy.pieces;
+  assert.ok(count > 100 && count - copy.journal.count <= 1); // the last insert may be made and not told
+  assert.equal(copy.step('settle'), 'quiet');
+  editor.show();
+  assert.equal(editor.area.value, 'x'.repeat(count));
+});
+
+test('a site that wrote before', async () => {
+  const [administrator, user] = administratorAndUser();
+  user.area.type(0, 0, 'a');
+  exchange(administrator, user);
+  const again = opened(1);
+  again.editor.during(() => framesOf(administrator).forEach((it) => again.copy.receive(it)));
+  assert.ok(again.copy.isStale && again.area.readOnly);
+  await until('it is kept that it did', () => again.store.isStale && again.keeper.isDone);
+  const changed = opened(1);
+  framesOf(administrator).slice(0, 2).forEach((it) => changed.copy.receive(it));
+  changed.copy.step('edit insert 0 b');
+  changed.copy.receive(framesOf(administrator).at(-1));
+  assert.ok(changed.copy.isStale);
+});

@@ -1,0 +1,57 @@
+import assert from 'node:assert/strict';
+import test from 'node:test';
+import { Copy } from './copy.mjs';
+import { Keeper } from './keeper.mjs';
+import { NoJournal } from './peer.mjs';
+import { Session } from './session.mjs';
+import { Store } from './store.mjs';
+import { administratorAndUser, bytes, exchange, module, opened, until } from './testing.mjs';
+
+test('coming back', async () => {
+  const [administrator, user] = administratorAndUser('Tea at four.');
+  user.area.type(12, 12, ' Milk?');
+  user.area.type(3, 4, '-');
+  await until('all is kept', () => user.keeper.isDone);
+  const again = opened(1, user.store.bytes);
+  assert.equal(again.area.value, 'Tea-at four. Milk?');
+  assert.deepEqual(again.copy.entries, user.copy.entries);
+  assert.deepEqual([...again.copy.tentative], [...user.copy.tentative]);
+  again.area.type(0, 0, 'No names twice. ');
+  again.sent = user.sent;
+  exchange(administrator, again);
+  assert.equal(administrator.area.value, again.area.value);
+  for (const bytes of [[1], [...user.store.bytes, 0], user.store.bytes.subarray(1), [...user.store.bytes, ...user.store.bytes]]) {
+    assert.throws(() => new Copy(module, 1, Uint8Array.from(bytes)), NoJournal);
+  }
+});
+
+test('a store that fails', async () => {
+  const copy = new Copy(module, 0);
+  const failures = [];
+  const store = { append: () => Promise.reject(new Error('no room')) };
+  const keeper = new Keeper(copy, store, { kept: assert.fail, failed: (error) => failures.push(error.message) });
+  copy.step('edit insert 0 a');
+  await keeper.keep();
+  await keeper.keep();
+  assert.deepEqual(failures, ['no room']);
+  assert.ok(!keeper.isDone && !new Session(copy).hasNews); // what isn't kept isn't sent
+});
+
+// Rows of a store whose quota is used up are read, and stay.
+test('a store that is full', async () => {
+  const rows = Array.from({ length: 100 }, (_, i) => Uint8Array.of(i));
+  const store = new Store({
+    transaction(names, mode) {
+      const made = { objectStore: () => ({ getAll: () => request(rows), clear() {}, add() {} }), error: new Error('quota') };
+      made.commit = () => queueMicrotask(() => made.onabort());
+      return made;
+    },
+  });
+  const request = (result) => {
+    const made = { result };
+    queueMicrotask(() => made.onsuccess());
+    return made;
+  };
+  assert.deepEqual([...(await store.read())], rows.map((it) => it[0]));
+  await assert.rejects(store.append(Uint8Array.of(1)), /quota/);
+});
