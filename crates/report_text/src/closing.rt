@@ -105,9 +105,10 @@ pub fn closing_lines(
     held_lines(alloc, peer, out)
 }
 
-/// Asks a peer for its text, and appends its closing lines, as [`closing_lines`] does.
+/// Asks a peer for its text, which leaves the peer as it is, and appends its closing lines, as [`closing_lines`] does.
 pub fn closing_lines_of(alloc: Global, peer: &mut Peer, out: &mut Vec<u8>) -> Result<(), NoMemory>
-    ensures { OnOk result (out.new.items ≡ out.old.items ++ closing_lines peer.old) }
+    ensures lines { OnOk result (out.new.items ≡ out.old.items ++ closing_lines peer.old) }
+    ensures stays { OnOk result (peer.new ≡ peer.old) }
 {
     let answer = peer.step(Step::Show)?;
     closing_lines(alloc, &answer, peer, out)
