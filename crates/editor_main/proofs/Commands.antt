@@ -4,17 +4,15 @@ use Rattle.std.specs.declared.option.Option.{Option}
 use Rattle.std.specs.Io.KnownBytes.{Keeps}
 use Rattle.std.proofs.lemmas.Bool.{true≢false}
 use Rattle.line_engine.specs.declared.status.Status.{Status}
-use Rattle.line_engine.specs.declared.status.Status.TheVariants.{Done, ReadFault}
+use Rattle.line_engine.specs.declared.status.Status.TheVariants.{ReadFault}
 use Rattle.line_engine.specs.Status.{IsSinkFail}
 use Rattle.line_engine.specs.Output.{Output, Ends}
 use Rattle.line_engine.specs.Engine.{Told, Says, Ran}
-use Rattle.edit_make.specs.Schedule.{made_world}
-use Rattle.edit_make.specs.Summary.{summary_text}
 use Rattle.form_certificate.specs.Laws.{IsRightlyAnswered}
 use Rattle.editor_main.specs.declared.command.Command.{Command}
 use Rattle.editor_main.specs.declared.command.Command.TheVariants.{Replay, Audit}
 use Rattle.form_replay.specs.Headline.{Headline}
-use Rattle.editor_main.specs.Plain.{RanPlain, plain_output, plain_part, is_reader, make_output}
+use Rattle.editor_main.specs.Plain.{RanPlain, plain_output, plain_part, is_reader}
 
 -- what words name, by the name of what was found
 pub named : (found : Option Command) (f g : Command) → Some f ≡ found → f ≡ g → found ≡ Some g
@@ -77,9 +75,9 @@ ran_said command status out left a b written silent is other says =
       },
     )
 
--- the summary's lines were said
-pub said_made : (seed edits : ℕ) (lines : List ℕ) (a b : Option (List ℕ)) (status : Status) (written : List ℕ)
-    → lines ≡ summary_text seed edits (made_world seed edits) → Says a b status (record { written = lines; status = Done }) written
-    → (w : List ℕ) × Says a b status (make_output seed edits) w
-said_made seed edits lines a b status written is says =
-    (written, subst (λ (bytes : List ℕ). Says a b status (record { written = bytes; status = Done }) written) is says)
+-- lines were said that are this text
+pub said_lines : (lines text : List ℕ) (due : Status) (a b : Option (List ℕ)) (status : Status) (written : List ℕ)
+    → lines ≡ text → Says a b status (record { written = lines; status = due }) written
+    → (w : List ℕ) × Says a b status (record { written = text; status = due }) w
+said_lines lines text due a b status written is says =
+    (written, subst (λ (bytes : List ℕ). Says a b status (record { written = bytes; status = due }) written) is says)

@@ -53,14 +53,12 @@ pub fn editor<R: Threads + Wait + Sync, S: Source + Send, K: Sink, D: Door, G: G
         Some(Command::Watch { site, reads }) => {
             watch_form(rt, alloc, site, reads, source, sink, gate)
         }
-        Some(
-            Command::Replay
-            | Command::Feed(_)
-            | Command::Make { .. }
-            | Command::Certify(_)
-            | Command::Audit
-            | Command::Keep(_),
-        )
+        Some(Command::Replay)
+        | Some(Command::Feed(_))
+        | Some(Command::Make { .. })
+        | Some(Command::Certify(_))
+        | Some(Command::Audit)
+        | Some(Command::Keep(_))
         | None => plain(alloc, words, source, sink),
     }
 }

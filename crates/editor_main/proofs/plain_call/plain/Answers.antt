@@ -1,4 +1,4 @@
-use Rattle.std.proofs.Common.{◌≡◌, ℕ, List, Some, None, ap, sym, ◌∙◌}
+use Rattle.std.proofs.Common.{◌≡◌, ℕ, List, Some, false, ap, sym, ◌∙◌, rules}
 use Rattle.std.specs.Bool.{⊤}
 use Rattle.std.specs.declared.option.Option.{Option}
 use Rattle.line_engine.specs.Input.{counted_bytes}
@@ -60,8 +60,9 @@ returns-in-Some-Make-clause-ran g c =
     ran_said (command_of c.args.words.now) _ (make_output seed edits) _ _ _ _
     (ap is_reader is) (λ (input : List ℕ). ap (λ (f : Option Command). plain_output f input) is) (λ e. cc) c.make.ensures.says.1
 
-pub returns-in-None-clause-ran : goal.returns-in-None-clause-ran
-returns-in-None-clause-ran g c =
-    let is : command_of c.args.words.now ≡ None = sym c.in-None.ensures.command in
-    ran_said (command_of c.args.words.now) _ usage_output _ _ _ _
-    (ap is_reader is) (λ (input : List ℕ). ap (λ (f : Option Command). plain_output f input) is) (λ e. cc) c.say.ensures.says.1
+-- a command of another call, or none
+pub returns-in-Some-Race-clause-ran : goal.returns-in-Some-Race-clause-ran
+returns-in-Some-Race-clause-ran g c =
+    let silent : is_reader (command_of c.args.words.now) ≡ false = search rules in
+    let is : (input : List ℕ) → plain_output (command_of c.args.words.now) input ≡ usage_output = λ input. search rules in
+    ran_said (command_of c.args.words.now) _ usage_output _ _ _ _ silent is (λ e. cc) c.say_usage.ensures.says.1
