@@ -1,6 +1,9 @@
 //! Certificates of journals: for each request its state, and the authorizations that granted it.
 //!
 //! A certificate follows from the journal alone, so that who has both may check the one by the other.
+//!
+//! It knows a journal as bytes, its certificate, and where the two don't agree.
+//! It must not know the peer that wrote them, and where they came from.
 #![tactic(auto)]
 
 mod anchors;

@@ -1,4 +1,7 @@
 //! Requests to edit a shared text, which lists of them are histories, and requests and pieces in little memory.
+//!
+//! It knows names, pieces and edits, and what a history may hold.
+//! It must not know policies and verdicts, who holds a request, or how it is spelled.
 #![tactic(auto)]
 
 mod edit;

@@ -1,4 +1,7 @@
 //! Frames, the bytes in which messages travel.
+//!
+//! It knows the bytes of a frame, and where in a stream one ends.
+//! It must not know links and peers, and whether a message is taken.
 #![tactic(auto)]
 
 mod decoding;

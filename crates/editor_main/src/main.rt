@@ -1,4 +1,7 @@
 //! The shared editor's program: the top call over standard input, standard output and links on this machine.
+//!
+//! It knows the words of the command line, every form, and the edge: streams, files and sockets.
+//! It must not know what any form does with its input.
 #![tactic(auto)]
 
 mod command;

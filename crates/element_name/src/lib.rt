@@ -1,4 +1,7 @@
 //! Names of requests and elements, and the places of elements in text order.
+//!
+//! It knows stamps, sites and versions with their limits, and where a sequence has which name.
+//! It must not know what an element shows, who wrote it, or how a name is spelled.
 #![tactic(auto)]
 
 pub mod laws;

@@ -1,4 +1,7 @@
 //! Feeds a stream of frames to a peer, or to what else takes frames in, each as soon as it is whole.
+//!
+//! It knows streams of frames, and what takes one in.
+//! It must not know scripts, files, links and threads.
 #![tactic(auto)]
 
 mod feeding;

@@ -3,6 +3,9 @@
 //! Both read the step lines of a source to the end, make their steps on the peer, and write the report of the run. Behind it
 //! stand the lines of the faults that were met: that of the door first, then that of the caller's own steps, and then those
 //! of the links by their numbers.
+//!
+//! It knows lines of steps, a run over links, and its report.
+//! It must not know sockets: a door gives it links.
 #![tactic(auto)]
 
 mod dialling;

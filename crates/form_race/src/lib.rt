@@ -1,5 +1,8 @@
 //! The form that races the steps of an input: the lists of three workers are read, the workers run them over one shared
 //! peer, and the run is reported.
+//!
+//! It knows lines of steps with their workers, a race, and its report.
+//! It must not know files and links.
 #![tactic(auto)]
 
 mod form;

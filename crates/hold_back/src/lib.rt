@@ -1,4 +1,7 @@
 //! Messages that came before what they need.
+//!
+//! It knows messages, the order in which they came, and what each waits for.
+//! It must not know what becomes of a message that is let go.
 #![tactic(auto)]
 
 mod awaited;

@@ -1,6 +1,9 @@
 //! Reading steps, messages and operations, by their words, and the lines of steps.
 //!
 //! A call that takes memory fails where it is wanting.
+//!
+//! It knows the words of one line.
+//! It must not know worlds of peers, and what a step does.
 #![tactic(auto)]
 
 mod fail;

@@ -1,6 +1,9 @@
 //! Writing the texts of steps and messages, and the lines of answers.
 //!
 //! A call fails where memory is wanting, and has then appended nothing, if it doesn't say otherwise.
+//!
+//! It knows steps, messages and answers as values, and the words for each.
+//! It must not know who made them, and which lines follow each other.
 #![tactic(auto)]
 
 mod answer;

@@ -2,6 +2,9 @@
 //!
 //! One binary message of a socket carries one message of a link. Nothing is claimed of what the other end
 //! sends or gets: a link and a door here tell their counts alone.
+//!
+//! It knows sockets of this machine, and messages of bytes.
+//! It must not know frames, sessions and peers.
 #![tactic(auto)]
 
 mod hasty;

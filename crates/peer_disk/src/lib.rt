@@ -4,6 +4,9 @@
 //! speak of every moment of a call: of what a crash during it might have left. [`MemDisk`] is a disk in
 //! memory, which keeps its calls and fails at listed ones; [`FileDisk`] stands at the edge, over a file of
 //! the system.
+//!
+//! It knows bytes at places of one file, and the time between two syncs.
+//! It must not know records, steps or peers.
 #![tactic(auto)]
 
 mod disk;

@@ -2,6 +2,9 @@
 //!
 //! What contracts say of runs and passes they say by `Call` and `View`. Neither is exported: the contracts of callers name them
 //! by their modules of `specs/`, no function gives a `Call`, and no value of `View` is made.
+//!
+//! It knows one peer, its gate, and the run of its steps.
+//! It must not know where steps come from: lines, links, or a screen.
 #![tactic(auto)]
 
 mod call;

@@ -1,4 +1,7 @@
 //! The steps of a peer and their answers, and steps in little memory.
+//!
+//! It knows every step and every answer as values.
+//! It must not know how a peer comes by its answer, and how either is spelled.
 #![tactic(auto)]
 
 mod answer;

@@ -6,6 +6,9 @@
 //!
 //! A host with many steps makes each in memory, and then saves all of them at once, by two syncs: a crash at any
 //! moment of that leaves all of them or none. It sends what comes of them once they are saved.
+//!
+//! It knows one peer, one disk, and how many of its steps no crash takes away.
+//! It must not know lines and links, and who makes the steps.
 #![tactic(auto)]
 
 mod fault;

@@ -1,6 +1,9 @@
 //! A journal, and the tables that a peer keeps of it: the log, the elements in text order, the cells and the states. They are
 //! what the definitions make of the whole journal, whatever message joins it. Nothing here knows of steps or of what is
 //! held.
+//!
+//! It knows the journal, and each table as a function of it.
+//! It must not know steps and their answers, and messages that are held.
 #![tactic(auto)]
 
 mod advance;

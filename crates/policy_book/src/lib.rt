@@ -1,4 +1,7 @@
 //! Policies: who may do what where, the operations that change them, and whose requests a change may deny.
+//!
+//! It knows users, groups, objects and authorizations, and when an operation is legal.
+//! It must not know the log that an operation comes to, or the edits that it decides on.
 #![tactic(auto)]
 
 mod auth;

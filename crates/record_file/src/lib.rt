@@ -4,6 +4,9 @@
 //! anything is written behind it, and is opened by a write of its own, after the bodies are on the disk. So a
 //! crash in the middle of [`put`] leaves the bodies from before it, with the new one or without, one in the middle
 //! of [`put_all`] leaves them with all new ones or with none, and no checksum is trusted.
+//!
+//! It knows gates, lengths and bodies of bytes, over any disk.
+//! It must not know what a body means.
 #![tactic(auto)]
 
 mod add;

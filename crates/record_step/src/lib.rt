@@ -2,6 +2,9 @@
 //!
 //! A body is a kind and its fields. An operation is spelled by the entry that it makes, so its body speaks of the
 //! version that it makes too.
+//!
+//! It knows steps, and bodies of bytes.
+//! It must not know files and records, and what a step does.
 #![tactic(auto)]
 
 mod kinds;

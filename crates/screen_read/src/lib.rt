@@ -1,4 +1,7 @@
 //! Published text: a screen publishes the text of a shared peer, and a reader on another thread reads it and never waits.
+//!
+//! It knows a shared peer's text, pages, and what their reader was told.
+//! It must not know lines, and who steps beside it.
 #![tactic(auto)]
 
 mod fail;

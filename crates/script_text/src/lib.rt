@@ -1,4 +1,7 @@
 //! Reading the lines of scripts.
+//!
+//! It knows lines of bytes, and the lines of a world as values.
+//! It must not know the world that plays them.
 #![tactic(auto)]
 
 pub mod laws;
