@@ -1,0 +1,5 @@
+pub mod Entries
+pub mod Changes
+pub mod Results
+pub mod Flats
+pub mod Keys
