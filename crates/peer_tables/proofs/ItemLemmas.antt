@@ -1,38 +1,114 @@
 -- The messages of a journal are found by their keys, among the states and in the log.
-use Rattle.std.proofs.Common.{◌≡◌, ℕ, zero, suc, ◌+◌, ◌-◌, ◌==◌, Bool, true, false, cond, List, [], ◌∷◌, ◌++◌, length, take, None, Some, refl, ap, sym, subst, ◌∙◌, arith, length-append}
-use Rattle.std.specs.Prelude.{map, slice_get, find, option_map}
+use Rattle.std.proofs.Common.{◌≡◌, ℕ, zero, suc, ◌+◌, ◌-◌, ◌==◌, ⊎_elim, Bool, true, false, true≢false, not, ◌||◌, ◌&&◌, cond, List, [], ◌∷◌, ◌++◌, length, take, None, Some, refl, ap, sym, subst, ◌∙◌, arith, length-append}
+use Rattle.std.specs.Prelude.{map, slice_get, find, position, option_map, is_none, nat_lt, nat_le}
+use Rattle.std.specs.List.{list_any, list_all, position_or_len}
 use Rattle.std.specs.declared.option.Option.{Option}
-use Rattle.std.proofs.lemmas.Bool.{or_parts}
+use Rattle.std.proofs.lemmas.Bool.{or_parts, and_parts, cases_Bool}
 use Rattle.std.proofs.lemmas.Bool.Decides.{nat_tests}
-use Rattle.std.proofs.lemmas.List.{take-map, length-map}
+use Rattle.std.proofs.lemmas.List.{take-map, length-map, map-append}
 use Rattle.std.proofs.lemmas.List.Folds.{list_any-append}
 use Rattle.std.proofs.lemmas.Option.{same_Some}
+use Rattle.element_name.specs.declared.limits.TheConstants.{MAX_VERSION}
 use Rattle.element_name.specs.Name.{Name, name_eq}
-use Rattle.element_name.proofs.NameOrder.{name_eq-refl}
 use Rattle.element_name.specs.Growing.{EachFrom}
-use Rattle.coop_request.specs.Request.{Request}
+use Rattle.coop_request.specs.Request.{Request, request_fault}
 use Rattle.coop_request.specs.History.{request_of}
-use Rattle.policy_book.specs.Entry.{Entry}
+use Rattle.policy_book.specs.Lists.{is_name}
+use Rattle.policy_book.specs.Entry.{Entry, is_entry_version}
+use Rattle.policy_book.specs.Operation.{is_operation}
 use Rattle.edit_message.specs.declared.message.Message.{Message}
 use Rattle.edit_message.specs.declared.message.Message.TheVariants.{Coop, Admin}
 use Rattle.edit_message.specs.declared.message.Key.{Key}
 use Rattle.edit_message.specs.declared.message.Key.TheVariants as keys
+use Rattle.edit_message.specs.Formed.{is_message, is_edit}
 use Rattle.edit_message.specs.Message.{key_of, key_eq, find_key, requests_of, entries_of}
 use Rattle.admin_log.specs.Log.{FollowsLog, IsLog, entry_at}
 use Rattle.request_state.specs.declared.kept.Kept.{Kept}
 use Rattle.request_state.specs.Table.{kept_request}
 use Rattle.elem_show.specs.Table.{Table}
 use Rattle.tomb_seq.specs.declared.slot.Slot.{Slot}
-use Rattle.peer_tables.specs.Items.{message_by}
+use Rattle.peer_tables.specs.PackedKey.{is_packable}
+use Rattle.peer_tables.specs.Items.{message_by, packed_eq, AreKeysOf}
 use Rattle.peer_tables.specs.Kept.{IsKeptOf, kept_in}
 use Rattle.peer_tables.specs.Journal.{FollowsJournal, IsJournal, has_key_of}
-use Rattle.peer_tables.proofs.JournalLemmas.{log_law}
+use Rattle.peer_tables.proofs.JournalLemmas.{log_law, formed_push, formed_cut}
+use Rattle.peer_tables.proofs.PackedKeyLemmas.{own_key, same_test, same_key}
 
 -- ---- the keys alone
 
--- without the last
-pub keys_cut : (J : List Message) → take (length (map key_of J) - 1) (map key_of J) ≡ map key_of (take (length J - 1) J)
-keys_cut J = ap (λ (n : ℕ). take (n - 1) (map key_of J)) (length-map J key_of) ∙ take-map key_of (length J - 1) J
+-- the key of a well-formed message can be packed
+pub packable_key : (m : Message) → is_message m ≡ true → is_packable (key_of m) ≡ true
+packable_key (Coop q) formed = (and_parts (is_name q.id) (is_edit q.edit && is_none (request_fault q)) formed).0
+packable_key (Admin e) formed =
+    let version = (and_parts (is_entry_version e.version) (is_operation e.op) formed).0 in
+    let few = (and_parts (nat_lt 0 e.version) (nat_le e.version MAX_VERSION) version).1 in
+    grind (arith, nat_tests, few)
+
+-- so a packed key compares to it as keys do
+same_message : (key : Key) (m : Message) → is_packable key ≡ true → is_message m ≡ true → packed_eq key (key_of m) ≡ key_eq (key_of m) key
+same_message key m there formed = same_test key (key_of m) there (packable_key m formed)
+
+-- and no message has a key that can't be packed
+other_key : (key : Key) (m : Message) → is_packable key ≡ false → is_message m ≡ true → key_eq (key_of m) key ≡ false
+other_key key m none formed = ⊎_elim
+    (λ (t : key_eq (key_of m) key ≡ true). absurd (true≢false (sym (packable_key m formed) ∙ ap is_packable (same_key (key_of m) key t) ∙ none)))
+    (λ (f : key_eq (key_of m) key ≡ false). f)
+    (cases_Bool (key_eq (key_of m) key))
+
+place_keyed : (key : Key) (J : List Message) → is_packable key ≡ true → list_all is_message J ≡ true
+    → position_or_len (packed_eq key) (map key_of J) ≡ position_or_len (λ m. key_eq (key_of m) key) J
+place_keyed key [] there formed = refl
+place_keyed key (m ∷ J) there formed =
+    let parts = and_parts (is_message m) (list_all is_message J) formed in
+    λ i. cond (not (same_message key m there parts.0 i)) (1 + place_keyed key J there parts.1 i) 0
+
+any_keyed : (key : Key) (J : List Message) → is_packable key ≡ true → list_all is_message J ≡ true
+    → list_any (packed_eq key) (map key_of J) ≡ list_any (λ m. key_eq (key_of m) key) J
+any_keyed key [] there formed = refl
+any_keyed key (m ∷ J) there formed =
+    let parts = and_parts (is_message m) (list_all is_message J) formed in
+    λ i. same_message key m there parts.0 i || any_keyed key J there parts.1 i
+
+none_placed : (key : Key) (J : List Message) → is_packable key ≡ false → list_all is_message J ≡ true → position_or_len (λ m. key_eq (key_of m) key) J ≡ length J
+none_placed key [] none formed = refl
+none_placed key (m ∷ J) none formed =
+    let parts = and_parts (is_message m) (list_all is_message J) formed in
+    let one_more : 1 + length J ≡ suc (length J) = omega arith in
+    (λ i. cond (not (other_key key m none parts.0 i)) (1 + none_placed key J none parts.1 i) 0) ∙ one_more
+
+-- a message of a key that can't be packed has no number
+pub none_numbered : (key : Key) (J : List Message) → is_packable key ≡ false → list_all is_message J ≡ true → position (λ m. key_eq (key_of m) key) J ≡ None
+none_numbered key J none formed =
+    let place = none_placed key J none formed in
+    let past : nat_lt (position_or_len (λ m. key_eq (key_of m) key) J) (length J) ≡ false = grind (arith, nat_tests, place) in
+    ap (λ b. cond b (Some (position_or_len (λ m. key_eq (key_of m) key) J)) None) past
+
+-- what is known of keys that are those of messages
+module _ (known : List Key) (J : List Message) (are : AreKeysOf known J) where
+  -- a key's place is its message's
+  pub number_keyed : (key : Key) → is_packable key ≡ true → position (packed_eq key) known ≡ position (λ m. key_eq (key_of m) key) J
+  number_keyed key there =
+      let same = place_keyed key J there are.formed in
+      ap (λ (ks : List Key). position (packed_eq key) ks) are.keys ∙ (λ i. cond (nat_lt (same i) (length-map J key_of i)) (Some (same i)) None)
+
+  -- the key of a new message is none of them
+  pub new_keyed : (key : Key) (m : Message) → key ≡ key_of m → is_message m ≡ true → has_key_of J m ≡ false → list_any (packed_eq key) known ≡ false
+  new_keyed key m same own new =
+      (λ i. list_any (packed_eq (same i)) (are.keys i)) ∙ any_keyed (key_of m) J (packable_key m own) are.formed ∙ new
+
+  -- with one more
+  pub keyed_push : (key : Key) (m : Message) → key ≡ key_of m → is_message m ≡ true → AreKeysOf (known ++ key ∷ []) (J ++ m ∷ [])
+  keyed_push key m same own = record {
+    keys = (λ i. are.keys i ++ same i ∷ []) ∙ sym (map-append key_of J (m ∷ []));
+    formed = formed_push J m are.formed own;
+  }
+
+  -- without the last
+  pub keyed_cut : AreKeysOf (take (length known - 1) known) (take (length J - 1) J)
+  keyed_cut = record {
+    keys = (λ i. take (length (are.keys i) - 1) (are.keys i)) ∙ ap (λ (n : ℕ). take (n - 1) (map key_of J)) (length-map J key_of) ∙ take-map key_of (length J - 1) J;
+    formed = formed_cut (length J - 1) J are.formed;
+  }
 
 -- ---- by a name, by a version
 
@@ -88,10 +164,6 @@ entry_found L (suc v) each =
 
 -- ---- by its own key
 
-is_own_key : (m : Message) → key_eq (key_of m) (key_of m) ≡ true
-is_own_key (Coop q) = name_eq-refl q.id
-is_own_key (Admin e) = grind (arith, nat_tests)
-
 -- the key of an item is none of those before
 new_at : (K J : List Message) (i : ℕ) (m : Message) → EachFrom FollowsJournal K J → slice_get J i ≡ Some m → has_key_of K m ≡ false
 new_at K [] i m each at = absurd (cc)
@@ -105,7 +177,7 @@ found_at : (K J : List Message) (i : ℕ) (m : Message) → EachFrom FollowsJour
 found_at K [] i m each at = absurd (cc)
 found_at K (x ∷ J) zero m each at =
     let same = same_Some x m at in
-    let t : key_eq (key_of x) (key_of m) ≡ true = ap (λ (y : Message). key_eq (key_of x) (key_of y)) (sym same) ∙ is_own_key x in
+    let t : key_eq (key_of x) (key_of m) ≡ true = ap (λ (y : Message). key_eq (key_of x) (key_of y)) (sym same) ∙ own_key (key_of x) in
     ap (λ b. cond b (Some x) (find_key (key_of m) J)) t ∙ at
 found_at K (x ∷ J) (suc i) m each at =
     let other = or_parts (has_key_of K m) (has_key_of (x ∷ []) m)

@@ -1,12 +1,13 @@
 -- What a journal consists of.
-use Rattle.std.proofs.Common.{◌≡◌, ℕ, ◌≤◌, ◌+◌, inl, inr, ⊎_elim, true, false, not, ◌||◌, List, [], ◌∷◌, ◌++◌, length, None, Some, refl, ap, sym, subst, ◌∙◌, arith, length-append, append_assoc, Contains}
-use Rattle.std.specs.Prelude.{nat_lt, nat_eq, find, is_none}
+use Rattle.std.proofs.Common.{◌≡◌, ℕ, zero, suc, ◌≤◌, ◌+◌, inl, inr, ⊎_elim, Bool, true, false, not, ◌||◌, ◌&&◌, List, [], ◌∷◌, ◌++◌, length, take, None, Some, refl, ap, sym, subst, ◌∙◌, arith, length-append, append_assoc, Contains}
+use Rattle.std.specs.Prelude.{nat_lt, nat_eq, find, is_none, is_some, position, slice_get, option_and_then, if◌then◌else◌}
 use Rattle.std.specs.declared.option.Option.{Option}
-use Rattle.std.specs.List.{list_any}
+use Rattle.std.specs.List.{list_any, list_all, position_or_len}
 use Rattle.std.proofs.lemmas.List.{append-nil, map-append}
 use Rattle.std.proofs.lemmas.List.Elements.{filter_map-append}
-use Rattle.std.proofs.lemmas.Bool.{and_parts, and_from, or_parts, cases_Bool, not-false}
-use Rattle.std.proofs.lemmas.List.Folds.{list_any-append}
+use Rattle.std.proofs.lemmas.Bool.{and_parts, and_from, or_parts, cases_Bool, not-false, ltb-true, ltb-false}
+use Rattle.std.proofs.lemmas.List.Folds.{list_any-append, list_all-append, find_at}
+use Rattle.std.proofs.lemmas.Option.{slice_get_cases, slice_get_past}
 use Rattle.std.proofs.lemmas.Bool.Decides.{nat_tests}
 use Rattle.element_name.proofs.CaseLemmas.{when-None, first_of-None, option_map-None}
 use Rattle.element_name.specs.Cases.{when, first_of}
@@ -26,6 +27,7 @@ use Rattle.tomb_seq.proofs.Has.{Has, Has-from_Contains}
 use Rattle.edit_message.specs.declared.message.Message.{Message}
 use Rattle.edit_message.specs.declared.message.Message.TheVariants.{Coop, Admin}
 use Rattle.edit_message.specs.declared.message.Missing.TheVariants.{Element, Version}
+use Rattle.edit_message.specs.Formed.{is_message}
 use Rattle.edit_message.specs.Message.{request_in, entry_in, requests_of, entries_of}
 use Rattle.edit_message.specs.Missing.{missing_of, missing_end}
 use Rattle.admin_log.specs.Log.{FollowsLog, IsLog}
@@ -45,6 +47,42 @@ NoRow (row ∷ rows) = (row ≡ None) × NoRow rows
 pub no_row : {A : Type 0} (rows : List (Option A)) → first_of rows ≡ None → NoRow rows
 no_row [] h = tt
 no_row (row ∷ rows) h = let parts = first_of-None row rows h in (parts.0, no_row rows parts.1)
+
+-- ---- what a test finds
+
+-- what is found stands at the position
+pub find_position : {X : Type 0} (test : X → Bool) (xs : List X) → find test xs ≡ option_and_then (slice_get xs) (position test xs)
+find_position test xs = find_at test xs ∙ by (nat_lt (position_or_len test xs) (length xs)) refl
+  where
+    by : (b : Bool) → nat_lt (position_or_len test xs) (length xs) ≡ b
+        → slice_get xs (position_or_len test xs) ≡ option_and_then (slice_get xs) (if b then Some (position_or_len test xs) else None)
+    by true within = refl
+    by false past = slice_get_past xs (position_or_len test xs) (ltb-false (position_or_len test xs) (length xs) past)
+
+-- something is, where there is a position
+pub found_somewhere : {X : Type 0} (test : X → Bool) (xs : List X) → is_some (position test xs) ≡ is_some (find test xs)
+found_somewhere test xs = by (nat_lt (position_or_len test xs) (length xs)) refl ∙ ap is_some (sym (find_at test xs))
+  where
+    by : (b : Bool) → nat_lt (position_or_len test xs) (length xs) ≡ b
+        → is_some (if b then Some (position_or_len test xs) else None) ≡ is_some (slice_get xs (position_or_len test xs))
+    by true t = ⊎_elim
+        (λ h. sym (ap is_some h.2))
+        (λ h. let within = ltb-true (position_or_len test xs) (length xs) t in let past = h.0 in absurd (omega (arith, within, past)))
+        (slice_get_cases xs (position_or_len test xs)).1
+    by false past = ap is_some (sym (slice_get_past xs (position_or_len test xs) (ltb-false (position_or_len test xs) (length xs) past)))
+
+-- ---- well-formed messages
+
+pub formed_push : (J : List Message) (m : Message) → list_all is_message J ≡ true → is_message m ≡ true → list_all is_message (J ++ m ∷ []) ≡ true
+formed_push J m formed own =
+    list_all-append is_message J (m ∷ []) ∙ and_from (list_all is_message J) (is_message m && true) formed (and_from (is_message m) true own refl)
+
+pub formed_cut : (n : ℕ) (J : List Message) → list_all is_message J ≡ true → list_all is_message (take n J) ≡ true
+formed_cut zero J formed = refl
+formed_cut (suc n) [] formed = refl
+formed_cut (suc n) (m ∷ J) formed =
+    let parts = and_parts (is_message m) (list_all is_message J) formed in
+    and_from (is_message m) (list_all is_message (take n J)) parts.0 (formed_cut n J parts.1)
 
 -- ---- the requests and the entries of two lists, one behind the other
 

@@ -2,6 +2,7 @@ pub mod JournalLemmas
 pub mod HistoryLemmas
 pub mod StableLemmas
 pub mod SameSetLemmas
+pub mod PackedKeyLemmas
 pub mod ItemLemmas
 pub mod KeptLemmas
 pub mod ReachedLemmas

@@ -1,5 +1,5 @@
 -- What an entry may undo, `specs/Undoing.antt`.
-use Rattle.std.proofs.Common.{◌≡◌, ◌⊎◌, ℕ, ◌+◌, inl, inr, ⊎_elim, Bool, true, false, ◌&&◌, List, [], ◌∷◌, ◌++◌, length, None, Some, refl, ap, sym, subst, ◌∙◌, map, filter, ◌≤◌}
+use Rattle.std.proofs.Common.{◌≡◌, ℕ, ◌+◌, inl, inr, ⊎_elim, Bool, true, false, ◌&&◌, List, [], ◌∷◌, ◌++◌, length, None, Some, refl, ap, sym, subst, ◌∙◌, map, filter, ◌≤◌}
 use Rattle.admin_log.specs.Log.{FollowsLog, policy_of, validates}
 use Rattle.auth_match.specs.Requests.{request_verdict}
 use Rattle.auth_match.specs.declared.verdict.Verdict.{Verdict}

@@ -1,6 +1,7 @@
 pub mod Journal
 pub mod Derived
 pub mod Laws
+pub mod PackedKey
 pub mod Items
 pub mod Part
 pub mod Kept

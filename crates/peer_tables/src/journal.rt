@@ -1,5 +1,5 @@
 //! The journal, with what is kept of it.
-ghost use Rattle.std.specs.Prelude.{◌≡◌, ◌<◌, ◌≤◌, [], ◌∷◌, ◌++◌, Some, length, slice_get, option_map, IfOk, OnOk, OnErr};
+ghost use Rattle.std.specs.Prelude.{◌≡◌, ◌<◌, ◌≤◌, [], ◌∷◌, ◌++◌, Some, length, slice_get, option_map, is_some, IfOk, OnOk, OnErr};
 ghost use Rattle.std.specs.Option.{option_copied};
 ghost use Rattle.element_name.specs.declared.limits.TheConstants.{MAX_STAMP, MAX_VERSION};
 ghost use Rattle.element_name.specs.Cases.{when};
@@ -100,14 +100,28 @@ impl Journal {
     pub fn at(&self, i: u32) -> Option<JournalItem<'_>>
         ensures { result ≡ slice_get self.now i }
     {
-        self.find(self.items.key(i as usize)?)
+        self.item(i as usize)
     }
 
-    /// The message of a key.
+    /// The message of a key: one look-up by the key's hash, and one in the tables where it is there.
     pub fn find(&self, key: Key) -> Option<JournalItem<'_>>
         ensures { result ≡ find_key key self.now }
     {
-        item_of(&self.states, &self.log, key)
+        self.item(self.items.number(key)?)
+    }
+
+    // The message at a place.
+    fn item(&self, i: usize) -> Option<JournalItem<'_>>
+        ensures { result ≡ slice_get self.now i }
+    {
+        item_of(&self.states, &self.log, self.items.key(i)?)
+    }
+
+    /// Whether it has a message of a key: one look-up by the key's hash.
+    pub fn has(&self, key: Key) -> bool
+        ensures { result ≡ is_some (find_key key self.now) }
+    {
+        self.items.number(key).is_some()
     }
 
     /// The version of its policy.

@@ -13,6 +13,7 @@ mod join;
 mod journal;
 pub mod laws;
 mod missing;
+mod packed_key;
 mod reached;
 mod sweep;
 mod text;

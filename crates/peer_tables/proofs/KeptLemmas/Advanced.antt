@@ -1,11 +1,9 @@
 -- The steps of an advance lead to what is kept.
-use Rattle.std.proofs.Common.{◌≡◌, ℕ, ◌<◌, ◌≤◌, ◌^◌, ⊎_elim, true, false, ◌&&◌, List, [], ◌∷◌, ◌++◌, length, refl, sym, ap, subst, ◌∙◌, arith}
+use Rattle.std.proofs.Common.{◌≡◌, ℕ, ◌<◌, ◌≤◌, ◌^◌, ⊎_elim, true, false, List, [], ◌∷◌, ◌++◌, length, sym, ap, subst, ◌∙◌, arith}
 use Rattle.std.specs.Prelude.{nat_lt, map}
 use Rattle.std.specs.declared.option.Option.{Option}
-use Rattle.std.proofs.lemmas.Bool.{and_from, cases_Bool, ltb-true, ltb-false}
-use Rattle.std.proofs.lemmas.List.Folds.{list_all-append}
+use Rattle.std.proofs.lemmas.Bool.{cases_Bool, ltb-true, ltb-false}
 use Rattle.std.specs.Bool.{IsTrue}
-use Rattle.std.specs.List.{list_all}
 use Rattle.element_name.proofs.EachAfterLemmas.{EachAfter-push}
 use Rattle.element_name.specs.Name.{Name}
 use Rattle.coop_request.specs.Request.{Request}
@@ -13,7 +11,6 @@ use Rattle.policy_book.specs.declared.op.AdminOp.{AdminOp}
 use Rattle.policy_book.specs.Entry.{Entry, is_entry}
 use Rattle.edit_message.specs.declared.message.Message.{Message}
 use Rattle.edit_message.specs.declared.message.Message.TheVariants.{Admin}
-use Rattle.edit_message.specs.Formed.{is_message}
 use Rattle.edit_message.specs.Message.{requests_of, entries_of}
 use Rattle.coop_request.specs.declared.request.TheConstants.{MAX_REQUESTS}
 use Rattle.policy_book.specs.Policy.{Policy}
@@ -30,7 +27,7 @@ use Rattle.peer_tables.specs.Derived.{undone_between}
 use Rattle.peer_tables.specs.Kept.{AreTablesOf, IsKeptOf, AreKnown, IsAdvancing, states_confirmed, shows_by}
 use Rattle.peer_tables.specs.Reached.{reached_elements}
 use Rattle.peer_tables.specs.Journal.{FollowsJournal}
-use Rattle.peer_tables.proofs.JournalLemmas.{follows_log, requests_entry, entries_entry}
+use Rattle.peer_tables.proofs.JournalLemmas.{follows_log, formed_push, requests_entry, entries_entry}
 use Rattle.peer_tables.proofs.StableLemmas.{known_law}
 use Rattle.peer_tables.proofs.KeptLemmas.Entered.{confirmed_law, elements_law, counts_before, reached_law, undone_law_of, kept_marked, kept_unmarked}
 
@@ -162,8 +159,7 @@ module _ (J : List Message) (L : List Entry) (slots : List Slot) (cells : Table)
   kept_of_longer K M new_slots new_cells new is_journal is_log formed keeps =
       subst (λ (I : List Message). IsKeptOf I M new_slots new_cells new stamp count) (sym is_journal) (record {
         journal = EachAfter-push FollowsJournal J (Admin e) k.journal follows;
-        formed = list_all-append is_message J (Admin e ∷ []) ∙ and_from (list_all is_message J) (is_entry e && true) k.formed
-            (and_from (is_entry e) true (ap is_entry (sym same) ∙ formed) refl);
+        formed = formed_push J (Admin e) k.formed (ap is_entry (sym same) ∙ formed);
         few = subst (λ (R : List Request). length R ≤ MAX_REQUESTS) (sym (requests_entry J e)) k.few;
         counted = k.counted ∙ ap (λ (R : List Request). length R) (sym (requests_entry J e));
         entries = entries_are M is_log ∙ sym (entries_entry J e);

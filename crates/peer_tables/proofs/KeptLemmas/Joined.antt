@@ -1,12 +1,9 @@
 -- What a request that follows a journal finds in what is kept, and what is kept then.
-use Rattle.std.proofs.Common.{◌≡◌, ℕ, ◌+◌, ◌-◌, ◌<◌, Bool, true, not, ◌||◌, List, [], ◌∷◌, ◌++◌, length, take, None, Some, refl, ap, sym, subst, ◌∙◌, arith, length-append, ◌==◌}
+use Rattle.std.proofs.Common.{◌≡◌, ℕ, ◌+◌, ◌-◌, ◌<◌, Bool, true, not, ◌||◌, List, [], ◌∷◌, ◌++◌, length, take, None, Some, ap, sym, subst, ◌∙◌, arith, length-append, ◌==◌}
 use Rattle.std.specs.Prelude.{find, max, nat_lt, option_map}
 use Rattle.std.specs.declared.option.Option.{Option}
-use Rattle.std.specs.List.{list_all}
 use Rattle.std.proofs.Math.Seq.{take-length}
 use Rattle.std.proofs.lemmas.List.{take-append-le}
-use Rattle.std.proofs.lemmas.List.Folds.{list_all-append}
-use Rattle.std.proofs.lemmas.Bool.{and_from}
 use Rattle.element_name.specs.Cases.{when, first_of}
 use Rattle.element_name.specs.Name.{Name, start, name_eq, has_name}
 use Rattle.element_name.proofs.EachAfterLemmas.{EachAfter-push}
@@ -36,7 +33,7 @@ use Rattle.tomb_seq.specs.Slots.{names_in, with_mark}
 use Rattle.peer_tables.specs.Derived.{state_in}
 use Rattle.peer_tables.specs.Journal.{FollowsJournal}
 use Rattle.peer_tables.specs.Kept.{AreKnown, IsGivenState, IsJoinable, cells_joined, AreTablesOf, IsKeptOf, IsPlaceable, is_addable, kept_in, names_after, shows_by, slots_after}
-use Rattle.peer_tables.proofs.JournalLemmas.{log_law, requests_request, entries_request, follows_history}
+use Rattle.peer_tables.proofs.JournalLemmas.{log_law, formed_push, requests_request, entries_request, follows_history}
 use Rattle.peer_tables.proofs.HistoryLemmas.{order_push}
 use Rattle.peer_tables.proofs.StableLemmas.{known_law}
 use Rattle.peer_tables.proofs.KeptLemmas.OneMore.{fresh, kept_push}
@@ -147,8 +144,7 @@ module _ (J : List Message) (log : List Entry) (slots : List Slot) (cells : Tabl
         (joined ∙ ap (cells_joined cells q) s) (states ∙ ap (with_request table q) s) in
         subst (λ (I : List Message). IsKeptOf I log new_slots new_cells new_table (max stamp q.id.stamp) (count + 1)) (sym is) (record {
           journal = EachAfter-push FollowsJournal J (Coop q) kept.journal follows;
-          formed = list_all-append is_message J (Coop q ∷ []) ∙ and_from (list_all is_message J) (list_all is_message (Coop q ∷ [])) kept.formed
-              (and_from (is_message (Coop q)) true formed refl);
+          formed = formed_push J (Coop q) kept.formed formed;
           few = rw more (omega (arith, size, room));
           counted = let c = kept.counted in rw more (omega (arith, size, c));
           entries = kept.entries ∙ sym (entries_request J q);

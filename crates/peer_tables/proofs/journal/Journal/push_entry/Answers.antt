@@ -1,6 +1,5 @@
 use Rattle.std.proofs.Common.{◌≡◌, List, [], ◌∷◌, ◌++◌, subst}
 use Rattle.edit_message.specs.declared.message.Message.{Message}
-use Rattle.edit_message.specs.declared.message.Message.TheVariants.{Admin}
 use Rattle.edit_message.specs.Message.{requests_of, entries_of}
 use Rattle.peer_tables.specs.Derived.{undone_between}
 use Rattle.peer_tables.proofs.KeptLemmas.Advanced.{entry_again, is_advancing, kept_of_longer, undone_longer}
