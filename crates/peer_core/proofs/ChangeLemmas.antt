@@ -22,7 +22,7 @@ use Rattle.peer_core.proofs.AnswerLemmas.Entries.{may_issue, validation_legal}
 use Rattle.peer_core.proofs.AnswerLemmas.Received.{may_take, receive_free, receive_known, receive_refused_after}
 use Rattle.peer_core.proofs.AnswerLemmas.Refusals.{administer_refuses, edit_refuses}
 use Rattle.peer_core.proofs.AnswerLemmas.Settled.{due_follows, settle_dropped_after, settle_legal_after, settle_quiet}
-use Rattle.peer_tables.proofs.JournalLemmas.{entries_entry, entries_request, entry_here, follows_log, no_row}
+use Rattle.peer_tables.proofs.JournalLemmas.{entries_entry, entries_request, entry_here, find_position, follows_log, no_row}
 use Rattle.peer_core.proofs.SoundLemmas.Steps.{due_within}
 use Rattle.peer_tables.proofs.UndoingLemmas.{not_both, undone_reached}
 use Rattle.peer_tables.proofs.StableLemmas.{known_law}
@@ -45,24 +45,11 @@ use Rattle.policy_book.specs.Reach.{is_reached, narrowed_reach}
 use Rattle.policy_book.specs.declared.fault.EntryFault.{EntryFault}
 use Rattle.policy_book.specs.declared.op.AdminOp.{AdminOp}
 use Rattle.policy_book.specs.declared.op.AdminOp.TheVariants.{Validate}
-use Rattle.std.proofs.lemmas.Bool.{eq-eqb, eqb-true, not-false, ltb-false, leb-false}
-use Rattle.std.proofs.lemmas.List.Folds.{find_at}
-use Rattle.std.proofs.lemmas.Option.{slice_get_cases, slice_get_past}
-use Rattle.std.specs.List.{position_or_len}
-use Rattle.std.specs.Prelude.{if◌then◌else◌, find, nat_lt, nat_eq, option_and_then, option_map, position, slice_get, unwrap_or}
+use Rattle.std.proofs.lemmas.Bool.{eq-eqb, eqb-true, not-false, leb-false}
+use Rattle.std.proofs.lemmas.Option.{slice_get_cases}
+use Rattle.std.specs.Prelude.{if◌then◌else◌, nat_eq, option_and_then, option_map, position, slice_get, unwrap_or}
 use Rattle.std.specs.declared.option.Option.{Option}
 use Rattle.tomb_seq.proofs.Has.{Has-from_Contains}
-
--- ---- the message that is due
-
--- what is found stands at the position
-pub find_position : {X : Type 0} (test : X → Bool) (xs : List X) → find test xs ≡ option_and_then (slice_get xs) (position test xs)
-find_position test xs = find_at test xs ∙ by (nat_lt (position_or_len test xs) (length xs)) refl
-  where
-    by : (b : Bool) → nat_lt (position_or_len test xs) (length xs) ≡ b
-        → slice_get xs (position_or_len test xs) ≡ option_and_then (slice_get xs) (if b then Some (position_or_len test xs) else None)
-    by true within = refl
-    by false past = slice_get_past xs (position_or_len test xs) (ltb-false (position_or_len test xs) (length xs) past)
 
 -- ---- the journal after a step
 

@@ -40,7 +40,7 @@ impl Peer {
 
     /// The earliest held message that is due, which `Step::Settle` integrates or lets go. Looks up the woken ones, up to
     /// that one, and takes no memory.
-    #[tactic(auto, using(crate::proofs::ChangeLemmas::find_position))]
+    #[tactic(auto, using(peer_tables::proofs::JournalLemmas::find_position))]
     pub fn due(&self) -> Option<&Message>
         ensures { option_copied result ≡ due_message self.now }
     {

@@ -73,9 +73,7 @@ fn may_be_next(journal: &Journal, message: &Message) -> bool
     ensures test { result ≡ may_be_next journal.now message.now }
     ensures formed { IsTrue (is_message message.now) }
 {
-    journal.find(message.key()).is_none()
-        && DueIn(journal).due(message)
-        && !is_faulty(journal, message)
+    !journal.has(message.key()) && DueIn(journal).due(message) && !is_faulty(journal, message)
 }
 
 // Whether it is an entry with a fault.
