@@ -6,7 +6,7 @@ use Rattle.auth_match.proofs.matching.first_matching.Goals as goal
 
 pub loop-a-init : goal.loop-a-init
 loop-a-init g c = record {
-  members = c.new-members.ensures (λ group. is_member c.args.policy.now group c.args.user);
-  right = c.new-covered.ensures (object_covers (names_with (g.P.Places.names c.args.places.now) c.args.judged.now) c.args.policy.now (judged_name c.args.judged.now));
+  members = c.new-notes.ensures.members (λ group. is_member c.args.policy.now group c.args.access.now.user);
+  covered = c.new-notes.ensures.covered (object_covers (names_with (g.P.Places.names c.args.places.now) c.args.access.now.judged) c.args.policy.now (judged_name c.args.access.now.judged));
   left = refl;
 }
