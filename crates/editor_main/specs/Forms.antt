@@ -30,17 +30,17 @@ argument_text Reads = codes "READS"
 argument_text File = codes "FILE"
 
 -- the first word of a form
-abbrev pub name_of : Form → List ℕ
-name_of Replay = codes "replay"
-name_of Feed = codes "feed"
-name_of Make = codes "make"
-name_of Race = codes "race"
-name_of Serve = codes "serve"
-name_of Dial = codes "dial"
-name_of Watch = codes "watch"
-name_of Certify = codes "certify"
-name_of Audit = codes "audit"
-name_of Keep = codes "keep"
+abbrev pub form_name : Form → List ℕ
+form_name Replay = codes "replay"
+form_name Feed = codes "feed"
+form_name Make = codes "make"
+form_name Race = codes "race"
+form_name Serve = codes "serve"
+form_name Dial = codes "dial"
+form_name Watch = codes "watch"
+form_name Certify = codes "certify"
+form_name Audit = codes "audit"
+form_name Keep = codes "keep"
 
 -- what the words behind its name say
 abbrev pub arguments_of : Form → List Argument
@@ -57,11 +57,11 @@ arguments_of Keep = Site ∷ File ∷ []
 
 -- the form of this name
 abbrev pub form_of : List ℕ → Option Form
-form_of name = find (λ form. bytes_eq (name_of form) name) FORMS
+form_of name = find (λ form. bytes_eq (form_name form) name) FORMS
 
 -- a form's words, as the usage line has them
 abbrev pub form_text : Form → List ℕ
-form_text form = name_of form ++ behind_spaces (map argument_text (arguments_of form))
+form_text form = form_name form ++ behind_spaces (map argument_text (arguments_of form))
 
 -- forms, the first behind this sign, and each later one behind a bar
 abbrev pub forms_text : List ℕ → List Form → List ℕ

@@ -2,7 +2,7 @@
 ghost use Rattle.std.specs.Prelude.{◌≡◌, ◌++◌, ℕ, List, map, IfOk, OnOk};
 ghost use Rattle.line_engine.specs.Engine.{Says, StatusCause};
 ghost use Rattle.line_spelling.specs.Values.{behind_spaces};
-ghost use Rattle.editor_main.specs.Forms.{name_of, arguments_of, argument_text, form_of, forms_text, usage_line};
+ghost use Rattle.editor_main.specs.Forms.{form_name, arguments_of, argument_text, form_of, forms_text, usage_line};
 ghost use Rattle.editor_main.specs.Plain.{usage_output};
 
 use edit_io::Sink;
@@ -42,7 +42,7 @@ pub(crate) const FORMS: [Form; 10] = [
 impl Form {
     // The first word of the form.
     fn name(self) -> &'static [u8]
-        ensures { result.now ≡ name_of self }
+        ensures { result.now ≡ form_name self }
     {
         match self {
             Form::Replay => b"replay",

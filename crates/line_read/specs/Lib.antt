@@ -1,5 +1,5 @@
 pub mod Words
-pub mod Reads
+pub mod ReadsAs
 pub mod Numbers
 pub mod Pieces
 pub mod Sets

@@ -3,7 +3,7 @@ ghost use Rattle.std.specs.Prelude.{◌≡◌, IfOk};
 ghost use Rattle.element_name.specs.Cases.{when};
 ghost use Rattle.policy_book.specs.Entry.{is_entry_version};
 ghost use Rattle.line_read.specs.Words.{bytes_of};
-ghost use Rattle.line_read.specs.Reads.{Reads};
+ghost use Rattle.line_read.specs.ReadsAs.{ReadsAs};
 ghost use Rattle.line_read.specs.Message.{name_and_piece, read_edit, accepted, read_request, read_entry, read_message};
 
 use crate::fail::without_bad;
@@ -18,7 +18,7 @@ use policy_book::{AdminOp, Entry};
 use std::alloc::Global;
 
 fn name_and_piece(alloc: Global, args: &[&[u8]]) -> Result<(Name, Piece), LineFail>
-    ensures { Reads result (name_and_piece (bytes_of args.now)) }
+    ensures { ReadsAs result (name_and_piece (bytes_of args.now)) }
 {
     let [name, piece] = args else {
         return Err(LineFail::Bad);
@@ -31,7 +31,7 @@ fn name_and_piece(alloc: Global, args: &[&[u8]]) -> Result<(Name, Piece), LineFa
 // The edit of a request, by its first word and the others.
 #[tactic(auto, unfolding(crate::specs::Message::read_edit))]
 fn read_edit(alloc: Global, word: &[u8], args: &[&[u8]]) -> Result<Edit, LineFail>
-    ensures { Reads result (read_edit word.now (bytes_of args.now)) }
+    ensures { ReadsAs result (read_edit word.now (bytes_of args.now)) }
 {
     if word == b"insert".as_slice() {
         let (after, letter) = name_and_piece(alloc, args)?;
@@ -50,7 +50,7 @@ fn read_edit(alloc: Global, word: &[u8], args: &[&[u8]]) -> Result<Edit, LineFai
 
 // The message of a request that is accepted.
 fn accepted(id: Name, version: u32, edit: Edit) -> Result<Message, LineFail>
-    ensures { Reads result (accepted (record { id = id; version = version; edit = edit })) }
+    ensures { ReadsAs result (accepted (record { id = id; version = version; edit = edit })) }
 {
     match Request::checked(id, version, edit) {
         Ok(request) => Ok(Message::Coop(request)),
@@ -61,7 +61,7 @@ fn accepted(id: Name, version: u32, edit: Edit) -> Result<Message, LineFail>
 // A name, a version and an edit.
 #[tactic(auto, unfolding(crate::specs::Message::read_request))]
 fn read_request(alloc: Global, args: &[&[u8]]) -> Result<Message, LineFail>
-    ensures { Reads result (read_request (bytes_of args.now)) }
+    ensures { ReadsAs result (read_request (bytes_of args.now)) }
 {
     let [name, number, word, args @ ..] = args else {
         return Err(LineFail::Bad);
@@ -74,7 +74,7 @@ fn read_request(alloc: Global, args: &[&[u8]]) -> Result<Message, LineFail>
 
 // The message of an entry of this version, if one can make it.
 fn entry(version: u32, op: AdminOp) -> Result<Message, LineFail>
-    ensures { Reads result (when (is_entry_version version) (Message.Admin (record { version = version; op = op }))) }
+    ensures { ReadsAs result (when (is_entry_version version) (Message.Admin (record { version = version; op = op }))) }
 {
     let entry = Entry::checked(version, op).ok_or(LineFail::Bad)?;
     Ok(Message::Admin(entry))
@@ -83,7 +83,7 @@ fn entry(version: u32, op: AdminOp) -> Result<Message, LineFail>
 // A version and an operation.
 #[tactic(auto, unfolding(crate::specs::Message::read_entry))]
 fn read_entry(alloc: Global, args: &[&[u8]]) -> Result<Message, LineFail>
-    ensures { Reads result (read_entry (bytes_of args.now)) }
+    ensures { ReadsAs result (read_entry (bytes_of args.now)) }
 {
     let [number, words @ ..] = args else {
         return Err(LineFail::Bad);
@@ -96,7 +96,7 @@ fn read_entry(alloc: Global, args: &[&[u8]]) -> Result<Message, LineFail>
 /// The message that the words spell.
 #[tactic(auto, unfolding(crate::specs::Message::read_message))]
 pub(crate) fn message_of(alloc: Global, words: &[&[u8]]) -> Result<Message, LineFail>
-    ensures { Reads result (read_message (bytes_of words.now)) }
+    ensures { ReadsAs result (read_message (bytes_of words.now)) }
 {
     let [word, args @ ..] = words else {
         return Err(LineFail::Bad);

@@ -3,7 +3,7 @@ ghost use Rattle.std.specs.Prelude.{◌≡◌, ◌==◌, ◌≤◌, ◌<◌, ◌
 ghost use Rattle.std.specs.List.{list_all};
 ghost use Rattle.std.specs.Char.{is_ascii_digit};
 ghost use Rattle.line_read.specs.Words.{bytes_of};
-ghost use Rattle.line_read.specs.Reads.{Reads};
+ghost use Rattle.line_read.specs.ReadsAs.{ReadsAs};
 ghost use Rattle.line_read.specs.Numbers.{is_numeral, read_number, read_short, read_wide, read_name};
 ghost use Rattle.line_read.specs.Numbers.{one_short, two_shorts, one_wide, one_name, two_names};
 
@@ -107,7 +107,7 @@ pub fn read_name(word: &[u8]) -> Option<Name>
 // ---- arguments: one word or two, and no more
 
 pub(crate) fn one_short(args: &[&[u8]]) -> Result<u16, LineFail>
-    ensures { Reads result (one_short (bytes_of args.now)) }
+    ensures { ReadsAs result (one_short (bytes_of args.now)) }
 {
     match args {
         [a] => read_short(a).ok_or(LineFail::Bad),
@@ -116,7 +116,7 @@ pub(crate) fn one_short(args: &[&[u8]]) -> Result<u16, LineFail>
 }
 
 pub(crate) fn two_shorts(args: &[&[u8]]) -> Result<(u16, u16), LineFail>
-    ensures { Reads result (two_shorts (bytes_of args.now)) }
+    ensures { ReadsAs result (two_shorts (bytes_of args.now)) }
 {
     let [a, b] = args else {
         return Err(LineFail::Bad);
@@ -127,7 +127,7 @@ pub(crate) fn two_shorts(args: &[&[u8]]) -> Result<(u16, u16), LineFail>
 }
 
 pub(crate) fn one_wide(args: &[&[u8]]) -> Result<u32, LineFail>
-    ensures { Reads result (one_wide (bytes_of args.now)) }
+    ensures { ReadsAs result (one_wide (bytes_of args.now)) }
 {
     match args {
         [a] => read_wide(a).ok_or(LineFail::Bad),
@@ -136,7 +136,7 @@ pub(crate) fn one_wide(args: &[&[u8]]) -> Result<u32, LineFail>
 }
 
 pub(crate) fn one_name(args: &[&[u8]]) -> Result<Name, LineFail>
-    ensures { Reads result (one_name (bytes_of args.now)) }
+    ensures { ReadsAs result (one_name (bytes_of args.now)) }
 {
     match args {
         [a] => read_name(a).ok_or(LineFail::Bad),
@@ -145,7 +145,7 @@ pub(crate) fn one_name(args: &[&[u8]]) -> Result<Name, LineFail>
 }
 
 pub(crate) fn two_names(args: &[&[u8]]) -> Result<(Name, Name), LineFail>
-    ensures { Reads result (two_names (bytes_of args.now)) }
+    ensures { ReadsAs result (two_names (bytes_of args.now)) }
 {
     let [a, b] = args else {
         return Err(LineFail::Bad);

@@ -1,7 +1,7 @@
 //! Operations, by the words that they are written in.
 ghost use Rattle.std.specs.Prelude.{◌≡◌, IfOk};
 ghost use Rattle.line_read.specs.Words.{bytes_of};
-ghost use Rattle.line_read.specs.Reads.{Reads};
+ghost use Rattle.line_read.specs.ReadsAs.{ReadsAs};
 ghost use Rattle.line_read.specs.Operation.{one_name_list, read_extent, read_object, read_auth, read_operation_by, read_operation};
 
 use crate::fail::without_bad;
@@ -14,7 +14,7 @@ use policy_book::{AdminOp, Auth, Extent, NameList};
 use std::alloc::Global;
 
 fn one_name_list(alloc: Global, args: &[&[u8]]) -> Result<NameList, LineFail>
-    ensures { Reads result (one_name_list (bytes_of args.now)) }
+    ensures { ReadsAs result (one_name_list (bytes_of args.now)) }
 {
     match args {
         [a] => read_names(alloc, a),
@@ -25,7 +25,7 @@ fn one_name_list(alloc: Global, args: &[&[u8]]) -> Result<NameList, LineFail>
 // The extent of an object, by its first word and the others.
 #[tactic(auto, unfolding(crate::specs::Operation::read_extent))]
 fn read_extent(alloc: Global, word: &[u8], args: &[&[u8]]) -> Result<Extent, LineFail>
-    ensures { Reads result (read_extent word.now (bytes_of args.now)) }
+    ensures { ReadsAs result (read_extent word.now (bytes_of args.now)) }
 {
     if word == b"all".as_slice() {
         return if are_none(args) {
@@ -50,7 +50,7 @@ fn read_extent(alloc: Global, word: &[u8], args: &[&[u8]]) -> Result<Extent, Lin
 // An object and its extent.
 #[tactic(auto, unfolding(crate::specs::Operation::read_object))]
 fn read_object(alloc: Global, args: &[&[u8]]) -> Result<AdminOp, LineFail>
-    ensures { Reads result (read_object (bytes_of args.now)) }
+    ensures { ReadsAs result (read_object (bytes_of args.now)) }
 {
     let [number, word, args @ ..] = args else {
         return Err(LineFail::Bad);
@@ -63,7 +63,7 @@ fn read_object(alloc: Global, args: &[&[u8]]) -> Result<AdminOp, LineFail>
 // A place and the authorization there.
 #[tactic(auto, unfolding(crate::specs::Operation::read_auth))]
 fn read_auth(alloc: Global, args: &[&[u8]]) -> Result<AdminOp, LineFail>
-    ensures { Reads result (read_auth (bytes_of args.now)) }
+    ensures { ReadsAs result (read_auth (bytes_of args.now)) }
 {
     let [place, sign, users, rights, objects] = args else {
         return Err(LineFail::Bad);
@@ -85,7 +85,7 @@ fn read_auth(alloc: Global, args: &[&[u8]]) -> Result<AdminOp, LineFail>
 // An operation by its first word and the others.
 #[tactic(auto, unfolding(crate::specs::Operation::read_operation_by))]
 fn read_operation_by(alloc: Global, word: &[u8], args: &[&[u8]]) -> Result<AdminOp, LineFail>
-    ensures { Reads result (read_operation_by word.now (bytes_of args.now)) }
+    ensures { ReadsAs result (read_operation_by word.now (bytes_of args.now)) }
 {
     if word == b"adduser".as_slice() {
         return Ok(AdminOp::AddUser(one_short(args)?));
@@ -128,7 +128,7 @@ fn read_operation_by(alloc: Global, word: &[u8], args: &[&[u8]]) -> Result<Admin
 /// The operation that the words spell.
 #[tactic(auto, unfolding(crate::specs::Operation::read_operation))]
 pub(crate) fn operation_of(alloc: Global, words: &[&[u8]]) -> Result<AdminOp, LineFail>
-    ensures { Reads result (read_operation (bytes_of words.now)) }
+    ensures { ReadsAs result (read_operation (bytes_of words.now)) }
 {
     match words {
         [word, args @ ..] => read_operation_by(alloc, word, args),

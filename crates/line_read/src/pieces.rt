@@ -1,7 +1,7 @@
 //! Pieces of text, as words.
 ghost use Rattle.std.specs.Prelude.{◌≡◌, ◌==◌, false};
 ghost use Rattle.std.specs.List.{list_any};
-ghost use Rattle.line_read.specs.Reads.{Reads, ReadsItems};
+ghost use Rattle.line_read.specs.ReadsAs.{ReadsAs, ReadsItems};
 ghost use Rattle.line_read.specs.Pieces.{escape_byte, unescaped_bytes, read_piece};
 
 use coop_request::Piece;
@@ -53,7 +53,7 @@ fn has_backslash(word: &[u8]) -> bool
 /// The piece that a word spells. Takes no memory where the word has no `\`.
 #[tactic(auto, unfolding(crate::specs::Pieces::read_piece))]
 pub(crate) fn read_piece(alloc: Global, word: &[u8]) -> Result<Piece, LineFail>
-    ensures { Reads result (read_piece word.now) }
+    ensures { ReadsAs result (read_piece word.now) }
 {
     if !has_backslash(word) {
         return Piece::checked(word).ok_or(LineFail::Bad);

@@ -1,7 +1,7 @@
 //! Lists of numbers and names, users, rights and signs, as words.
 ghost use Rattle.std.specs.Prelude.{◌≡◌, map};
 ghost use Rattle.line_read.specs.Words.{bytes_of, each_some};
-ghost use Rattle.line_read.specs.Reads.{Reads, ReadsItems};
+ghost use Rattle.line_read.specs.ReadsAs.{ReadsAs, ReadsItems};
 ghost use Rattle.line_read.specs.Numbers.{read_short, read_name};
 ghost use Rattle.line_read.specs.Sets.{read_numbers, read_names, read_users, read_rights, read_sign};
 
@@ -37,7 +37,7 @@ fn read_each_name(alloc: Global, words: &[&[u8]]) -> Result<Vec<Name>, LineFail>
 /// Numbers joined by `,`.
 #[tactic(auto, unfolding(crate::specs::Sets::read_numbers))]
 pub(crate) fn read_numbers(alloc: Global, word: &[u8]) -> Result<NumList, LineFail>
-    ensures { Reads result (read_numbers word.now) }
+    ensures { ReadsAs result (read_numbers word.now) }
 {
     let words = parts(alloc, COMMA, word)?;
     let numbers = read_each_short(alloc, &words)?;
@@ -47,7 +47,7 @@ pub(crate) fn read_numbers(alloc: Global, word: &[u8]) -> Result<NumList, LineFa
 /// Names joined by `,`.
 #[tactic(auto, unfolding(crate::specs::Sets::read_names))]
 pub(crate) fn read_names(alloc: Global, word: &[u8]) -> Result<NameList, LineFail>
-    ensures { Reads result (read_names word.now) }
+    ensures { ReadsAs result (read_names word.now) }
 {
     let words = parts(alloc, COMMA, word)?;
     let names = read_each_name(alloc, &words)?;
@@ -57,7 +57,7 @@ pub(crate) fn read_names(alloc: Global, word: &[u8]) -> Result<NameList, LineFai
 /// Everyone, numbers of users, or numbers of groups behind `@`.
 #[tactic(auto, unfolding(crate::specs::Sets::read_users))]
 pub(crate) fn read_users(alloc: Global, word: &[u8]) -> Result<UserSet, LineFail>
-    ensures { Reads result (read_users word.now) }
+    ensures { ReadsAs result (read_users word.now) }
 {
     if word == b"all".as_slice() {
         return Ok(UserSet::All);

@@ -1,7 +1,7 @@
 //! Step lines.
 ghost use Rattle.std.specs.Prelude.{◌≡◌, IfOk, IsErrOf, Some, None};
 ghost use Rattle.line_read.specs.Words.{bytes_of};
-ghost use Rattle.line_read.specs.Reads.{Reads};
+ghost use Rattle.line_read.specs.ReadsAs.{ReadsAs};
 ghost use Rattle.line_read.specs.Step.{place_and_piece, read_local_edit, read_plain, read_step, step_line};
 
 use crate::fail::without_bad;
@@ -17,7 +17,7 @@ use peer_step::{LocalEdit, Step};
 use std::alloc::Global;
 
 fn place_and_piece(alloc: Global, args: &[&[u8]]) -> Result<(u32, Piece), LineFail>
-    ensures { Reads result (place_and_piece (bytes_of args.now)) }
+    ensures { ReadsAs result (place_and_piece (bytes_of args.now)) }
 {
     let [place, piece] = args else {
         return Err(LineFail::Bad);
@@ -30,7 +30,7 @@ fn place_and_piece(alloc: Global, args: &[&[u8]]) -> Result<(u32, Piece), LineFa
 // The edit at a place that the words spell.
 #[tactic(auto, unfolding(crate::specs::Step::read_local_edit))]
 fn local_edit_of(alloc: Global, words: &[&[u8]]) -> Result<LocalEdit, LineFail>
-    ensures { Reads result (read_local_edit (bytes_of words.now)) }
+    ensures { ReadsAs result (read_local_edit (bytes_of words.now)) }
 {
     let [word, args @ ..] = words else {
         return Err(LineFail::Bad);
@@ -77,7 +77,7 @@ fn read_plain(word: &[u8]) -> Option<Step>
 // A step by its words.
 #[tactic(auto, unfolding(crate::specs::Step::read_step))]
 fn read_step(alloc: Global, words: &[&[u8]]) -> Result<Step, LineFail>
-    ensures { Reads result (read_step (bytes_of words.now)) }
+    ensures { ReadsAs result (read_step (bytes_of words.now)) }
 {
     let [word, args @ ..] = words else {
         return Err(LineFail::Bad);

@@ -20,7 +20,7 @@ use Rattle.peer_store.specs.declared.fault.StoreFault.{StoreFault}
 use Rattle.peer_store.specs.declared.fault.StoreFault.TheVariants.{DiskFault, NotAStore, Spent, StoreFull, NoMemory}
 use Rattle.peer_store.specs.Faults.{refusal_of, IsLeftBy, IsNotMadeFor, IsUnsavedBy}
 use Rattle.peer_store.specs.Steps.{changes, if_changing, is_look}
-use Rattle.peer_store.specs.Store.{StandsWithOrWithout, StandsForNoneIfAny, Saved, IsSaved, HasGate, HasRoom, IsKeptIn, finds_no_gate}
+use Rattle.peer_store.specs.Store.{StandsWithOrWithout, StandsForNoneIfAny, Saved, IsSaved, HasGate, FitsInFile, IsKeptIn, finds_no_gate}
 use Rattle.peer_store.proofs.Changes.{looks_change_nothing}
 use Rattle.peer_store.proofs.Saving.{none_if_any, if_it_stays, leaves_steps}
 
@@ -103,7 +103,7 @@ save_failed old middle new step NoMemory before now none peer unspent safe is = 
 -- ---- room
 
 -- records end where a number of 64 bits tells it
-pub ends_within : (place : ℕ) (unsaved : List (List ℕ)) → place < 2 ^ 64 → HasRoom place unsaved → place + length (records unsaved) < 2 ^ 64
+pub ends_within : (place : ℕ) (unsaved : List (List ℕ)) → place < 2 ^ 64 → FitsInFile place unsaved → place + length (records unsaved) < 2 ^ 64
 ends_within place [] fits room = omega (arith, fits)
 ends_within place (body ∷ bodies) fits room = omega (arith, room (λ e. cc))
 
@@ -115,12 +115,12 @@ finds_room saved step none turns = ⊎_elim
     (and_cases (nat_lt MAX_GATE saved.place) (not (is_look step)) (no_refusal saved.spent (finds_no_gate saved step) none))
 
 -- and so there is room behind its body
-pub still_room : (saved : Saved) (step : Step) (place : ℕ) (new : List (List ℕ)) → saved.place ≡ place + length (records saved.unsaved) → refusal_of saved step ≡ None → HasRoom place saved.unsaved
+pub still_room : (saved : Saved) (step : Step) (place : ℕ) (new : List (List ℕ)) → saved.place ≡ place + length (records saved.unsaved) → refusal_of saved step ≡ None → FitsInFile place saved.unsaved
     → (changes saved.peer step ≡ true → IsKeptIn saved.unsaved new saved.peer step) → (changes saved.peer step ≡ false → new ≡ saved.unsaved)
-    → ((version : ℕ) (s : Step) (bytes : List ℕ) → IsBody version s bytes → length bytes ≤ 281) → HasRoom place new
+    → ((version : ℕ) (s : Step) (bytes : List ℕ) → IsBody version s bytes → length bytes ≤ 281) → FitsInFile place new
 still_room saved step place new there none room kept same short = by (changes saved.peer step) refl
   where
-    grown : IsKeptIn saved.unsaved new saved.peer step → saved.place ≤ MAX_GATE → HasRoom place new
+    grown : IsKeptIn saved.unsaved new saved.peer step → saved.place ≤ MAX_GATE → FitsInFile place new
     grown one within some =
         omega (
           arith,
@@ -133,9 +133,9 @@ still_room saved step place new there none room kept same short = by (changes sa
           length-append (to_be_bytes w16 (length one.body)) one.body,
         )
 
-    by : (turns : Bool) → changes saved.peer step ≡ turns → HasRoom place new
+    by : (turns : Bool) → changes saved.peer step ≡ turns → FitsInFile place new
     by true turns = grown (kept turns) (finds_room saved step none turns)
-    by false quiet = subst (HasRoom place) (sym (same quiet)) room
+    by false quiet = subst (FitsInFile place) (sym (same quiet)) room
 
 -- a body makes the records longer
 pub longer : (old new : List (List ℕ)) (p : Peer) (step : Step) → IsKeptIn old new p step → length (records old) < length (records new)

@@ -121,8 +121,8 @@ pub record IsKeptIn (old new : List (List ℕ)) (p : Peer) (step : Step) : Type 
   pub behind : new ≡ old ++ body ∷ []
 
 -- where records are unsaved they end at a place that a file may have
-abbrev pub HasRoom : ℕ → List (List ℕ) → Type 0
-HasRoom place unsaved = (unsaved ≡ [] → ⊥) → place + length (records unsaved) < 2 ^ 62
+abbrev pub FitsInFile : ℕ → List (List ℕ) → Type 0
+FitsInFile place unsaved = (unsaved ≡ [] → ⊥) → place + length (records unsaved) < 2 ^ 62
 
 -- a step finds no room: it is no look, and the last gate stands too far behind
 abbrev pub finds_no_gate : Saved → Step → Bool

@@ -46,13 +46,13 @@ pub struct Store {
 impl Model for Store {
     ghost use Rattle.std.specs.Prelude.{◌+◌, length};
     ghost use Rattle.record_file.specs.Records.{records};
-    ghost use Rattle.peer_store.specs.Store.{Saved, HasRoom};
+    ghost use Rattle.peer_store.specs.Store.{Saved, FitsInFile};
 
     ghost Value = { Saved };
 
     ghost view = { λ s. record { peer = s.peer; place = s.place + length (records s.unsaved); spent = s.spent; unsaved = s.unsaved; safe = s.saved } };
 
-    ghost invariant = { λ s. HasRoom s.place s.unsaved };
+    ghost invariant = { λ s. FitsInFile s.place s.unsaved };
 }
 
 // Whether the step looks alone.

@@ -9,8 +9,8 @@ pub record IsRoll (cells : List Cell) (pages : List PageText) : Type 0 where
   pub words : cells ≡ (length pages, true) ∷ (0, true) ∷ []
 
 -- the word of a roll
-abbrev pub head_of : Book → Named
-head_of b = record { tracked = true; key = 0; book = b }
+abbrev pub book_head : Book → Named
+book_head b = record { tracked = true; key = 0; book = b }
 
 -- the page was added to all that had been seen; or the roll was longer
 abbrev pub Adds : Step PageText → View PageText ℕ → ℕ → View PageText ℕ → Type 0

@@ -4,6 +4,6 @@ use Rattle.screen_read.specs.declared.told.Tellings.{Tellings, Nothing, More'}
 use Rattle.screen_read.specs.Pages.{PageText}
 
 -- the lists, in order
-abbrev pub lists_of : Tellings → List (List PageText)
-lists_of Nothing = []
-lists_of (More' s p before) = lists_of before ++ s.value.pages ∷ []
+abbrev pub told_lists : Tellings → List (List PageText)
+told_lists Nothing = []
+told_lists (More' s p before) = told_lists before ++ s.value.pages ∷ []

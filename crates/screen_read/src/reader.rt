@@ -37,14 +37,14 @@ impl Model for ScreenReader {
     ghost use mathlib.Core.List.{IsPrefix};
     ghost use Rattle.screen_read.specs.Pages.{AllBegin};
     ghost use Rattle.screen_read.specs.Ends.{ReaderPages, reader_pages};
-    ghost use Rattle.screen_read.specs.Tellings.{lists_of};
+    ghost use Rattle.screen_read.specs.Tellings.{told_lists};
     ghost use Rattle.screen_read.specs.Rule.{IsSeenOf};
 
     ghost Value = { ReaderPages };
 
-    ghost view = { λ r. reader_pages r.known.table r.seen.value.pages (lists_of r.told) };
+    ghost view = { λ r. reader_pages r.known.table r.seen.value.pages (told_lists r.told) };
 
-    ghost invariant = { λ r. IsSeenOf r.known.table r.taker.place.me.0.client × IsPrefix r.seen.value.pages r.known.pages × AllBegin (lists_of r.told) r.known.pages };
+    ghost invariant = { λ r. IsSeenOf r.known.table r.taker.place.me.0.client × IsPrefix r.seen.value.pages r.known.pages × AllBegin (told_lists r.told) r.known.pages };
 }
 
 // The longer of two lists of pages.

@@ -1,7 +1,7 @@
 //! The roll of a board: the list of its pages. The proofs alone have it; in memory it is one number, how many they are.
 ghost use Rattle.std.specs.Prelude.{◌≡◌, ◌<◌, ◌^◌, ◌++◌, ◌∷◌, [], length, MatchBool};
 ghost use mathlib.Core.List.{IsPrefix};
-ghost use Rattle.screen_read.specs.Roll.{head_of};
+ghost use Rattle.screen_read.specs.Roll.{book_head};
 
 use crate::page::Page;
 use logbook::{Gain, Offer, Plain, Play, Rule, Seen, Start, Word};
@@ -61,7 +61,7 @@ pub type Part = Seen<Page, u64, OneRoll>;
 
 /// A new roll, with no page.
 pub(crate) fn open() -> (Head, Part)
-    ensures head { result.0 ≡ head_of result.1.book }
+    ensures head { result.0 ≡ book_head result.1.book }
     ensures empty { result.1.log ≡ [] }
 {
     let (part, mut first, _second) = Seen::open(Start::alone(), 0, 0);
@@ -70,7 +70,7 @@ pub(crate) fn open() -> (Head, Part)
 
 /// Adds a page, and says whether it did. It did not where the roll is longer than the part.
 pub(crate) fn enlist(head: &Head, part: &mut Part, number: u64, page: &Page) -> bool
-    requires head { head.now ≡ head_of part.old.book }
+    requires head { head.now ≡ book_head part.old.book }
     requires number { number ≡ length part.old.log }
     requires room { number < 2 ^ 62 }
     ensures book { part.new.book ≡ part.old.book }

@@ -3,7 +3,7 @@ ghost use Rattle.std.specs.Prelude.{◌≡◌, ◌++◌, ◌∷◌, [], IfOk, Ma
 ghost use mathlib.Core.List.{IsPrefix};
 ghost use Rattle.screen_read.specs.Pages.{IsAscending, IsNewest};
 ghost use Rattle.screen_read.specs.Ends.{board_pages};
-ghost use Rattle.screen_read.specs.Roll.{head_of};
+ghost use Rattle.screen_read.specs.Roll.{book_head};
 
 use crate::page::Page;
 use crate::roll::{Head, Part, enlist, open};
@@ -40,7 +40,7 @@ impl Model for Shown {
 impl Shown {
     /// A new board, with its first page.
     pub(crate) fn first(page: Page) -> Result<(Head, Shown), NoMemory>
-        ensures head { IfOk result (λ r. r.0 ≡ head_of r.1.table) }
+        ensures head { IfOk result (λ r. r.0 ≡ book_head r.1.table) }
         ensures pages { IfOk result (λ r. r.1.pages ≡ page ∷ []) }
     {
         let (head, mut part) = open();
@@ -57,7 +57,7 @@ impl Shown {
 
     /// The pages with one more, which goes onto the roll. Fails where the roll has more pages than these.
     pub(crate) fn followed(&self, head: &Head, page: Page) -> Result<Shown, NoMemory>
-        requires head { head.now ≡ head_of self.now.table }
+        requires head { head.now ≡ book_head self.now.table }
         requires up { IsAscending (self.now.pages ++ page ∷ []) }
         ensures { IfOk result (λ s. s ≡ board_pages self.now.table (self.now.pages ++ page ∷ [])) }
     {

@@ -35,13 +35,13 @@ pub(crate) struct PageWriter<'a, R: Wait> {
 impl<'a, R: Wait> Model for PageWriter<'a, R> {
     ghost use Rattle.std.specs.Prelude.{◌≡◌};
     ghost use Rattle.screen_read.specs.Ends.{BoardPages};
-    ghost use Rattle.screen_read.specs.Roll.{head_of};
+    ghost use Rattle.screen_read.specs.Roll.{book_head};
 
     ghost Value = { BoardPages };
 
     ghost view = { λ w. w.newest };
 
-    ghost invariant = { λ w. (w.shower.desk.shown.value ≡ w.newest) × (w.head ≡ head_of w.newest.table) };
+    ghost invariant = { λ w. (w.shower.desk.shown.value ≡ w.newest) × (w.head ≡ book_head w.newest.table) };
 }
 
 impl<R: Wait> Drop for PageWriter<'_, R> {

@@ -10,9 +10,9 @@ ReadFails Bad read = read ≡ None
 ReadFails NoMemory read = Unit {0}
 
 -- what was returned is what reading gives, unless memory is wanting
-abbrev pub Reads : {A : Type 0} → Result A LineFail → Option A → Type 0
-Reads (Ok x) read = read ≡ Some x
-Reads (Err e) read = ReadFails e read
+abbrev pub ReadsAs : {A : Type 0} → Result A LineFail → Option A → Type 0
+ReadsAs (Ok x) read = read ≡ Some x
+ReadsAs (Err e) read = ReadFails e read
 
 -- the same for items in a vector
 abbrev pub ReadsItems : {A : Type 0} → Result (Vec A) LineFail → Option (List A) → Type 0
