@@ -1,7 +1,8 @@
 //! Why there is no certificate.
+ghost use Rattle.std.specs.Prelude.{◌≡◌};
+ghost use Rattle.audit_cert.specs.declared.fail.CertFail.TheVariants as fails;
 
 use element_name::NoMemory;
-use std::alloc::AllocError;
 
 /// Why messages have no certificate.
 #[derive(Clone, Copy, Debug, PartialEq, Eq)]
@@ -13,23 +14,9 @@ pub enum CertFail {
 }
 
 impl From<NoMemory> for CertFail {
-    ghost use Rattle.std.specs.Prelude.{◌≡◌};
-    ghost use Rattle.audit_cert.specs.declared.fail.CertFail.TheVariants as fails;
-
     ghost from_gives = { λ _ f. f ≡ fails.NoMemory };
 
     fn from(_e: NoMemory) -> CertFail {
-        CertFail::NoMemory
-    }
-}
-
-impl From<AllocError> for CertFail {
-    ghost use Rattle.std.specs.Prelude.{◌≡◌};
-    ghost use Rattle.audit_cert.specs.declared.fail.CertFail.TheVariants as fails;
-
-    ghost from_gives = { λ _ f. f ≡ fails.NoMemory };
-
-    fn from(_e: AllocError) -> CertFail {
         CertFail::NoMemory
     }
 }

@@ -1,8 +1,9 @@
 //! Why bytes are no journal with its certificate.
+ghost use Rattle.std.specs.Prelude.{◌≡◌};
+ghost use Rattle.audit_cert.specs.declared.fault.AuditFault.TheVariants as faults;
 
 use edit_frame::FrameFault;
 use element_name::NoMemory;
-use std::alloc::{AllocError, AllocFailed};
 
 /// Why bytes are no journal with its certificate. Of several reasons the first is told.
 #[derive(Clone, Copy, Debug, PartialEq, Eq)]
@@ -20,34 +21,9 @@ pub enum AuditFault {
 }
 
 impl From<NoMemory> for AuditFault {
-    ghost use Rattle.std.specs.Prelude.{◌≡◌};
-    ghost use Rattle.audit_cert.specs.declared.fault.AuditFault.TheVariants as faults;
-
     ghost from_gives = { λ _ f. f ≡ faults.NoMemory };
 
     fn from(_e: NoMemory) -> AuditFault {
-        AuditFault::NoMemory
-    }
-}
-
-impl From<AllocError> for AuditFault {
-    ghost use Rattle.std.specs.Prelude.{◌≡◌};
-    ghost use Rattle.audit_cert.specs.declared.fault.AuditFault.TheVariants as faults;
-
-    ghost from_gives = { λ _ f. f ≡ faults.NoMemory };
-
-    fn from(_e: AllocError) -> AuditFault {
-        AuditFault::NoMemory
-    }
-}
-
-impl<T: Drop> From<AllocFailed<T>> for AuditFault {
-    ghost use Rattle.std.specs.Prelude.{◌≡◌};
-    ghost use Rattle.audit_cert.specs.declared.fault.AuditFault.TheVariants as faults;
-
-    ghost from_gives = { λ _ f. f ≡ faults.NoMemory };
-
-    fn from(_e: AllocFailed<T>) -> AuditFault {
         AuditFault::NoMemory
     }
 }

@@ -66,6 +66,8 @@ pub fn certify(
 {
     let basis = Basis::of(alloc, TombSeq::new(alloc), journal)?;
     let lines = certificate_of(alloc, &basis, journal)?;
-    out.extend_from_slice(&lines)?;
+    let Ok(()) = out.extend_from_slice(&lines) else {
+        return Err(CertFail::NoMemory);
+    };
     Ok(())
 }

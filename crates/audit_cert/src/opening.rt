@@ -58,6 +58,8 @@ pub(crate) fn open(alloc: Global, bytes: &[u8]) -> Result<Opened<'_>, AuditFault
         if is_end_frame(&frame) {
             return Ok(Opened { frames, told: rest });
         }
-        frames.push(frame)?;
+        let Ok(()) = frames.push(frame) else {
+            return Err(AuditFault::NoMemory);
+        };
     }
 }
