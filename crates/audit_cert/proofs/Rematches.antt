@@ -1,12 +1,11 @@
 -- Where the same authorization stays the first that matches.
-use Rattle.std.proofs.Common.{◌≡◌, ℕ, zero, suc, ◌+◌, ◌-◌, ◌<◌, ◌≤◌, Bool, true, false, cond, List, [], ◌∷◌, take, drop, length, Some, None, refl, sym, ap, ◌∙◌, ⊎_elim, arith, eqb, add-one}
-use Rattle.std.specs.Prelude.{◌&&◌, ◌||◌, nat_lt, find, remove, slice_get, option_and_then, if◌then◌else◌}
+use Rattle.std.proofs.Common.{◌≡◌, ℕ, zero, suc, ◌+◌, ◌-◌, ◌<◌, ◌≤◌, Bool, true, false, cond, List, [], ◌∷◌, take, drop, length, Some, None, refl, sym, ap, ◌∙◌, arith, eqb, add-one}
+use Rattle.std.specs.Prelude.{◌&&◌, find, remove, slice_get, option_and_then}
 use Rattle.std.specs.declared.option.Option.{Option}
 use Rattle.std.specs.Option.{option_map_or}
 use Rattle.std.specs.List.{list_any}
 use Rattle.std.proofs.Math.ListN.{take-append-drop}
-use Rattle.std.proofs.lemmas.Bool.{cases_Bool, or_parts}
-use Rattle.std.proofs.lemmas.Bool.Decides.{nat_tests}
+use Rattle.std.proofs.lemmas.Bool.{or_parts}
 use Rattle.element_name.specs.Cases.{when}
 use Rattle.element_name.specs.Name.{Name}
 use Rattle.element_name.specs.Numbered.{put_by, without}
@@ -27,31 +26,13 @@ use Rattle.auth_match.specs.declared.verdict.Verdict.TheVariants.{Granted}
 use Rattle.auth_match.specs.Requests.{request_verdict}
 use Rattle.auth_match.specs.Verdict.{matches, has_user, has_right, object_covers}
 use Rattle.auth_match.proofs.FirstMatches.{find_same, outcome, more_off, less_off}
+use Rattle.auth_match.proofs.ReachCases.{put_other, without_other}
 use Rattle.admin_log.specs.Log.{policy_at, entry_at}
 use Rattle.check_remote.specs.State.{verdict_at}
 use Rattle.check_remote.proofs.Walks.{entry_next, no_next, next_policy}
 use Rattle.audit_cert.specs.declared.rematch.RematchTable.{RematchTable}
 use Rattle.audit_cert.specs.Grants.{granting_auth, granting_at}
 use Rattle.audit_cert.specs.Rematches.{rematch_reach, may_rematch_at, is_noted, IsRematchTable}
-
--- ---- another number that comes or goes
-
-put_other : (v u : ℕ) (numbers : List ℕ) → eqb v u ≡ false → has_number (put_by (λ n. n) v numbers) u ≡ has_number numbers u
-put_other v u [] h = rw h refl
-put_other v u (m ∷ numbers) h = by (nat_lt v m) (put_other v u numbers h)
-  where
-    by : (b : Bool) → has_number (put_by (λ n. n) v numbers) u ≡ has_number numbers u
-        → has_number (if b then v ∷ m ∷ numbers else m ∷ put_by (λ n. n) v numbers) u ≡ has_number (m ∷ numbers) u
-    by true rest = rw h refl
-    by false rest = ap (λ b. eqb m u || b) rest
-
-without_other : (v u : ℕ) (numbers : List ℕ) → eqb v u ≡ false → has_number (without (λ n. n) v numbers) u ≡ has_number numbers u
-without_other v u [] h = refl
-without_other v u (m ∷ numbers) h =
-    ⊎_elim
-    (λ (t : eqb m v ≡ true). let other : eqb m u ≡ false = grind (arith, nat_tests, t, h) in rw (t, other) (without_other v u numbers h))
-    (λ (f : eqb m v ≡ false). rw f (ap (λ b. eqb m u || b) (without_other v u numbers h)))
-    (cases_Bool (eqb m v))
 
 -- a user outside a list of one
 outside_one : (v u : ℕ) → has_number (v ∷ []) u ≡ false → eqb v u ≡ false
