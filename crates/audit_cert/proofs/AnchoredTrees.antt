@@ -246,3 +246,14 @@ module _ (es : List (Name × Name)) (n after : Name) (h : IsAnchored es) (free :
       sym (same_law (placed ++ p ∷ []) (placed_from (insert_entry name_cmp es n after)) tree (tree_law (insert_entry name_cmp es n after) new)
       (IsPermutation-trans (placed ++ p ∷ []) (p ∷ placed) (placed_from (insert_entry name_cmp es n after)) (IsPermutation-append_comm placed (p ∷ [])) moved))
       ∙ skip_law placed p tree
+
+-- a name that may come is put in behind its anchor: the anchors are those of elements again, and the name stands in the order
+pub name_put : (es fs : List (Name × Name)) (names : List Name) (n after : Name) → IsAnchored es → order (placed_from es) ≡ names → insert_fault names n after ≡ None
+    → fs ≡ insert_entry name_cmp es n after → IsStrictlySortedBy name_cmp (keys_of fs) → IsAnchored fs × (order (placed_from fs) ≡ with_fresh names n after)
+name_put es fs names n after anchored names_are free fs_is ordered =
+    let comes : insert_fault (order (placed_from es)) n after ≡ None = ap (λ (ns : List Name). insert_fault ns n after) names_are ∙ free in
+    let kept : IsAnchored (insert_entry name_cmp es n after)
+    = anchored_put es n after anchored comes (subst (λ (gs : List (Name × Name)). IsStrictlySortedBy name_cmp (keys_of gs)) fs_is ordered) in (
+      subst IsAnchored (sym fs_is) kept,
+      ap (λ (gs : List (Name × Name)). order (placed_from gs)) fs_is ∙ order_put es n after anchored comes kept ∙ ap (λ (ns : List Name). with_fresh ns n after) names_are,
+    )

@@ -8,6 +8,7 @@ use Rattle.std.specs.declared.cmp.Ordering.TheVariants.{Less}
 use Rattle.std.specs.Ordering.{nat_cmp, is_gt}
 use Rattle.std.specs.BTreeMap.{is_at}
 use Rattle.std.specs.BTreeSet.{BTreeSet, contains, IsKeyRangeOf}
+use Rattle.std.proofs.Math.Bool.{or-true, or-false}
 use Rattle.std.proofs.lemmas.Bool.{cases_Bool, false_from_ne_true}
 use Rattle.std.proofs.lemmas.Bool.Decides.{nat_tests}
 use Rattle.std.proofs.lemmas.Option.{slice_get_past}
@@ -94,13 +95,8 @@ one_of_all old new a put same v u =
     ∙ by (eqb v a) (contains nat_cmp old.all v) (contains rematch_cmp old.single (pair u v))
   where
     by : (e x y : Bool) → (cond e true x || y) ≡ ((x || y) || (e && true))
-    by true true true = refl
-    by true true false = refl
-    by true false true = refl
-    by true false false = refl
-    by false true y = refl
-    by false false true = refl
-    by false false false = refl
+    by true x y = sym (or-true (x || y))
+    by false x y = sym (or-false (x || y))
 
 pub one_of_user : (old new : RematchTable) (a u : ℕ) → ((q : Rematch) → contains rematch_cmp new.single q ≡ cond (is_at (rematch_cmp (pair u a)) q) true (contains rematch_cmp old.single q))
     → new.all ≡ old.all → NotesMore old new a (λ w. eqb u w)
@@ -111,12 +107,8 @@ one_of_user old new a u put same v w =
     ∙ by (eqb v a && eqb u w) (contains nat_cmp old.all v) (contains rematch_cmp old.single (pair w v))
   where
     by : (e x y : Bool) → (x || cond e true y) ≡ ((x || y) || e)
-    by true true y = refl
-    by true false true = refl
-    by true false false = refl
-    by false true y = refl
-    by false false true = refl
-    by false false false = refl
+    by true x y = or-true x ∙ sym (or-true (x || y))
+    by false x y = sym (or-false (x || y))
 
 -- ---- the versions of a log
 
