@@ -4,6 +4,7 @@ use Rattle.std.specs.Prelude.{option_to_list, sum_by, if◌then◌else◌}
 use Rattle.std.specs.List.{list_any}
 use Rattle.std.specs.declared.result.Result.{Result}
 use Rattle.std.proofs.lemmas.List.Sums.{sum_by-cons}
+use Rattle.element_name.specs.declared.no_memory.NoMemory.{NoMemory}
 use Rattle.line_engine.specs.declared.status.Status.{Status}
 use Rattle.line_engine.specs.declared.status.Status.TheVariants as status
 use Rattle.line_engine.specs.Status.{IsSinkFail}
@@ -16,12 +17,13 @@ use Rattle.link_run.specs.declared.own.OwnEnd.{OwnEnd}
 use Rattle.link_run.specs.declared.own.OwnEnd.TheVariants as own_end
 use Rattle.line_input.specs.declared.reading.InputEnd.{InputEnd}
 use Rattle.line_input.specs.declared.reading.InputEnd.TheVariants as input_end
-use Rattle.link_run.specs.Counts.{failures_in}
+use Rattle.link_run.specs.declared.left.LinkRun.{LinkRun}
+use Rattle.link_run.specs.Counts.{failures_in, links_hurt, door_failures}
 use Rattle.form_link.specs.declared.faults.Fault.{Fault}
 use Rattle.form_link.specs.Faults.{own_fault, link_faults, faults_of}
 use Rattle.form_link.specs.Lines.{wants_memory, first_status, faults_status}
 use Rattle.form_link.specs.Report.{link_output}
-use Rattle.form_link.specs.Form.{DoorState, DoorAfter, HasLinkCause}
+use Rattle.form_link.specs.Form.{HasLinkCause}
 
 -- some link has failed
 abbrev Failed : List (Option (Result ℕ SessionFault)) → Type 0
@@ -65,30 +67,30 @@ status_first faults = by (list_any wants_memory faults)
     by true e = absurd cc
     by false e = e
 
-module _ {L : Type 0} (d d' : DoorState L) (failed : Bool) (outcomes : List (Option (Result ℕ SessionFault))) (after : DoorAfter d d' failed outcomes) where
-  counted : (failed ≡ true) ⊎ Failed outcomes → (d.faults < d'.faults) ⊎ (d.hurt < d'.hurt)
+-- a run that was told, and what it added to the counts of the door
+module _ (faults faults' hurt hurt' : ℕ) (r : Result LinkRun NoMemory) (run : LinkRun) (is : r ≡ Ok run) (faults_are : faults' ≡ faults + door_failures r) (hurt_are : hurt' ≡ hurt + links_hurt r) where
+  counted : (run.door_failed ≡ true) ⊎ Failed run.links.items → (faults < faults') ⊎ (hurt < hurt')
   counted (inl e) =
-      let grown : d'.faults ≡ d.faults + 1 = after.faults_are ∙ ap (λ (b : Bool). d.faults + (if b then 1 else 0)) e in
+      let grown : faults' ≡ faults + 1 = faults_are ∙ ap (λ (x : Result LinkRun NoMemory). faults + door_failures x) is ∙ ap (λ (b : Bool). faults + (if b then 1 else 0)) e in
       inl (omega arith)
   counted (inr lt) =
-      let grown : d'.hurt ≡ d.hurt + sum_by failures_in outcomes = after.hurt_are in
-      let some : 0 < sum_by failures_in outcomes = lt in
+      let grown : hurt' ≡ hurt + sum_by failures_in run.links.items = hurt_are ∙ ap (λ (x : Result LinkRun NoMemory). hurt + links_hurt x) is in
+      let some : 0 < sum_by failures_in run.links.items = lt in
       inr (omega arith)
 
-  pub told_cause : (site : ℕ) (run : List Call) (end : InputEnd) (own : Option OwnEnd) (a b : Option (List ℕ)) (s : Status)
-      → (w : List ℕ) × Says a b s (link_output site run (faults_of failed end own outcomes)) w → HasLinkCause d.faults d'.faults d.hurt d'.hurt s
-  told_cause site run end own a b s (w, says) e = by says.given
+  pub told_cause : (site : ℕ) (end : InputEnd) (a b : Option (List ℕ)) (s : Status)
+      → (w : List ℕ) × Says a b s (link_output site run.history (faults_of run.door_failed end run.own run.links.items)) w → HasLinkCause faults faults' hurt hurt' s
+  told_cause site end a b s (w, says) e = by says.given
     where
-      by : (link_output site run (faults_of failed end own outcomes) ≡ record { written = w; status = s }) ⊎ IsSinkFail s → (d.faults < d'.faults) ⊎ (d.hurt < d'.hurt)
-      by (inl is) =
-          let given : faults_status (faults_of failed end own outcomes) ≡ status.LinkFault = ap (λ (o : Output). o.status) is ∙ e in
-          counted (door_first failed end own outcomes (status_first (faults_of failed end own outcomes) given))
-      by (inr (inl is)) = let clash : status.WriteFault ≡ status.LinkFault = sym is ∙ e in absurd cc
-      by (inr (inr is)) = let clash : status.NoMemory ≡ status.LinkFault = sym is ∙ e in absurd cc
+      met : List Fault
+      met = faults_of run.door_failed end run.own run.links.items
 
--- want of memory is no link fault
-pub no_memory_cause : (f f' h h' : ℕ) → HasLinkCause f f' h h' status.NoMemory
-no_memory_cause f f' h h' e = absurd cc
+      by : (link_output site run.history met ≡ record { written = w; status = s }) ⊎ IsSinkFail s → (faults < faults') ⊎ (hurt < hurt')
+      by (inl whole) =
+          let given : faults_status met ≡ status.LinkFault = ap (λ (o : Output). o.status) whole ∙ e in
+          counted (door_first run.door_failed end run.own run.links.items (status_first met given))
+      by (inr (inl failed)) = let clash : status.WriteFault ≡ status.LinkFault = sym failed ∙ e in absurd cc
+      by (inr (inr wanting)) = let clash : status.NoMemory ≡ status.LinkFault = sym wanting ∙ e in absurd cc
 
 -- what was said of faults was said of these
 pub told_so : (site : ℕ) (run : List Call) (fs gs : List Fault) (a b : Option (List ℕ)) (s : Status) → fs ≡ gs → (w : List ℕ) × Says a b s (link_output site run fs) w → (w : List ℕ) × Says a b s (link_output site run gs) w

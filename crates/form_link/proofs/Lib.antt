@@ -2,5 +2,4 @@ mod Causes
 mod Complete
 mod Doors
 mod Listing
-mod Statuses
 mod Tellings

@@ -1,8 +1,8 @@
 -- A report, and then lines.
-use Rattle.std.proofs.Common.{◌≡◌, ◌≢◌, ℕ, List, [], ◌++◌, ◌⊎◌, inl, inr, refl, sym, ap, ◌∙◌, subst, append_assoc}
+use Rattle.std.proofs.Common.{◌≡◌, ◌≢◌, ℕ, List, ◌++◌, ◌⊎◌, inl, inr, refl, sym, ap, ◌∙◌, subst, append_assoc}
 use Rattle.std.specs.declared.option.Option.{Option}
 use Rattle.std.specs.Io.KnownBytes.{Appends}
-use Rattle.std.proofs.KnownBytes.{Appends-trans, Appends-nil}
+use Rattle.std.proofs.KnownBytes.{Appends-trans}
 use Rattle.line_engine.specs.declared.status.Status.{Status}
 use Rattle.line_engine.specs.declared.status.Status.TheVariants.{Done, WriteFault, NoMemory}
 use Rattle.line_engine.specs.Status.{IsSinkFail}
@@ -70,10 +70,6 @@ pub says_wanting : (a b : Option (List ℕ)) (bytes : List ℕ) (status s t : St
 says_wanting a b bytes status s t e (w, says) =
     (w, record { appends = says.appends; ends = cut_short t w (out_with bytes status) (inr e) says.ends.begun; given = inr (inr e) })
 
--- nothing was said, for want of memory
-pub says_none : (a : Option (List ℕ)) (out : Output) → (w : List ℕ) × Says a a NoMemory out w
-says_none a out = ([], record { appends = Appends-nil a; ends = cut_short NoMemory [] out (inr refl) (out.written, refl); given = inr (inr refl) })
-
 -- the lines are those of an output
 pub says_of : (a b : Option (List ℕ)) (front lines more : List ℕ) (status first s : Status) → lines ≡ more → status ≡ first → (w : List ℕ) × Says a b s (out_with (front ++ lines) status) w
     → (w : List ℕ) × Says a b s (out_with (front ++ more) first) w
@@ -91,6 +87,3 @@ caused_then before between now r s done first next =
 
 pub caused_told : (before now : ℕ) (s : Status) → StatusCause before now s WriteFault → SinkCause before now s
 caused_told before now s c = record { later = c.later; rose = c.rose; stayed = λ other full. c.stayed other }
-
-pub caused_wanting : (before now : ℕ) (s : Status) → StatusCause before now s WriteFault → SinkCause before now NoMemory
-caused_wanting before now s c = record { later = c.later; rose = λ e. absurd cc; stayed = λ other full. absurd (full refl) }

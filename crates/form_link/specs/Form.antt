@@ -1,5 +1,5 @@
 -- What a form that runs a peer over links leaves.
-use Rattle.std.specs.Prelude.{◌≡◌, ℕ, ◌+◌, ◌<◌, Bool, false, List, [], Option, Result, ◌⊎◌, length, sum_by, if◌then◌else◌}
+use Rattle.std.specs.Prelude.{◌≡◌, ◌≢◌, ℕ, ◌+◌, ◌<◌, Bool, false, List, [], Option, Result, ◌⊎◌, length, sum_by, if◌then◌else◌}
 use Rattle.line_engine.specs.declared.status.Status.{Status}
 use Rattle.line_engine.specs.declared.status.Status.TheVariants.{LinkFault, NoMemory}
 use Rattle.line_engine.specs.Engine.{Says}
@@ -8,7 +8,7 @@ use Rattle.peer_lock.specs.declared.call.Call.{Call}
 use Rattle.session_core.specs.declared.fault.SessionFault.{SessionFault}
 use Rattle.link_run.specs.declared.own.OwnEnd.{OwnEnd}
 use Rattle.line_input.specs.declared.reading.InputEnd.{InputEnd}
-use Rattle.line_input.specs.declared.reading.InputEnd.TheVariants.{Whole}
+use Rattle.line_input.specs.declared.reading.InputEnd.TheVariants as input_end
 use Rattle.link_run.specs.Ends.{ServeEnds, DialEnds, AloneEnds}
 use Rattle.link_run.specs.Counts.{failures_in}
 use Rattle.form_link.specs.Faults.{faults_of}
@@ -42,11 +42,12 @@ Serves got sent faults closes site links steps d d' = ServeEnds got sent faults 
 
 -- a link was dialled behind these steps; where their input had a fault none was asked for
 abbrev pub Dials : {L : Type 0} → (L → Option (List (List ℕ))) → (L → Option (List (List ℕ))) → (L → ℕ) → (L → ℕ) → ℕ → ℕ → InputEnd → List Step → DoorState L → DoorState L → RunEnds
-Dials got sent faults closes site rounds Whole steps d d' = DialEnds got sent faults closes site rounds steps d.used d'.used
+Dials got sent faults closes site rounds input_end.Whole steps d d' = DialEnds got sent faults closes site rounds steps d.used d'.used
 Dials got sent faults closes site rounds end steps d d' = λ own failed outcomes run. AloneEnds steps own failed outcomes run × (d'.used ≡ d.used)
 
--- a run was made, and its report was written and the faults that were met behind it
+-- reading had memory, a run was made, and its report was written and the faults that were met behind it
 pub record ToldRun {L : Type 0} (Ends : RunEnds) (site : ℕ) (end : InputEnd) (d d' : DoorState L) (sink_old sink_new : Option (List ℕ)) (status : Status) : Type 0 where
+  pub had_memory : end ≢ input_end.NoMemory
   pub own : Option OwnEnd
   pub door_failed : Bool
   pub outcomes : List (Option (Result ℕ SessionFault))
@@ -63,7 +64,7 @@ pub record NothingRun {L : Type 0} (d d' : DoorState L) (sink_old sink_new : Opt
   pub idle : DoorAfter d d' false []
   pub unused : d'.used ≡ d.used
 
--- a run was told, or there was none for want of memory
+-- a run was told, or there was none for want of memory, as wherever reading the input ended so
 abbrev pub RanOrNot : {L : Type 0} → RunEnds → ℕ → InputEnd → DoorState L → DoorState L → Option (List ℕ) → Option (List ℕ) → Status → Type 0
 RanOrNot Ends site end d d' sink_old sink_new status = ToldRun Ends site end d d' sink_old sink_new status ⊎ NothingRun d d' sink_old sink_new status
 

@@ -5,7 +5,6 @@ use Rattle.line_engine.specs.declared.status.Status.{Status}
 use Rattle.line_engine.specs.declared.status.Status.TheVariants as status
 use Rattle.line_engine.specs.Output.{bad_line_text, too_long_text}
 use Rattle.line_spelling.specs.Line.{line_of}
-use Rattle.edit_frame.specs.declared.frame.FrameFault.{FrameFault}
 use Rattle.line_spelling.specs.Values.{spaced}
 use Rattle.report_text.specs.Frame.{frame_kind_words}
 use Rattle.session_core.specs.declared.fault.SessionFault.{SessionFault}

@@ -54,7 +54,8 @@ fn dial_behind<R: Threads + Wait + Sync, D: Door>(
 /// of so many rounds, and writes the report of the run and the faults that were met.
 ///
 /// The input is read first, to its end or to its first fault, and the steps that were read are made. Where the input had
-/// a fault, or the run was full, it doesn't connect. Where memory is wanting before the run, nothing is written.
+/// a fault, or the run was full, it doesn't connect. Where memory is wanting before the run, as while the input is read,
+/// nothing is written.
 ///
 /// It waits for the other side. It takes the time of the steps twice, in the run and in the report, and the memory of
 /// the steps, of the run and of the peer.

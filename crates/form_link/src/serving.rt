@@ -23,7 +23,7 @@ use std::thread::Threads;
 ///
 /// The input is read first, to its end or to its first fault. Then it listens and takes the links, and makes the steps
 /// that were read beside the sessions, also where the input had a fault. Where the door fails, nothing is run, and no
-/// fault of the input is told. Where memory is wanting before the run, nothing is written.
+/// fault of the input is told. Where memory is wanting before the run, as while the input is read, nothing is written.
 ///
 /// It waits for the programs that connect, and then until all sessions have ended. It takes the time of the steps twice,
 /// in the run and in the report, and the memory of the steps, of the run and of the peer.

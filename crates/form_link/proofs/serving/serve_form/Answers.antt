@@ -1,30 +1,13 @@
-use Rattle.std.proofs.Common.{List}
-use Rattle.peer_step.specs.declared.step.Step.{Step}
-use Rattle.line_input.specs.declared.reading.InputEnd.{InputEnd}
-use Rattle.form_link.specs.Form.{door_state, Serves}
 use Rattle.form_link.proofs.Causes.{told_cause}
 use Rattle.form_link.proofs.Doors.{door_ok, form_told}
 use Rattle.form_link.proofs.serving.serve_form.Goals as goal
 
 pub returns-in-Ok-clause-ran : goal.returns-in-Ok-clause-ran
 returns-in-Ok-clause-ran g c =
-    let old = c.args.door.now in
-    let now = c.serve.new.door in
-    let before = door_state (g.D.Door.faults old) (g.D.Door.given old) (g.D.Door.returned old) (g.D.Door.hurt old) (g.D.Door.used old) in
-    let after = door_state (g.D.Door.faults now) (g.D.Door.given now) (g.D.Door.returned now) (g.D.Door.hurt now) (g.D.Door.used now) in
     let did = c.serve.ensures in
-    let door = door_ok before after _ did.given did.returned did.hurt did.faults _ c.in-Ok.is in
-    form_told (λ (xs : List Step) (e : InputEnd). Serves g.D.Line.Link.got g.D.Line.Link.sent g.D.Line.Link.faults g.D.Line.Link.closes c.args.site c.args.links xs before after)
-    c.args.site _ _ _ _ _ _ before after c.read_steps-steps.result.steps.items _ c.read_steps-steps.result.end c.read_steps-steps.ensures.read c.read_steps-steps.ensures.cause
-    _ c.in-Ok.run' c.deref.ensures.value c.in-Ok.ensures.ends door c.tell.ensures.says
+    form_told _ c.args.site _ _ _ _ _ _ _ _ c.read_steps-steps.result.steps.items _ c.read_steps-steps.result.end c.read_steps-steps.ensures.read c.read_steps-steps.ensures.cause
+    _ c.in-Ok.run' c.in_default.not-NoMemory c.deref.ensures.value c.in-Ok.ensures.ends (door_ok _ _ _ did.given did.returned did.hurt did.faults _ c.in-Ok.is) c.tell.ensures.says
 
 pub returns-in-Ok-clause-link_cause : goal.returns-in-Ok-clause-link_cause
 returns-in-Ok-clause-link_cause g c =
-    let old = c.args.door.now in
-    let now = c.serve.new.door in
-    let before = door_state (g.D.Door.faults old) (g.D.Door.given old) (g.D.Door.returned old) (g.D.Door.hurt old) (g.D.Door.used old) in
-    let after = door_state (g.D.Door.faults now) (g.D.Door.given now) (g.D.Door.returned now) (g.D.Door.hurt now) (g.D.Door.used now) in
-    let did = c.serve.ensures in
-    let run = c.in-Ok.run' in
-    told_cause before after run.door_failed run.links.items (door_ok before after _ did.given did.returned did.hurt did.faults _ c.in-Ok.is)
-    c.args.site run.history c.read_steps-steps.result.end run.own _ _ _ c.tell.ensures.says
+    told_cause _ _ _ _ _ _ c.in-Ok.is c.serve.ensures.faults c.serve.ensures.hurt c.args.site c.read_steps-steps.result.end _ _ _ c.tell.ensures.says
