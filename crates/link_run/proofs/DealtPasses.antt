@@ -14,7 +14,7 @@ use Rattle.peer_lock.specs.Run.{steps_by, peer_after_run}
 use Rattle.peer_lock.specs.Laws.{steps_below}
 use Rattle.peer_lock.specs.Answers.{ClosesRun}
 use Rattle.peer_lock.proofs.ByCaller.{all_owned}
-use Rattle.peer_lock.specs.Dealt.{Dealt, Others, IsDealt}
+use Rattle.peer_lock.specs.Dealt.{Dealt, Others}
 use Rattle.link_run.specs.declared.job.Job.{Job}
 use Rattle.link_run.specs.Gathered.{EachOf}
 use Rattle.link_run.specs.Jobs.{passes_of}
@@ -23,15 +23,6 @@ use Rattle.link_run.proofs.Wholly.{has_one}
 
 pub same_some : {A : Type 0} (x y : A) → Some x ≡ Some y → x ≡ y
 same_some x y e = get_or_from_slice_get (x ∷ []) 0 y x e
-
--- the first of the passes
-pub first_dealt : (table : TableId) (site passes : ℕ) (ks : List KnownPass) (k : KnownPass) → Dealt table site passes ks → 0 < passes → k ≡ slice_index_or ks 0 k
-    → (k.table ≡ table) × (k.view ≡ newcomer 0 passes site)
-first_dealt table site passes [] k dealt some e = absurd (omega (arith, dealt.all))
-first_dealt table site passes (x ∷ xs) k dealt some e =
-    let d = dealt.each 0 some in
-    let same : d.0 ≡ k = sym (same_some x d.0 d.1) ∙ sym e in
-    subst (λ (y : KnownPass). IsDealt table site passes 0 y) same d.2
 
 -- all others
 pub others_dealt : (table : TableId) (site passes : ℕ) (ks : List KnownPass) → Dealt table site passes ks → 0 < passes → Others table site passes (remove ks 0)

@@ -1,5 +1,5 @@
 -- From what the parts leave to how a whole run ends.
-use Rattle.std.proofs.Common.{◌≡◌, ◌==◌, ℕ, ◌+◌, Bool, List, ◌++◌, Option, Result, Ok, Err, length, refl, sym, ap, ◌∙◌, subst, arith}
+use Rattle.std.proofs.Common.{◌≡◌, ◌==◌, ℕ, ◌+◌, Bool, List, Option, Result, Ok, Err, length, refl, sym, ap, ◌∙◌, subst, arith}
 use Rattle.std.specs.Prelude.{slice_get, sum_by, IfErr}
 use Rattle.atomic_table.specs.Seated.{TableId}
 use Rattle.edit_io.specs.Door.{IsUnused}
@@ -18,7 +18,6 @@ use Rattle.session_core.specs.Events.{Mode, serving}
 use Rattle.session_core.specs.Session.{side, Session, pass_steps, pass_answers, closed_by, faults_after_session, FullIsKnown}
 use Rattle.link_run.specs.declared.job.Job.{Job}
 use Rattle.link_run.specs.declared.own.OwnEnd.{OwnEnd}
-use Rattle.link_run.specs.declared.own.OwnEnd.TheVariants.{Done}
 use Rattle.link_run.specs.Gathered.{EachOf, IsIn}
 use Rattle.link_run.specs.Jobs.{links_of}
 use Rattle.link_run.specs.Taken.{IsUnservedJob}
@@ -69,11 +68,6 @@ own_in_run k l table site steps r p run new sole made closes =
     let mine : HasNumber l.view.numbers 0 = has_one 0 l.view.numbers sole.numbers_are in
     own_steps_in_run k.view l.view 1 site steps r run new (closes.steps 0 mine) closes.floor made
 
--- all own steps were made
-pub own_steps : (k l : KnownPass) (site : ℕ) (steps : List Step) → k.view ≡ newcomer 0 1 site → IsSame k l → MakesOwn k.view l.view steps Done → pass_steps l ≡ steps
-own_steps k l site steps new same made =
-    ap (λ (n : ℕ). steps_by n l.view.seen) same.number ∙ made ∙ ap (λ (v : View). steps_by v.number v.seen ++ steps) new
-
 -- a session behind them
 talked_behind : {L : Type 0} (got sent : L → Option (List (List ℕ))) (faults closes : L → ℕ) (mode : Mode) (site : ℕ) (k l : KnownPass) (a b : L) (ended : Result ℕ SessionFault) (run : List Call)
     → Session mode (side k (got a) (sent a)) (side l (got b) (sent b)) ended
@@ -110,14 +104,6 @@ dial_ends_at got sent faults closes site rounds steps used used' own own' failed
     subst (λ (x : Option OwnEnd). DialEnds got sent faults closes site rounds steps used used' x failed outcomes run) (sym e)
     (subst (λ (x : Bool). DialEnds got sent faults closes site rounds steps used used' own' x outcomes run) (sym f)
     (subst (λ (x : List (Option (Result ℕ SessionFault))). DialEnds got sent faults closes site rounds steps used used' own' failed' x run) (sym g) ends))
-
--- of the same steps, and the same door before
-pub dial_ends_of : {L : Type 0} (got sent : L → Option (List (List ℕ))) (faults closes : L → ℕ) (site rounds : ℕ) (steps steps' : List Step) (used0 used used' : Option (List L)) (own : Option OwnEnd) (failed : Bool) (outcomes : List (Option (Result ℕ SessionFault))) (run : List Call)
-    → steps ≡ steps' → used0 ≡ used
-    → DialEnds got sent faults closes site rounds steps used0 used' own failed outcomes run → DialEnds got sent faults closes site rounds steps' used used' own failed outcomes run
-dial_ends_of got sent faults closes site rounds steps steps' used0 used used' own failed outcomes run e f ends =
-    subst (λ (x : List Step). DialEnds got sent faults closes site rounds x used used' own failed outcomes run) e
-    (subst (λ x. DialEnds got sent faults closes site rounds steps x used' own failed outcomes run) f ends)
 
 -- ---- many links
 

@@ -4,7 +4,7 @@ ghost use Rattle.peer_lock.specs.Answers.{IsSame};
 ghost use Rattle.link_run.specs.Worked.{MakesOwn};
 
 use peer_lock::{Pass, SharedPeer, StepFail};
-use peer_step::{Answer, Step};
+use peer_step::Step;
 use std::alloc::Global;
 use std::sync::Wait;
 use std::thread::Threads;
@@ -39,13 +39,10 @@ pub(crate) fn make_own<R: Threads + Wait + Sync>(
             return (pass, OwnEnd::NoMemory);
         };
         match shared.step(rt, alloc, &mut pass, copy) {
-            Ok(answer) => forget(answer),
+            Ok(answer) => drop(answer),
             Err(StepFail::RunFull) => return (pass, OwnEnd::RunFull),
             Err(StepFail::NoMemory) => return (pass, OwnEnd::NoMemory),
         }
     }
     (pass, OwnEnd::Done)
 }
-
-// Lets an answer go, whatever it is.
-fn forget(_answer: Answer) {}

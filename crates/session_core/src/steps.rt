@@ -1,7 +1,7 @@
 //! The steps of a session on the shared peer.
 ghost use Rattle.std.specs.Prelude.{◌≡◌, ℕ, List, true};
 ghost use Rattle.std.specs.declared.option.Option.{Option};
-ghost use Rattle.session_core.specs.Events.{SessionState, Mode, ReceivesItem, Settles, Listens, in_phase, item_in};
+ghost use Rattle.session_core.specs.Events.{SessionState, Mode, ReceivesItem, Listens, in_phase, item_in};
 ghost use Rattle.session_core.specs.Session.{side};
 ghost use Rattle.session_core.specs.Pieces.{KeepsPass, GetsTo, MakesStep, LooksAt};
 ghost use Rattle.session_core.specs.Clearing.{TakenOnce, clearing, after_clearing};
@@ -103,27 +103,6 @@ pub(crate) fn clear<R: Threads + Wait + Sync>(
     unreachable!()
 }
 
-// Lets an answer go, whatever it is.
-fn forget(_answer: Answer) {}
-
-// Receives an item that came.
-fn receive_once<R: Threads + Wait + Sync>(
-    rt: &R,
-    alloc: Global,
-    shared: &SharedPeer,
-    pass: &mut Pass,
-    message: Message,
-) -> Result<(), SessionFault>
-    requires { pass.old.table ≡ shared.now }
-    ensures keeps { KeepsPass pass.old pass.new result }
-    ensures talk { (mode : Mode) (s : SessionState) (got sent : Option (List (List ℕ)))
-        → GetsTo mode (in_phase (ReceivesItem message) s) (side pass.old got sent) (side pass.new got sent) result (in_phase Settles s) }
-{
-    let answer = make(rt, alloc, shared, pass, Step::Receive(message))?;
-    forget(answer);
-    Ok(())
-}
-
 /// Receives an item that came, and settles what is due by then.
 pub(crate) fn take_item<R: Threads + Wait + Sync>(
     rt: &R,
@@ -137,6 +116,7 @@ pub(crate) fn take_item<R: Threads + Wait + Sync>(
     ensures talk { (mode : Mode) (s : SessionState) (got sent : Option (List (List ℕ)))
         → GetsTo mode (in_phase (ReceivesItem message) s) (side pass.old got sent) (side pass.new got sent) result (in_phase Listens s) }
 {
-    receive_once(rt, alloc, shared, pass, message)?;
+    let answer = make(rt, alloc, shared, pass, Step::Receive(message))?;
+    drop(answer);
     clear(rt, alloc, shared, pass, Backlog::Held)
 }
