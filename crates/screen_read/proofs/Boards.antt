@@ -6,7 +6,7 @@ use Rattle.left_right.specs.Register.{Admits, TurnsAt, Forks, Merges}
 use Rattle.atomic_table.proofs.Lists.{at_set, at_snoc}
 use Rattle.logbook.specs.Pages.{Book}
 use Rattle.screen_read.specs.Ends.{BoardPages}
-use Rattle.screen_read.specs.Rule.{IsOnBoard, AreOnBoard, SeesBoard, IsSeenOf}
+use Rattle.screen_read.specs.Rule.{IsOnBoard, AreOnBoard, SeesBoard}
 
 abbrev Views : Type 0
 Views = List (List BoardPages)
@@ -46,10 +46,6 @@ merges seat v other w x views h at apart there =
 pub last_shown : (s x : BoardPages) (before : List BoardPages) → fold (λ (a b : BoardPages). b) s (before ++ x ∷ []) ≡ x
 last_shown s x [] = refl
 last_shown s x (y ∷ before) = last_shown y x before
-
--- what is seen of a view is of its board
-pub still_on : (b : Book) (v w : List BoardPages) (x y : BoardPages) → IsSeenOf b v → SeesBoard v x y w → x.table ≡ b
-still_on b v w x y seen told = let on : IsOnBoard x.table (seen.0 ∷ []) = subst (IsOnBoard x.table) seen.1 told.0 in sym on.0 ∙ seen.2
 
 -- the writer shows the last of these operations, which is of the board
 pub shows : (seat : ℕ) (v : List BoardPages) (x y o : BoardPages) (before pending : List BoardPages) → y ≡ fold (λ (a b : BoardPages). b) x pending → pending ≡ before ++ o ∷ [] → o.table ≡ x.table

@@ -1,5 +1,5 @@
 -- Lists of pages that begin one another, and lists that are read by `get_elem?`.
-use Rattle.std.proofs.Common.{Bool, true, false, MatchBool, ◌≡◌, ◌⊎◌, ℕ, zero, suc, ◌<◌, List, [], ◌∷◌, ◌++◌, length, sym, refl, ap, ◌∙◌, subst, arith, ◌≤◌, length-append, inl, inr, ⊎_elim, append_assoc, append-nil}
+use Rattle.std.proofs.Common.{Bool, true, false, MatchBool, ◌≡◌, ◌⊎◌, ℕ, zero, suc, ◌<◌, List, [], ◌∷◌, ◌++◌, length, sym, refl, ap, ◌∙◌, arith, ◌≤◌, inl, inr, ⊎_elim, append_assoc}
 use lib.Dec.{leb}
 use Rattle.std.proofs.lemmas.Bool.Decides.{nat_tests}
 use mathlib.Core.List.{IsPrefix}
@@ -8,9 +8,6 @@ use lib.ListN.{get_elem?}
 use Rattle.screen_read.specs.Pages.{PageText, IsAscending, AllBegin}
 
 module _ {A : Type 0} where
-  pub prefix_refl : (xs : List A) → IsPrefix xs xs
-  prefix_refl xs = ([], append-nil xs)
-
   pub prefix_more : (xs ys more : List A) → IsPrefix xs ys → IsPrefix xs (ys ++ more)
   prefix_more xs ys more p = (p.0 ++ more, sym (append_assoc xs p.0 more) ∙ ap (λ (l : List A). l ++ more) p.1)
 
