@@ -205,6 +205,14 @@ module _ {D : Type 0} (moment : D → ℕ) (left_since : D → ℕ → List ℕ 
       weakened moment left_since old new (IsBeforeOrAll site is.bodies saved.unsaved) (StandsWithOrWithout site steps more)
       (leaves site is.bodies (keeps_there site steps more saved is (seen old) (may_leave old) on gate there)) (stands_so site steps more saved is)
 
+  -- so it is where the place and what is unsaved are told of what is seen as the same
+  pub inside_put : (new : D) (inside : Saved) (gate : ℕ) → inside ≡ saved → inside.place ≡ gate + length (records inside.unsaved)
+      → ((site : ℕ) (bodies : List (List ℕ)) → Keeps site bodies gate (seen old) (may_leave old) → LeavesOnly moment left_since old new (IsBeforeOrAll site bodies inside.unsaved))
+      → LeavesOnly moment left_since old new (StandsWithOrWithout site steps more)
+  inside_put new inside gate same there leaves =
+      records_put new gate (subst (λ (s : Saved). s.place ≡ gate + length (records s.unsaved)) same there)
+      (subst (λ (s : Saved). (site : ℕ) (bodies : List (List ℕ)) → Keeps site bodies gate (seen old) (may_leave old) → LeavesOnly moment left_since old new (IsBeforeOrAll site bodies s.unsaved)) same leaves)
+
   -- and so the messages that were saved
   pub messages_left : (new : D) → LeavesOnly moment left_since old new (StandsWithOrWithout site steps more) → LeavesOnly moment left_since old new (HasMessages site (safe_messages saved))
   messages_left new leaves = weakened moment left_since old new (StandsWithOrWithout site steps more) (HasMessages site (safe_messages saved)) leaves (has_either site steps more saved is)

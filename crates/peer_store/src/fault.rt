@@ -1,4 +1,8 @@
 //! Why a store gives up.
+ghost use Rattle.std.specs.Prelude.{◌≡◌};
+ghost use Rattle.peer_store.specs.declared.fault.StoreFault.TheVariants as faults;
+ghost use Rattle.peer_store.specs.Faults.{fault_of_load};
+
 use edit_io::Failed;
 use element_name::NoMemory;
 use record_file::LoadFault;
@@ -20,9 +24,6 @@ pub enum StoreFault {
 }
 
 impl From<NoMemory> for StoreFault {
-    ghost use Rattle.std.specs.Prelude.{◌≡◌};
-    ghost use Rattle.peer_store.specs.declared.fault.StoreFault.TheVariants as faults;
-
     ghost from_gives = { λ _ e. e ≡ faults.NoMemory };
 
     fn from(_: NoMemory) -> Self {
@@ -31,10 +32,7 @@ impl From<NoMemory> for StoreFault {
 }
 
 impl From<Failed> for StoreFault {
-    ghost use Rattle.std.specs.Prelude.{◌≡◌};
-    ghost use Rattle.peer_store.specs.declared.fault.StoreFault.TheVariants.{DiskFault};
-
-    ghost from_gives = { λ _ e. e ≡ DiskFault };
+    ghost from_gives = { λ _ e. e ≡ faults.DiskFault };
 
     fn from(_: Failed) -> Self {
         StoreFault::DiskFault
@@ -42,9 +40,6 @@ impl From<Failed> for StoreFault {
 }
 
 impl From<LoadFault> for StoreFault {
-    ghost use Rattle.std.specs.Prelude.{◌≡◌};
-    ghost use Rattle.peer_store.specs.Faults.{fault_of_load};
-
     ghost from_gives = { λ load e. e ≡ fault_of_load load };
 
     fn from(load: LoadFault) -> Self {

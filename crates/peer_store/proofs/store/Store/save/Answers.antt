@@ -1,8 +1,7 @@
 use Rattle.std.proofs.Common.{◌≡◌, ℕ, ◌+◌, ◌++◌, List, length, arith, refl, sym, ap, ◌∙◌, subst}
-use Rattle.record_file.specs.Records.{records, IsBeforeOrAll, Keeps}
-use Rattle.peer_disk.specs.Disk.{LeavesOnly}
+use Rattle.record_file.specs.Records.{records, Keeps}
 use Rattle.peer_store.specs.Store.{Saved}
-use Rattle.peer_store.proofs.Ahead.{nothing_saved, records_put, messages_left, none_saved, all_saved, keeps_there}
+use Rattle.peer_store.proofs.Ahead.{nothing_saved, inside_put, messages_left, none_saved, all_saved, keeps_there}
 use Rattle.peer_store.proofs.store.Store.save.Goals as goal
 
 pub returns-then-self-clause-any_moment : goal.returns-then-self-clause-any_moment
@@ -30,17 +29,13 @@ returns-then-is_empty-clause-saved g c site steps more is on =
 
 pub returns-in-Ok-clause-any_moment : goal.returns-in-Ok-clause-any_moment
 returns-in-Ok-clause-any_moment g c site steps more is on =
-    records_put g.D.Disk.moment g.D.Disk.left_since g.D.Disk.may_leave g.D.Disk.seen site steps more c.args.self.now is c.args.disk.now on c.put_all.new.disk c.self.inside.place
-    (subst (λ (s : Saved). s.place ≡ c.self.inside.place + length (records s.unsaved)) c.self.view_is refl)
-    (subst (λ (s : Saved). (site : ℕ) (bodies : List (List ℕ)) → Keeps site bodies c.self.inside.place (g.D.Disk.seen c.args.disk.now) (g.D.Disk.may_leave c.args.disk.now)
-    → LeavesOnly g.D.Disk.moment g.D.Disk.left_since c.args.disk.now c.put_all.new.disk (IsBeforeOrAll site bodies s.unsaved)) c.self.view_is c.put_all.ensures.any_moment)
+    inside_put g.D.Disk.moment g.D.Disk.left_since g.D.Disk.may_leave g.D.Disk.seen site steps more c.args.self.now is c.args.disk.now on c.put_all.new.disk _ c.self.inside.place
+    c.self.view_is refl c.put_all.ensures.any_moment
 
 pub returns-in-Err-clause-any_moment : goal.returns-in-Err-clause-any_moment
 returns-in-Err-clause-any_moment g c site steps more is on =
-    records_put g.D.Disk.moment g.D.Disk.left_since g.D.Disk.may_leave g.D.Disk.seen site steps more c.args.self.now is c.args.disk.now on c.put_all.new.disk c.self.inside.place
-    (subst (λ (s : Saved). s.place ≡ c.self.inside.place + length (records s.unsaved)) c.self.view_is refl)
-    (subst (λ (s : Saved). (site : ℕ) (bodies : List (List ℕ)) → Keeps site bodies c.self.inside.place (g.D.Disk.seen c.args.disk.now) (g.D.Disk.may_leave c.args.disk.now)
-    → LeavesOnly g.D.Disk.moment g.D.Disk.left_since c.args.disk.now c.put_all.new.disk (IsBeforeOrAll site bodies s.unsaved)) c.self.view_is c.put_all.ensures.any_moment)
+    inside_put g.D.Disk.moment g.D.Disk.left_since g.D.Disk.may_leave g.D.Disk.seen site steps more c.args.self.now is c.args.disk.now on c.put_all.new.disk _ c.self.inside.place
+    c.self.view_is refl c.put_all.ensures.any_moment
 
 pub returns-in-Ok-clause-safe : goal.returns-in-Ok-clause-safe
 returns-in-Ok-clause-safe g c site steps more is on =
