@@ -6,13 +6,12 @@ ghost use Rattle.edit_frame.specs.declared.frame.Frame.TheVariants.{Item};
 ghost use Rattle.edit_frame.specs.Spelling.{spelling};
 ghost use Rattle.edit_frame.specs.Reading.{frame_at};
 ghost use Rattle.editor_lib.specs.declared.journal.JournalFail.TheVariants.{Bad as bad};
-ghost use Rattle.editor_lib.specs.Journal.{SpellsRow};
+ghost use Rattle.editor_lib.specs.Journal.{fail_by, SpellsRow};
 
 use edit_frame::{Frame, FrameFail, first_frame};
 use edit_message::Message;
-use element_name::NoMemory;
 use peer_core::RestoreFail;
-use std::alloc::{AllocFailed, Global};
+use std::alloc::Global;
 
 /// Why bytes give no journal.
 #[derive(Clone, Copy, Debug, PartialEq, Eq)]
@@ -23,32 +22,7 @@ pub enum JournalFail {
     NoMemory,
 }
 
-impl From<NoMemory> for JournalFail {
-    ghost use Rattle.std.specs.Prelude.{◌≡◌};
-    ghost use Rattle.editor_lib.specs.declared.journal.JournalFail.TheVariants as fails;
-
-    ghost from_gives = { λ _ f. f ≡ fails.NoMemory };
-
-    fn from(_e: NoMemory) -> JournalFail {
-        JournalFail::NoMemory
-    }
-}
-
-impl<T: Drop> From<AllocFailed<T>> for JournalFail {
-    ghost use Rattle.std.specs.Prelude.{◌≡◌};
-    ghost use Rattle.editor_lib.specs.declared.journal.JournalFail.TheVariants as fails;
-
-    ghost from_gives = { λ _ f. f ≡ fails.NoMemory };
-
-    fn from(_e: AllocFailed<T>) -> JournalFail {
-        JournalFail::NoMemory
-    }
-}
-
 impl From<RestoreFail> for JournalFail {
-    ghost use Rattle.std.specs.Prelude.{◌≡◌};
-    ghost use Rattle.editor_lib.specs.Journal.{fail_by};
-
     ghost from_gives = { λ fail f. f ≡ fail_by fail };
 
     fn from(fail: RestoreFail) -> JournalFail {
@@ -87,7 +61,9 @@ pub fn messages_of(alloc: Global, bytes: &[u8]) -> Result<Vec<Message>, JournalF
     let mut rest = bytes;
     'messages: while !rest.is_empty() {
         let (message, behind) = next_message(alloc, rest)?;
-        messages.push(message)?;
+        let Ok(()) = messages.push(message) else {
+            return Err(JournalFail::NoMemory);
+        };
         rest = behind;
     }
     Ok(messages)

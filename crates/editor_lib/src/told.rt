@@ -45,7 +45,31 @@ fn message_given(answer: &Answer) -> Result<Option<Message>, NoMemory>
         Answer::Done(request) => Message::Coop(*request),
         Answer::Issued(entry, _) => Message::Admin(entry.copied()?),
         Answer::Item(Some(item)) => item.copied()?,
-        _ => return Ok(None),
+        Answer::BadPlace(_)
+        | Answer::ClockEnd
+        | Answer::HistoryFull
+        | Answer::Denied { .. }
+        | Answer::NotAdministrator
+        | Answer::LogFull
+        | Answer::Refused(_)
+        | Answer::NotHere(_)
+        | Answer::NeedsNone
+        | Answer::AlreadyInvalid(_)
+        | Answer::NothingTentative
+        | Answer::Repeat
+        | Answer::Conflict(_)
+        | Answer::OwnSite
+        | Answer::OwnLog
+        | Answer::Illegal(_)
+        | Answer::HoldFull
+        | Answer::Held(_)
+        | Answer::Taken(_)
+        | Answer::Advanced(_, _)
+        | Answer::Quiet
+        | Answer::Dropped(_, _)
+        | Answer::Settled(_, _)
+        | Answer::Item(None)
+        | Answer::Shown(_) => return Ok(None),
     };
     Ok(Some(message))
 }
