@@ -20,24 +20,12 @@ stop_of_fault faults.NoMemory = NoMemory
 -- a run stops for a fault of the source
 abbrev pub is_read_fault : Stopped → Bool
 is_read_fault ReadFault = true
-is_read_fault (BadLine number) = false
-is_read_fault TooLong = false
-is_read_fault WriteFault = false
-is_read_fault NoMemory = false
-is_read_fault DiskFault = false
-is_read_fault (BadStore offset) = false
-is_read_fault StoreFull = false
+is_read_fault stopped = false
 
 -- a run stops for a fault of the sink
 abbrev pub is_write_fault : Stopped → Bool
 is_write_fault WriteFault = true
-is_write_fault (BadLine number) = false
-is_write_fault TooLong = false
-is_write_fault ReadFault = false
-is_write_fault NoMemory = false
-is_write_fault DiskFault = false
-is_write_fault (BadStore offset) = false
-is_write_fault StoreFull = false
+is_write_fault stopped = false
 
 -- a count of faults after a call that answered so: one more at the stops that it counts
 abbrev pub faults_behind : {T : Type 0} → (Stopped → Bool) → ℕ → Result T Stopped → ℕ

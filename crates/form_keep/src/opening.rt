@@ -16,7 +16,10 @@ pub(crate) fn open_store<D: Disk>(alloc: Global, disk: &mut D, site: u16) -> Res
     ensures stops { IfErr result (λ stopped. OpenStops stopped site (D.seen disk.old)) }
     ensures cause { KeepCause (D.faults disk.old) (D.faults disk.new) result }
 {
-    if disk.len()? == 0 {
+    let Ok(len) = disk.len() else {
+        return Err(Stopped::DiskFault);
+    };
+    if len == 0 {
         return Ok(Store::create(alloc, disk, site)?);
     }
     Ok(Store::open(alloc, disk, site)?)

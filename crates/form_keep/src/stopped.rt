@@ -1,7 +1,8 @@
 //! Why a run ends before its closing lines.
 ghost use Rattle.std.specs.Prelude.{◌≡◌};
+ghost use Rattle.form_keep.specs.declared.stopped.Stopped.TheVariants as stops;
+ghost use Rattle.form_keep.specs.Stopping.{stop_of_fault};
 
-use edit_io::Failed;
 use element_name::NoMemory;
 use peer_store::StoreFault;
 
@@ -27,9 +28,6 @@ pub enum Stopped {
 }
 
 impl From<NoMemory> for Stopped {
-    ghost use Rattle.std.specs.Prelude.{◌≡◌};
-    ghost use Rattle.form_keep.specs.declared.stopped.Stopped.TheVariants as stops;
-
     ghost from_gives = { λ _ e. e ≡ stops.NoMemory };
 
     fn from(_: NoMemory) -> Self {
@@ -37,21 +35,7 @@ impl From<NoMemory> for Stopped {
     }
 }
 
-impl From<Failed> for Stopped {
-    ghost use Rattle.std.specs.Prelude.{◌≡◌};
-    ghost use Rattle.form_keep.specs.declared.stopped.Stopped.TheVariants as stops;
-
-    ghost from_gives = { λ _ e. e ≡ stops.DiskFault };
-
-    fn from(_: Failed) -> Self {
-        Stopped::DiskFault
-    }
-}
-
 impl From<StoreFault> for Stopped {
-    ghost use Rattle.std.specs.Prelude.{◌≡◌};
-    ghost use Rattle.form_keep.specs.Stopping.{stop_of_fault};
-
     ghost from_gives = { λ fault e. e ≡ stop_of_fault fault };
 
     fn from(fault: StoreFault) -> Self {
