@@ -3,12 +3,15 @@ use Rattle.std.specs.Prelude.{is_some}
 use Rattle.std.specs.Io.KnownBytes.{Appends}
 use Rattle.std.proofs.KnownBytes.{Appends-nil, Appends-trans}
 use Rattle.std.proofs.lemmas.Result.{err_from_is_err_and}
+use Rattle.form_keep.specs.Reader.{StepsStop}
 use Rattle.form_keep.specs.Replies.{replies_from}
 use Rattle.form_keep.proofs.Reading.{read_so_far}
 use Rattle.form_keep.proofs.Steps.{none_kept, more_kept, replies_more}
 use Rattle.form_keep.proofs.Causes.{stop_reads, stop_write, stop_disk}
 use Rattle.form_keep.proofs.Rows.{row_none, row_stop, row_one, row_whole}
 use Rattle.form_keep.proofs.answering.answer_steps.Goals as goal
+use Rattle.form_keep.proofs.answering.answer_steps.Goals.{In_err-step}
+use Rattle.form_keep.proofs.answering.answer_steps.Given.{Over}
 
 pub returns-in_err-reader-clause-stops : goal.returns-in_err-reader-clause-stops
 returns-in_err-reader-clause-stops g c =
@@ -40,25 +43,24 @@ returns-in_err-step-clause-stops g c =
     rw (p.1, p.2) (λ site entry opened. row_stop site entry c.args.store.now (g.D.Disk.seen c.args.disk.now) (g.D.Disk.may_leave c.args.disk.now) opened c.steps.store run.0 (g.D.Disk.seen c.steps.disk) (g.D.Disk.may_leave c.steps.disk) run.2
     left (g.S.Source.left c.next_step.new.source) (g.K.Sink.written c.args.sink.now) (g.K.Sink.written c.steps.sink) run.3 c.in_err-step.field-0.0 (c.in_err-step.ensures.stops left run.0 run.1))
 
+-- why it stops
+reading_stops : (g : Over) (c : In_err-step g) → StepsStop (g.S.Source.left c.args.source.now) (g.S.Source.left c.next_step.new.source) c.steps.invariant.run.0 c.in_err-step.field-0.0
+reading_stops g c = c.in_err-step.ensures.stops (g.S.Source.left c.args.source.now) c.steps.invariant.run.0 c.steps.invariant.run.1
+
 pub returns-in_err-step-clause-reads : goal.returns-in_err-step-clause-reads
-returns-in_err-step-clause-reads g c =
-    let run = c.steps.invariant.run in
-    let left = g.S.Source.left c.args.source.now in
-    stop_reads left (g.S.Source.left c.next_step.new.source) run.0 c.in_err-step.field-0.0 (c.in_err-step.ensures.stops left run.0 run.1)
+returns-in_err-step-clause-reads g c = stop_reads _ _ _ c.in_err-step.field-0.0 (reading_stops g (goal.at.returns-in_err-step-clause-reads g c).In_err-step)
 
 pub returns-in_err-step-clause-write_cause : goal.returns-in_err-step-clause-write_cause
 returns-in_err-step-clause-write_cause g c =
     let p = err_from_is_err_and c.from_residual-in_err-step.result c.from_residual-in_err-step.ensures.1 in
-    let run = c.steps.invariant.run in
-    let left = g.S.Source.left c.args.source.now in
-    rw (p.1, p.2) (stop_write left (g.S.Source.left c.next_step.new.source) run.0 c.in_err-step.field-0.0 (g.K.Sink.faults c.args.sink.now) (g.K.Sink.faults c.steps.sink) (c.in_err-step.ensures.stops left run.0 run.1) c.steps.invariant.sink_faults)
+    let stops = reading_stops g (goal.at.returns-in_err-step-clause-write_cause g c).In_err-step in
+    rw (p.1, p.2) (stop_write _ _ _ c.in_err-step.field-0.0 (g.K.Sink.faults c.args.sink.now) (g.K.Sink.faults c.steps.sink) stops c.steps.invariant.sink_faults)
 
 pub returns-in_err-step-clause-disk_cause : goal.returns-in_err-step-clause-disk_cause
 returns-in_err-step-clause-disk_cause g c =
     let p = err_from_is_err_and c.from_residual-in_err-step.result c.from_residual-in_err-step.ensures.1 in
-    let run = c.steps.invariant.run in
-    let left = g.S.Source.left c.args.source.now in
-    rw (p.1, p.2) (stop_disk left (g.S.Source.left c.next_step.new.source) run.0 c.in_err-step.field-0.0 (g.D.Disk.faults c.args.disk.now) (g.D.Disk.faults c.steps.disk) (c.in_err-step.ensures.stops left run.0 run.1) c.steps.invariant.disk_faults)
+    let stops = reading_stops g (goal.at.returns-in_err-step-clause-disk_cause g c).In_err-step in
+    rw (p.1, p.2) (stop_disk _ _ _ c.in_err-step.field-0.0 (g.D.Disk.faults c.args.disk.now) (g.D.Disk.faults c.steps.disk) stops c.steps.invariant.disk_faults)
 
 -- ---- a step is answered
 
