@@ -1,12 +1,8 @@
 -- What the answers of a peer leave as it is.
 use Rattle.std.proofs.Common.{◌≡◌, ◌+◌, ◌≤◌, Bool, true, false, not, cond, Option, Some, None, [], ◌∷◌, ◌++◌, length, refl, arith, length-append}
-use Rattle.std.specs.Prelude.{find, nat_eq, option_map, option_and_then}
+use Rattle.std.specs.Prelude.{find, nat_eq, option_map}
 use Rattle.std.specs.Option.{option_map_or}
-use Rattle.element_name.specs.Cases.{when, given}
-use Rattle.element_name.specs.Name.{Name}
-use Rattle.element_name.specs.declared.limits.TheConstants.{MAX_STAMP}
 use Rattle.coop_request.specs.Request.{Request}
-use Rattle.coop_request.specs.History.{elements_of}
 use Rattle.policy_book.specs.declared.op.AdminOp.{AdminOp}
 use Rattle.policy_book.specs.declared.op.AdminOp.TheVariants.{Validate}
 use Rattle.policy_book.specs.declared.fault.EntryFault.{EntryFault}
@@ -15,7 +11,6 @@ use Rattle.edit_message.specs.declared.message.Message.{Message}
 use Rattle.edit_message.specs.declared.message.Message.TheVariants.{Coop, Admin}
 use Rattle.edit_message.specs.declared.message.Missing.{Missing}
 use Rattle.edit_message.specs.Message.{key_of, find_key}
-use Rattle.edit_message.specs.Missing.{missing_end}
 use Rattle.edit_message.specs.Same.{message_eq}
 use Rattle.auth_match.specs.declared.verdict.Verdict.{Verdict}
 use Rattle.auth_match.specs.declared.verdict.Verdict.TheVariants as verdicts
@@ -24,18 +19,19 @@ use Rattle.peer_step.specs.declared.step.LocalEdit.{LocalEdit}
 use Rattle.peer_step.specs.declared.step.Step.{Step}
 use Rattle.peer_step.specs.declared.step.Step.TheVariants.{Edit, Administer, Receive, ValidateNext}
 use Rattle.peer_step.specs.declared.answer.Answer.{Answer}
-use Rattle.peer_step.specs.declared.answer.Answer.TheVariants.{BadPlace, ClockEnd, HistoryFull, NotAdministrator, LogFull, Refused, NotHere, NeedsNone}
-use Rattle.peer_step.specs.declared.answer.Answer.TheVariants.{AlreadyInvalid, NothingTentative, Repeat, Conflict, OwnSite, OwnLog, Illegal, HoldFull, Held}
+use Rattle.peer_step.specs.declared.answer.Answer.TheVariants.{HistoryFull, NotAdministrator, LogFull}
+use Rattle.peer_step.specs.declared.answer.Answer.TheVariants.{NothingTentative, Repeat, Conflict, OwnSite, OwnLog, Illegal, HoldFull, Held}
 use Rattle.peer_step.specs.declared.answer.Answer.TheVariants.{Dropped, Settled, Quiet}
 use Rattle.peer_step.proofs.Rows.{table_has, when_has, map_has, given_has}
-use Rattle.peer_tables.specs.Derived.{finds_no_room, is_due, greatest_stamp}
-use Rattle.peer_core.specs.Peer.{Peer, history, log, shown_elements, missing}
-use Rattle.peer_core.specs.Local.{fits_text, new_request}
-use Rattle.peer_tables.specs.Awaiting.{validated_by, least_awaiting}
-use Rattle.peer_core.specs.Answers.{rows_of_edit, rows_of_log, rows_of_operation, is_full_history, is_full_log, is_full_hold, answer_by_verdict, own_verdict, answer_edit, missing_request, invalid_state, next_entry, answer_issued, answer_administer, answer_validate_next}
-use Rattle.peer_core.specs.Answers.{answer_known, answer_own, fault_in, is_next_entry, answer_taken, answer_missing, answer_receive, outcome_of, answer_due, answer_settle}
+use Rattle.peer_tables.specs.Derived.{finds_no_room, is_due}
+use Rattle.peer_core.specs.Peer.{Peer, history, log, missing}
+use Rattle.peer_core.specs.Local.{new_request}
+use Rattle.peer_tables.specs.Awaiting.{least_awaiting}
+use Rattle.peer_core.specs.Answers.{rows_of_edit, rows_of_log, rows_of_operation, is_full_log, is_full_hold, answer_by_verdict, own_verdict, answer_edit, next_entry, answer_issued, answer_administer, answer_validate_next}
+use Rattle.peer_core.specs.Answers.{rows_of_message, answer_known, answer_own, fault_in, is_next_entry, answer_taken, answer_missing, answer_receive, outcome_of, answer_due, answer_settle}
 use Rattle.peer_core.specs.After.{changed_by}
 use Rattle.replay_net.specs.Reply.{issued_by}
+use Rattle.replay_net.proofs.AnswerRows.{edit_rows, operation_rows}
 
 -- ---- edits and operations: the peer holds what it held
 
@@ -46,13 +42,7 @@ StaysHeld p step answer = (changed_by p step answer).held ≡ p.held
 pub edit_held : (p : Peer) (edit : LocalEdit) → StaysHeld p (Edit edit) (answer_edit p edit)
 edit_held p edit =
     let P : Answer → Type 0 = StaysHeld p (Edit edit) in
-    table_has P (rows_of_edit p edit) (answer_by_verdict (new_request p edit) (own_verdict p (new_request p edit))) (
-      when_has P (not (fits_text (length (shown_elements p)) edit)) (BadPlace (length (shown_elements p))) (λ h. refl),
-      (
-        when_has P (nat_eq (greatest_stamp (history p)) MAX_STAMP) ClockEnd (λ h. refl),
-        (when_has P (is_full_history p) HistoryFull (λ h. refl), tt),
-      ),
-    )
+    table_has P (rows_of_edit p edit) (answer_by_verdict (new_request p edit) (own_verdict p (new_request p edit))) (edit_rows P p edit (λ shown. refl) refl refl)
     (by (new_request p edit) (own_verdict p (new_request p edit)))
   where
     by : (q : Request) (v : Verdict) → StaysHeld p (Edit edit) (answer_by_verdict q v)
@@ -67,19 +57,7 @@ administer_held p op =
       when_has P (not (nat_eq p.site 0)) NotAdministrator (λ h. refl),
       (
         when_has P (is_full_log p) LogFull (λ h. refl),
-        (
-          map_has P Refused (entry_fault (log p) op) (λ x h. refl),
-          (
-            map_has P NotHere (missing_end (elements_of (history p)) op) (λ x h. refl),
-            (
-              map_has P NotHere (option_and_then (missing_request p) (validated_by op)) (λ x h. refl),
-              (
-                when_has P (option_map_or (λ (n : Name). nat_eq n.site 0) (validated_by op) false) NeedsNone (λ h. refl),
-                (map_has P AlreadyInvalid (option_and_then (invalid_state p) (validated_by op)) (λ x h. refl), tt),
-              ),
-            ),
-          ),
-        ),
+        operation_rows P p op (λ fault. refl) (λ what. refl) refl (λ state. refl),
       ),
     )
     refl
@@ -125,14 +103,7 @@ got_taken p (Admin e) = record { none = refl; more = omega arith; full = λ h. a
 pub got : (p : Peer) (m : Message) → Got p m (answer_receive p m)
 got p m =
     let P : Answer → Type 0 = Got p m in
-    table_has P (
-    option_map (answer_known m) (find_key (key_of m) (p.journal ++ p.held))
-    ∷ answer_own p m
-    ∷ when (finds_no_room p.journal m) HistoryFull
-    ∷ given (is_next_entry p m) (option_map Illegal (fault_in p m))
-    ∷ option_map (answer_missing p) (missing p m)
-    ∷ []
-    ) (answer_taken p m) (
+    table_has P (option_map (answer_known m) (find_key (key_of m) (p.journal ++ p.held)) ∷ rows_of_message p m ++ option_map (answer_missing p) (missing p m) ∷ []) (answer_taken p m) (
       map_has P (answer_known m) (find_key (key_of m) (p.journal ++ p.held)) (λ kept found. got_known p m kept (message_eq kept m)),
       (
         got_own p m,
