@@ -50,6 +50,20 @@ module _ (l r : Option (List ℕ)) (steps : List Step) (status : Status) (input 
       end_by (is_cut input) (first_bad 1 (input_lines input)) (length steps) w status
       (λ k e. bad_number 1 k (input_lines input) e ∙ ap (λ (xs : List Step). length xs + 1) (sym lists)) written
 
+  -- what was read of an input, where its source didn't fail and memory wasn't wanting, but not all of it was read
+  partly_read : end_after status (length steps) ≢ ends.Whole → end_after status (length steps) ≢ ends.NoMemory → end_after status (length steps) ≢ ends.ReadFault
+      → ReadSteps l r input steps (end_after status (length steps))
+  partly_read early memory source =
+      let same = lists in
+      record {
+        told = ran.told;
+        ends = λ a b. ended;
+        lists = λ a b. same;
+        begins = λ e. absurd (memory e);
+        at_end = λ e. absurd (early e);
+        read_fault = λ e. absurd (source e);
+      }
+
   reading : IsReadingStatus status
   reading = status_at (is_cut input) (first_bad 1 (input_lines input)) w status written
 
@@ -83,22 +97,8 @@ module _ (l r : Option (List ℕ)) (steps told_steps : List Step) where
     at_end = λ e. ran.at_end refl;
     read_fault = λ e. cc;
   }) (are_told.all (λ e. cc))
-  read_so BadInput input w ran are_told = all_told input (ends.BadLine (length steps + 1)) (record {
-    told = ran.told;
-    ends = λ a b. ended l r steps BadInput input w ran refl;
-    lists = λ a b. lists l r steps BadInput input w ran refl;
-    begins = λ e. cc;
-    at_end = λ e. cc;
-    read_fault = λ e. cc;
-  }) (are_told.all (λ e. cc))
-  read_so TooLong input w ran are_told = all_told input ends.TooLong (record {
-    told = ran.told;
-    ends = λ a b. ended l r steps TooLong input w ran refl;
-    lists = λ a b. lists l r steps TooLong input w ran refl;
-    begins = λ e. cc;
-    at_end = λ e. cc;
-    read_fault = λ e. cc;
-  }) (are_told.all (λ e. cc))
+  read_so BadInput input w ran are_told = all_told input (ends.BadLine (length steps + 1)) (partly_read l r steps BadInput input w ran refl (λ e. cc) (λ e. cc) (λ e. cc)) (are_told.all (λ e. cc))
+  read_so TooLong input w ran are_told = all_told input ends.TooLong (partly_read l r steps TooLong input w ran refl (λ e. cc) (λ e. cc) (λ e. cc)) (are_told.all (λ e. cc))
   read_so ReadFault input w ran are_told = all_told input ends.ReadFault (record {
     told = ran.told;
     ends = λ a b. absurd (a refl);
