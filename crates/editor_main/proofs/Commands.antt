@@ -3,6 +3,7 @@ use Rattle.std.proofs.Common.{◌≡◌, ℕ, Bool, true, false, List, [], None,
 use Rattle.std.specs.declared.option.Option.{Option}
 use Rattle.std.specs.Io.KnownBytes.{Keeps}
 use Rattle.std.proofs.lemmas.Bool.{true≢false}
+use Rattle.std.proofs.lemmas.Option.{same_Some}
 use Rattle.line_engine.specs.declared.status.Status.{Status}
 use Rattle.line_engine.specs.declared.status.Status.TheVariants.{ReadFault}
 use Rattle.line_engine.specs.Status.{IsSinkFail}
@@ -39,6 +40,17 @@ ran_read command output part Leaves l r a b status reads outputs parts heads ans
     answer = answers input;
   },
 )
+
+-- the run of a command that reads, and is neither the replay nor the audit
+pub ran_alone : (command : Option Command) (f : Command) (Leaves : Bool → List ℕ → Type 0) (l r a b : Option (List ℕ)) (status : Status)
+    → command ≡ Some f → is_reader (Some f) ≡ true → (f ≡ Replay → ⊥) → (f ≡ Audit → ⊥)
+    → (input : List ℕ) × (written : List ℕ) × Ran (plain_output (Some f)) (plain_part (Some f)) Leaves l r a b status input written
+    → (input : List ℕ) × (written : List ℕ) × RanPlain command l r a b status input written
+ran_alone command f Leaves l r a b status is reads no_replay no_audit =
+    ran_read command (plain_output (Some f)) (plain_part (Some f)) Leaves l r a b status
+    (ap is_reader is ∙ reads) (λ input. ap (λ (c : Option Command). plain_output c input) is) (λ bytes. ap (λ (c : Option Command). plain_part c bytes) is)
+    (λ input other. absurd (no_replay (same_Some f Replay (sym is ∙ other))))
+    (λ input other. absurd (no_audit (same_Some f Audit (sym is ∙ other))))
 
 -- any source has some input
 some_told : (left : Option (List ℕ)) → (input : List ℕ) × Told left input

@@ -29,31 +29,26 @@ argument_text Rounds = codes "ROUNDS"
 argument_text Reads = codes "READS"
 argument_text File = codes "FILE"
 
+-- the first word of a form, and what the words behind it say
+abbrev pub form_words : Form → List ℕ × List Argument
+form_words Replay = (codes "replay", [])
+form_words Feed = (codes "feed", Site ∷ [])
+form_words Make = (codes "make", Seed ∷ Edits ∷ [])
+form_words Race = (codes "race", Site ∷ [])
+form_words Serve = (codes "serve", Site ∷ Port ∷ Links ∷ [])
+form_words Dial = (codes "dial", Site ∷ Port ∷ Rounds ∷ [])
+form_words Watch = (codes "watch", Site ∷ Reads ∷ [])
+form_words Certify = (codes "certify", Site ∷ [])
+form_words Audit = (codes "audit", [])
+form_words Keep = (codes "keep", Site ∷ File ∷ [])
+
 -- the first word of a form
 abbrev pub form_name : Form → List ℕ
-form_name Replay = codes "replay"
-form_name Feed = codes "feed"
-form_name Make = codes "make"
-form_name Race = codes "race"
-form_name Serve = codes "serve"
-form_name Dial = codes "dial"
-form_name Watch = codes "watch"
-form_name Certify = codes "certify"
-form_name Audit = codes "audit"
-form_name Keep = codes "keep"
+form_name form = (form_words form).0
 
 -- what the words behind its name say
 abbrev pub arguments_of : Form → List Argument
-arguments_of Replay = []
-arguments_of Feed = Site ∷ []
-arguments_of Make = Seed ∷ Edits ∷ []
-arguments_of Race = Site ∷ []
-arguments_of Serve = Site ∷ Port ∷ Links ∷ []
-arguments_of Dial = Site ∷ Port ∷ Rounds ∷ []
-arguments_of Watch = Site ∷ Reads ∷ []
-arguments_of Certify = Site ∷ []
-arguments_of Audit = []
-arguments_of Keep = Site ∷ File ∷ []
+arguments_of form = (form_words form).1
 
 -- the form of this name
 abbrev pub form_of : List ℕ → Option Form

@@ -1,16 +1,14 @@
-use Rattle.std.proofs.Common.{◌≡◌, ℕ, List, Some, false, ap, sym, ◌∙◌, rules}
+use Rattle.std.proofs.Common.{◌≡◌, ℕ, List, Some, false, refl, ap, sym, ◌∙◌, rules}
 use Rattle.std.specs.Bool.{⊤}
 use Rattle.std.specs.declared.option.Option.{Option}
 use Rattle.line_engine.specs.Input.{counted_bytes}
 use Rattle.form_replay.specs.Replay.{replay_output, replay_part}
-use Rattle.form_feed.specs.Feed.{feed_output, feed_part}
-use Rattle.form_certificate.specs.Certify.{certify_output, certify_part}
 use Rattle.form_certificate.specs.Audit.{audit_output, audit_part}
 use Rattle.editor_main.specs.declared.command.Command.{Command}
 use Rattle.editor_main.specs.declared.command.Command.TheVariants.{Replay, Feed, Make, Certify, Audit}
 use Rattle.editor_main.specs.Command.{command_of}
 use Rattle.editor_main.specs.Plain.{plain_output, plain_part, is_reader, make_output, usage_output}
-use Rattle.editor_main.proofs.Commands.{named, ran_read, ran_said}
+use Rattle.editor_main.proofs.Commands.{named, ran_read, ran_alone, ran_said}
 use Rattle.editor_main.proofs.plain_call.plain.Goals as goal
 
 pub returns-in-Some-Replay-clause-ran : goal.returns-in-Some-Replay-clause-ran
@@ -24,24 +22,13 @@ returns-in-Some-Replay-clause-ran g c =
 
 pub returns-in-Some-Feed-clause-ran : goal.returns-in-Some-Feed-clause-ran
 returns-in-Some-Feed-clause-ran g c =
-    let site = c.in-Some-Feed.site in
-    let is : command_of c.args.words.now ≡ Some (Feed site) = named (command_of c.args.words.now) c.in-Some-Feed.field-0 (Feed site) c.in-Some-Feed.ensures.command c.in-Some-Feed.field-0-is in
-    ran_read (command_of c.args.words.now) (feed_output site) (feed_part site) (λ cut bytes. ⊤) _ _ _ _ _
-    (ap is_reader is) (λ (input : List ℕ). ap (λ (f : Option Command). plain_output f input) is) (λ (bytes : List ℕ). ap (λ (f : Option Command). plain_part f bytes) is)
-    (λ input other. let clash : Some (Feed site) ≡ Some Replay = sym is ∙ other in let none : ⊥ = cc in absurd none)
-    (λ input other. let clash : Some (Feed site) ≡ Some Audit = sym is ∙ other in let none : ⊥ = cc in absurd none)
-    c.feed.ensures.ran
+    let is = named (command_of c.args.words.now) c.in-Some-Feed.field-0 (Feed c.in-Some-Feed.site) c.in-Some-Feed.ensures.command c.in-Some-Feed.field-0-is in
+    ran_alone (command_of c.args.words.now) (Feed c.in-Some-Feed.site) (λ cut bytes. ⊤) _ _ _ _ _ is refl (λ e. cc) (λ e. cc) c.feed.ensures.ran
 
 pub returns-in-Some-Certify-clause-ran : goal.returns-in-Some-Certify-clause-ran
 returns-in-Some-Certify-clause-ran g c =
-    let site = c.in-Some-Certify.site in
-    let is : command_of c.args.words.now ≡ Some (Certify site)
-    = named (command_of c.args.words.now) c.in-Some-Certify.field-0 (Certify site) c.in-Some-Certify.ensures.command c.in-Some-Certify.field-0-is in
-    ran_read (command_of c.args.words.now) (certify_output site) certify_part (λ cut bytes. ⊤) _ _ _ _ _
-    (ap is_reader is) (λ (input : List ℕ). ap (λ (f : Option Command). plain_output f input) is) (λ (bytes : List ℕ). ap (λ (f : Option Command). plain_part f bytes) is)
-    (λ input other. let clash : Some (Certify site) ≡ Some Replay = sym is ∙ other in let none : ⊥ = cc in absurd none)
-    (λ input other. let clash : Some (Certify site) ≡ Some Audit = sym is ∙ other in let none : ⊥ = cc in absurd none)
-    c.certify_stream.ensures.ran
+    let is = named (command_of c.args.words.now) c.in-Some-Certify.field-0 (Certify c.in-Some-Certify.site) c.in-Some-Certify.ensures.command c.in-Some-Certify.field-0-is in
+    ran_alone (command_of c.args.words.now) (Certify c.in-Some-Certify.site) (λ cut bytes. ⊤) _ _ _ _ _ is refl (λ e. cc) (λ e. cc) c.certify_stream.ensures.ran
 
 pub returns-in-Some-Audit-clause-ran : goal.returns-in-Some-Audit-clause-ran
 returns-in-Some-Audit-clause-ran g c =
