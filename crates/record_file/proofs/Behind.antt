@@ -59,7 +59,7 @@ are_closed bytes bodies short is =
 -- ---- one record more, and one less
 
 -- the gate in front of the closed one is opened, and a record stands behind it
-pub pushed : (bytes : List ℕ) (body : List ℕ) (gate : ℕ) → AreClosedRecords bytes → gate + 1 ≡ length bytes
+pushed : (bytes : List ℕ) (body : List ℕ) (gate : ℕ) → AreClosedRecords bytes → gate + 1 ≡ length bytes
     → set (bytes ++ behind_gate_of body) gate 1 ≡ records (bodies_of bytes ++ body ∷ []) ++ 0 ∷ []
 pushed bytes body gate are size =
     let some : List ℕ = records (bodies_of bytes) in
@@ -71,8 +71,20 @@ pushed bytes body gate are size =
     ∙ sym (append_assoc some (record_of body) (0 ∷ []))
     ∙ ap (λ (l : List ℕ). l ++ 0 ∷ []) (sym (records-push (bodies_of bytes) body))
 
-pub pushed_short : (bytes : List ℕ) (body : List ℕ) → AreClosedRecords bytes → FitsRecord body → All FitsRecord (bodies_of bytes ++ body ∷ [])
+pushed_short : (bytes : List ℕ) (body : List ℕ) → AreClosedRecords bytes → FitsRecord body → All FitsRecord (bodies_of bytes ++ body ∷ [])
 pushed_short bytes body are fits = All-push FitsRecord (bodies_of bytes) body are.short fits
+
+-- so the records are closed ones again, with the body behind the others
+pub push_closed : (bytes extended body behind : List ℕ) (len : ℕ) → AreClosedRecords bytes → FitsRecord body → len ≡ length bytes → behind ≡ behind_gate_of body → extended ≡ bytes ++ behind
+    → AreClosedRecords (set extended (len - 1) 1) × (bodies_of (set extended (len - 1) 1) ≡ bodies_of bytes ++ body ∷ [])
+push_closed bytes extended body behind len are fits len_is behind_is is =
+    let now : List ℕ = set extended (len - 1) 1 in
+    let bodies : List (List ℕ) = bodies_of bytes ++ body ∷ [] in
+    let size : len - 1 + 1 ≡ length bytes = omega (arith, len_is, ap length are.bytes_are, length-append (records (bodies_of bytes)) (0 ∷ [])) in
+    let now_is : now ≡ records bodies ++ 0 ∷ []
+    = ap (λ (l : List ℕ). set l (len - 1) 1) (is ∙ ap (λ (b : List ℕ). bytes ++ b) behind_is) ∙ pushed bytes body (len - 1) are size in
+    let short = pushed_short bytes body are fits in
+    (are_closed now bodies short now_is, closed_again now bodies short now_is)
 
 module _ (bytes : List ℕ) (kept : List (List ℕ)) (body : List ℕ) (are : AreClosedRecords bytes) (last : bodies_of bytes ≡ kept ++ body ∷ []) where
   -- the last record's gate, and what stands behind it

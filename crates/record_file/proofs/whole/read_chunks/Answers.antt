@@ -18,21 +18,18 @@ returns-in_err-count-clause-crash g c left now = c.chunks.invariant.crash left (
 
 pub returns-in_err-count-clause-any_moment : goal.returns-in_err-count-clause-any_moment
 returns-in_err-count-clause-any_moment g c =
-    goes_on g.D.Disk.moment g.D.Disk.left_since c.args.disk.now c.chunks.disk c.read.new.self (g.D.Disk.may_leave c.args.disk.now) _ c.chunks.invariant.moments c.read.ensures.time
-    (λ left now. c.chunks.invariant.crash left (c.read.ensures.untouched.no_more left now))
+    goes_on g.D.Disk.moment g.D.Disk.left_since c.args.disk.now c.chunks.disk c.read.new.self (g.D.Disk.may_leave c.args.disk.now) _ c.chunks.invariant.moments c.read.ensures.time (returns-in_err-count-clause-crash g c)
 
 pub returns-then-count-eq0-clause-crash : goal.returns-then-count-eq0-clause-crash
 returns-then-count-eq0-clause-crash g c left now = c.chunks.invariant.crash left (c.read.ensures.untouched.no_more left now)
 
 pub returns-then-count-eq0-clause-any_moment : goal.returns-then-count-eq0-clause-any_moment
 returns-then-count-eq0-clause-any_moment g c =
-    goes_on g.D.Disk.moment g.D.Disk.left_since c.args.disk.now c.chunks.disk c.read.new.self (g.D.Disk.may_leave c.args.disk.now) _ c.chunks.invariant.moments c.read.ensures.time
-    (λ left now. c.chunks.invariant.crash left (c.read.ensures.untouched.no_more left now))
+    goes_on g.D.Disk.moment g.D.Disk.left_since c.args.disk.now c.chunks.disk c.read.new.self (g.D.Disk.may_leave c.args.disk.now) _ c.chunks.invariant.moments c.read.ensures.time (returns-then-count-eq0-clause-crash g c)
 
 pub returns-in_err-extend_from_slice-clause-crash : goal.returns-in_err-extend_from_slice-clause-crash
 returns-in_err-extend_from_slice-clause-crash g c left now = c.chunks.invariant.crash left (c.read.ensures.untouched.no_more left now)
 
 pub returns-in_err-extend_from_slice-clause-any_moment : goal.returns-in_err-extend_from_slice-clause-any_moment
 returns-in_err-extend_from_slice-clause-any_moment g c =
-    goes_on g.D.Disk.moment g.D.Disk.left_since c.args.disk.now c.chunks.disk c.read.new.self (g.D.Disk.may_leave c.args.disk.now) _ c.chunks.invariant.moments c.read.ensures.time
-    (λ left now. c.chunks.invariant.crash left (c.read.ensures.untouched.no_more left now))
+    goes_on g.D.Disk.moment g.D.Disk.left_since c.args.disk.now c.chunks.disk c.read.new.self (g.D.Disk.may_leave c.args.disk.now) _ c.chunks.invariant.moments c.read.ensures.time (returns-in_err-extend_from_slice-clause-crash g c)
