@@ -8,6 +8,7 @@ ghost use Rattle.audit_cert.specs.Audit.{IsCertified, IsAuditFault, AreItems, Is
 use crate::anchors::Anchors;
 use crate::basis::Basis;
 use crate::fault::AuditFault;
+use crate::judging::Judging;
 use crate::lines::{put_counts, put_elements, put_frames};
 use crate::opening::open;
 use crate::ranks::Ranks;
@@ -54,7 +55,12 @@ fn due_certificate(
     put_counts(&mut due, ids.len() as u64, u64::from(log.len()))?;
     put_elements(&mut due, places.names())?;
     let table = RematchTable::of(alloc, log)?;
-    put_frames(alloc, &mut due, log, &table, &places, frames)?;
+    let judging = Judging {
+        log,
+        table: &table,
+        places: &places,
+    };
+    put_frames(alloc, &mut due, &judging, frames)?;
     Ok(due)
 }
 

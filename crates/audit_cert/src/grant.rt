@@ -1,16 +1,15 @@
 //! The grants of a request over the versions at which it is judged.
-ghost use Rattle.std.specs.Prelude.{◌≡◌, ◌≤◌, ◌<◌, ◌+◌, ◌-◌, ◌++◌, true, Some, List, length, IfOk, OnOk};
-ghost use Rattle.std.specs.List.{range_with_len};
+ghost use Rattle.std.specs.Prelude.{◌≡◌, ◌≤◌, ◌<◌, ◌+◌, ◌++◌, true, Some, List, length, IfOk, OnOk};
 ghost use Rattle.element_name.specs.Name.{has_name};
 ghost use Rattle.coop_request.specs.Request.{element_of};
 ghost use Rattle.admin_log.specs.Log.{policy_at};
-ghost use Rattle.check_remote.specs.State.{until};
+ghost use Rattle.check_remote.specs.State.{until, judged_versions};
 ghost use Rattle.audit_cert.specs.declared.grant.Grant.{Grant};
 ghost use Rattle.audit_cert.specs.Grants.{granting_at, put_in_front, grants_over, grants_of};
 ghost use Rattle.audit_cert.specs.Rematches.{IsRematchTable};
 
 use crate::granting::granting_auth;
-use crate::rematch::RematchTable;
+use crate::judging::Judging;
 use admin_log::AdminLog;
 use coop_request::Request;
 use element_name::{MAX_VERSION, NoMemory, Places};
@@ -39,27 +38,26 @@ fn go_on(grants: &mut Vec<Grant>, current: &mut Grant, run: Grant) -> Result<(),
     Ok(())
 }
 
-// The grants of the versions from `first`, at which the authorization of the number `by` grants, up to the one before `end`.
+// The grants of a request that the authorization of the number `by` grants at the version that it carries, by whose policy.
 fn grants_from<P: Places>(
     alloc: Global,
-    log: &AdminLog,
-    table: &RematchTable,
+    judging: &Judging<'_, P>,
     request: Request,
-    first: u32,
-    end: u32,
     mut policy: Policy,
     by: u32,
-    places: &P,
 ) -> Result<Vec<Grant>, NoMemory>
-    requires table { IsRematchTable log.now table.now }
-    requires rising { first < end }
-    requires within { end ≤ length log.now + 1 }
-    requires policy { policy ≡ policy_at log.now first }
-    requires granted { granting_at (P.names places.now) log.now request first ≡ Some by }
-    requires element { has_name (P.names places.now) (element_of request) ≡ true }
-    ensures { IfOk result (λ grants. grants.items ≡ grants_over (granting_at (P.names places.now) log.now request) (range_with_len first (end - first))) }
+    requires table { IsRematchTable judging.now.log.now judging.now.table.now }
+    requires carried { request.version ≤ length judging.now.log.now }
+    requires policy { policy ≡ policy_at judging.now.log.now request.version }
+    requires granted { granting_at (P.names judging.now.places.now) judging.now.log.now request request.version ≡ Some by }
+    requires element { has_name (P.names judging.now.places.now) (element_of request) ≡ true }
+    ensures { let granting = granting_at (P.names judging.now.places.now) judging.now.log.now request in
+        IfOk result (λ grants. grants.items ≡ grants_over granting (judged_versions judging.now.log.now request)) }
 {
+    let Judging { log, table, places } = *judging;
     let mut grants = Vec::new(alloc);
+    let first = request.version();
+    let end = range_end(log, request);
     // The version of the policy.
     let mut at = first;
     let mut next = table.next(request.user(), at + 1, end);
@@ -119,33 +117,20 @@ pub(crate) fn range_end(log: &AdminLog, request: Request) -> u32
 /// where memory is wanting.
 pub(crate) fn grants_of<P: Places>(
     alloc: Global,
-    log: &AdminLog,
-    table: &RematchTable,
+    judging: &Judging<'_, P>,
     request: Request,
-    places: &P,
 ) -> Result<Vec<Grant>, NoMemory>
-    requires table { IsRematchTable log.now table.now }
-    requires carried { request.version ≤ length log.now }
-    requires element { has_name (P.names places.now) (element_of request) ≡ true }
-    ensures { IfOk result (λ grants. grants.items ≡ grants_of (P.names places.now) log.now request) }
+    requires table { IsRematchTable judging.now.log.now judging.now.table.now }
+    requires carried { request.version ≤ length judging.now.log.now }
+    requires element { has_name (P.names judging.now.places.now) (element_of request) ≡ true }
+    ensures { IfOk result (λ grants. grants.items ≡ grants_of (P.names judging.now.places.now) judging.now.log.now request) }
 {
     if request.user() == 0 {
         return Ok(Vec::new(alloc));
     }
-    let first = request.version();
-    let policy = log.policy_at(first)?;
-    let Some(by) = granting_auth(places, &policy, request) else {
+    let policy = judging.log.policy_at(request.version())?;
+    let Some(by) = granting_auth(judging.places, &policy, request) else {
         return Ok(Vec::new(alloc));
     };
-    grants_from(
-        alloc,
-        log,
-        table,
-        request,
-        first,
-        range_end(log, request),
-        policy,
-        by,
-        places,
-    )
+    grants_from(alloc, judging, request, policy, by)
 }

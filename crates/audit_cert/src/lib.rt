@@ -14,6 +14,7 @@ mod fail;
 mod fault;
 mod grant;
 mod granting;
+mod judging;
 pub mod laws;
 mod lines;
 mod making;

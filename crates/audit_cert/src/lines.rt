@@ -14,9 +14,8 @@ ghost use Rattle.audit_cert.specs.Certificate.{counts_line, element_line, grant_
 ghost use Rattle.audit_cert.specs.Rematches.{IsRematchTable};
 
 use crate::grant::{Grant, grants_of};
-use crate::rematch::RematchTable;
+use crate::judging::Judging;
 use crate::walk::state_of;
-use admin_log::AdminLog;
 use coop_request::Request;
 use edit_frame::Frame;
 use edit_message::Message;
@@ -87,19 +86,17 @@ fn put_state_line(out: &mut Vec<u8>, name: Name, state: State) -> Result<(), NoM
 fn put_request<P: Places>(
     alloc: Global,
     out: &mut Vec<u8>,
-    log: &AdminLog,
-    table: &RematchTable,
-    places: &P,
+    judging: &Judging<'_, P>,
     request: Request,
 ) -> Result<(), NoMemory>
-    requires table { IsRematchTable log.now table.now }
-    requires carried { request.version ≤ length log.now }
-    requires element { has_name (P.names places.now) (element_of request) ≡ true }
-    ensures { OnOk result (out.new.items ≡ out.old.items ++ concat (request_lines (P.names places.now) log.now request)) }
+    requires table { IsRematchTable judging.now.log.now judging.now.table.now }
+    requires carried { request.version ≤ length judging.now.log.now }
+    requires element { has_name (P.names judging.now.places.now) (element_of request) ≡ true }
+    ensures { OnOk result (out.new.items ≡ out.old.items ++ concat (request_lines (P.names judging.now.places.now) judging.now.log.now request)) }
 {
-    let state = state_of(log, table, request, places)?;
+    let state = state_of(judging, request)?;
     put_state_line(out, request.id(), state)?;
-    let grants = grants_of(alloc, log, table, request, places)?;
+    let grants = grants_of(alloc, judging, request)?;
     put_grants(out, &grants)
 }
 
@@ -107,17 +104,15 @@ fn put_request<P: Places>(
 fn put_message<P: Places>(
     alloc: Global,
     out: &mut Vec<u8>,
-    log: &AdminLog,
-    table: &RematchTable,
-    places: &P,
+    judging: &Judging<'_, P>,
     message: &JournalItem<'_>,
 ) -> Result<(), NoMemory>
-    requires table { IsRematchTable log.now table.now }
-    requires judged { may_be_judged (P.names places.now) (length log.now) message.now ≡ true }
-    ensures { OnOk result (out.new.items ≡ out.old.items ++ message_bytes (P.names places.now) log.now message.now) }
+    requires table { IsRematchTable judging.now.log.now judging.now.table.now }
+    requires judged { may_be_judged (P.names judging.now.places.now) (length judging.now.log.now) message.now ≡ true }
+    ensures { OnOk result (out.new.items ≡ out.old.items ++ message_bytes (P.names judging.now.places.now) judging.now.log.now message.now) }
 {
     match message.copied()? {
-        Message::Coop(request) => put_request(alloc, out, log, table, places, request),
+        Message::Coop(request) => put_request(alloc, out, judging, request),
         Message::Admin(_) => Ok(()),
     }
 }
@@ -126,17 +121,15 @@ fn put_message<P: Places>(
 pub(crate) fn put_requests<P: Places>(
     alloc: Global,
     out: &mut Vec<u8>,
-    log: &AdminLog,
-    table: &RematchTable,
-    places: &P,
+    judging: &Judging<'_, P>,
     journal: &[JournalItem<'_>],
 ) -> Result<(), NoMemory>
-    requires table { IsRematchTable log.now table.now }
-    requires judged { IsTrue (list_all (may_be_judged (P.names places.now) (length log.now)) journal.now) }
-    ensures { OnOk result (out.new.items ≡ out.old.items ++ flat_map (message_bytes (P.names places.now) log.now) journal.now) }
+    requires table { IsRematchTable judging.now.log.now judging.now.table.now }
+    requires judged { IsTrue (list_all (may_be_judged (P.names judging.now.places.now) (length judging.now.log.now)) journal.now) }
+    ensures { OnOk result (out.new.items ≡ out.old.items ++ flat_map (message_bytes (P.names judging.now.places.now) judging.now.log.now) journal.now) }
 {
     for message in journal {
-        put_message(alloc, out, log, table, places, message)?;
+        put_message(alloc, out, judging, message)?;
     }
     Ok(())
 }
@@ -145,19 +138,15 @@ pub(crate) fn put_requests<P: Places>(
 fn put_frame<P: Places>(
     alloc: Global,
     out: &mut Vec<u8>,
-    log: &AdminLog,
-    table: &RematchTable,
-    places: &P,
+    judging: &Judging<'_, P>,
     frame: &Frame,
 ) -> Result<(), NoMemory>
-    requires table { IsRematchTable log.now table.now }
-    requires judged { IsTrue (list_all (may_be_judged (P.names places.now) (length log.now)) (messages_of_frames (frame.now ∷ []))) }
-    ensures { OnOk result (out.new.items ≡ out.old.items ++ flat_map (message_bytes (P.names places.now) log.now) (messages_of_frames (frame.now ∷ []))) }
+    requires table { IsRematchTable judging.now.log.now judging.now.table.now }
+    requires judged { IsTrue (list_all (may_be_judged (P.names judging.now.places.now) (length judging.now.log.now)) (messages_of_frames (frame.now ∷ []))) }
+    ensures { OnOk result (out.new.items ≡ out.old.items ++ flat_map (message_bytes (P.names judging.now.places.now) judging.now.log.now) (messages_of_frames (frame.now ∷ []))) }
 {
     match frame {
-        Frame::Item(Message::Coop(request)) => {
-            put_request(alloc, out, log, table, places, *request)
-        }
+        Frame::Item(Message::Coop(request)) => { put_request(alloc, out, judging, *request) }
         Frame::Item(Message::Admin(_)) | Frame::Turn | Frame::End => Ok(()),
     }
 }
@@ -166,17 +155,15 @@ fn put_frame<P: Places>(
 pub(crate) fn put_frames<P: Places>(
     alloc: Global,
     out: &mut Vec<u8>,
-    log: &AdminLog,
-    table: &RematchTable,
-    places: &P,
+    judging: &Judging<'_, P>,
     frames: &[Frame],
 ) -> Result<(), NoMemory>
-    requires table { IsRematchTable log.now table.now }
-    requires judged { IsTrue (list_all (may_be_judged (P.names places.now) (length log.now)) (messages_of_frames frames.now)) }
-    ensures { OnOk result (out.new.items ≡ out.old.items ++ flat_map (message_bytes (P.names places.now) log.now) (messages_of_frames frames.now)) }
+    requires table { IsRematchTable judging.now.log.now judging.now.table.now }
+    requires judged { IsTrue (list_all (may_be_judged (P.names judging.now.places.now) (length judging.now.log.now)) (messages_of_frames frames.now)) }
+    ensures { OnOk result (out.new.items ≡ out.old.items ++ flat_map (message_bytes (P.names judging.now.places.now) judging.now.log.now) (messages_of_frames frames.now)) }
 {
     for frame in frames {
-        put_frame(alloc, out, log, table, places, frame)?;
+        put_frame(alloc, out, judging, frame)?;
     }
     Ok(())
 }

@@ -8,6 +8,7 @@ ghost use Rattle.audit_cert.specs.Journals.{IsFailOf};
 
 use crate::basis::Basis;
 use crate::fail::CertFail;
+use crate::judging::Judging;
 use crate::lines::{put_counts, put_elements, put_requests};
 use crate::rematch::RematchTable;
 use element_name::NoMemory;
@@ -33,14 +34,12 @@ fn certificate_of(
     let names = basis.elements.names()?;
     put_elements(&mut lines, &names)?;
     let table = RematchTable::of(alloc, &basis.log)?;
-    put_requests(
-        alloc,
-        &mut lines,
-        &basis.log,
-        &table,
-        &basis.elements,
-        journal,
-    )?;
+    let judging = Judging {
+        log: &basis.log,
+        table: &table,
+        places: &basis.elements,
+    };
+    put_requests(alloc, &mut lines, &judging, journal)?;
     Ok(lines)
 }
 

@@ -7,7 +7,7 @@ ghost use Rattle.check_remote.specs.State.{denial_by, state_by, state_of};
 ghost use Rattle.audit_cert.specs.Rematches.{IsRematchTable};
 
 use crate::grant::range_end;
-use crate::rematch::RematchTable;
+use crate::judging::Judging;
 use admin_log::AdminLog;
 use auth_match::{Verdict, request_verdict};
 use coop_request::Request;
@@ -31,16 +31,15 @@ fn state_by(log: &AdminLog, request: Request, version: u32, verdict: Verdict) ->
 /// Takes a policy, and time in these versions, for each that of its way from the one before, of its policy's authorizations
 /// and of a look-up in the table. Fails where memory is wanting.
 pub(crate) fn state_of<P: Places>(
-    log: &AdminLog,
-    table: &RematchTable,
+    judging: &Judging<'_, P>,
     request: Request,
-    places: &P,
 ) -> Result<State, NoMemory>
-    requires table { IsRematchTable log.now table.now }
-    requires carried { request.version ≤ length log.now }
-    requires element { has_name (P.names places.now) (element_of request) ≡ true }
-    ensures { IfOk result (λ state. state ≡ state_of (P.names places.now) log.now request) }
+    requires table { IsRematchTable judging.now.log.now judging.now.table.now }
+    requires carried { request.version ≤ length judging.now.log.now }
+    requires element { has_name (P.names judging.now.places.now) (element_of request) ≡ true }
+    ensures { IfOk result (λ state. state ≡ state_of (P.names judging.now.places.now) judging.now.log.now request) }
 {
+    let Judging { log, table, places } = *judging;
     let mut at = request.version();
     if request.user() == 0 {
         return Ok(state_by(log, request, at, Verdict::Granted));

@@ -7,9 +7,10 @@ use Rattle.audit_cert.proofs.lines.put_frames.Given as goal
 
 abbrev pub invariant-loop-frame : goal.invariant-loop-frame
 invariant-loop-frame g l =
-    let names = g.P.Places.names l.places in
+    let names = g.P.Places.names l.judging.places.now in
+    let log = l.judging.log.now in
     record {
-      judged : IsTrue (list_all (may_be_judged names (length l.log)) (messages_of_frames (drop l.frame-index l.frames)));
-      written : l.out.items ++ flat_map (message_bytes names l.log) (messages_of_frames (drop l.frame-index l.frames))
-          ≡ l.fn.out.items ++ flat_map (message_bytes names l.log) (messages_of_frames l.frames);
+      judged : IsTrue (list_all (may_be_judged names (length log)) (messages_of_frames (drop l.frame-index l.frames)));
+      written : l.out.items ++ flat_map (message_bytes names log) (messages_of_frames (drop l.frame-index l.frames))
+          ≡ l.fn.out.items ++ flat_map (message_bytes names log) (messages_of_frames l.frames);
     }

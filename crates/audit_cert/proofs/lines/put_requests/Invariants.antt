@@ -6,9 +6,10 @@ use Rattle.audit_cert.proofs.lines.put_requests.Given as goal
 
 abbrev pub invariant-loop-message : goal.invariant-loop-message
 invariant-loop-message g l =
-    let names = g.P.Places.names l.places in
+    let names = g.P.Places.names l.judging.places.now in
+    let log = l.judging.log.now in
     record {
-      judged : IsTrue (list_all (may_be_judged names (length l.log)) (drop l.message-index l.journal));
-      written : l.out.items ++ flat_map (message_bytes names l.log) (drop l.message-index l.journal)
-          ≡ l.fn.out.items ++ flat_map (message_bytes names l.log) l.journal;
+      judged : IsTrue (list_all (may_be_judged names (length log)) (drop l.message-index l.journal));
+      written : l.out.items ++ flat_map (message_bytes names log) (drop l.message-index l.journal)
+          ≡ l.fn.out.items ++ flat_map (message_bytes names log) l.journal;
     }

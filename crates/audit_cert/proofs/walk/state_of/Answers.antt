@@ -14,21 +14,21 @@ pub returns-then-user-eq0 : goal.returns-then-user-eq0
 returns-then-user-eq0 g c =
     let q = c.args.request in
     let user : user_of q ≡ 0 = sym c.user.ensures ∙ c.if-user-eq0.true in
-    c.state_by.ensures ∙ sym (administrator_law (g.P.Places.names c.args.places.now) c.args.log.now q user)
+    c.state_by.ensures ∙ sym (administrator_law (g.P.Places.names c.args.judging.now.places.now) c.args.judging.now.log.now q user)
 
 pub returns-in-Denied : goal.returns-in-Denied
 returns-in-Denied g c =
     let kept = c.loop-next.invariant in
     let lt : c.loop-next.at < c.range_end-end.result = omega (arith, kept.before, kept.within) in
-    denied_here (g.P.Places.names c.args.places.now) c.args.log.now c.args.request c.loop-next.at c.range_end-end.result c.in-Denied.by lt
+    denied_here (g.P.Places.names c.args.judging.now.places.now) c.args.judging.now.log.now c.args.request c.loop-next.at c.range_end-end.result c.in-Denied.by lt
     (sym kept.verdict ∙ c.in-Denied.is) kept.left
 
 pub loop-next-preserved : goal.loop-next-preserved
 loop-next-preserved g c =
-    let names = g.P.Places.names c.args.places.now in
-    let log = c.args.log.now in
+    let names = g.P.Places.names c.args.judging.now.places.now in
+    let log = c.args.judging.now.log.now in
     let q = c.args.request in
-    let table = c.args.table.now in
+    let table = c.args.judging.now.table.now in
     let now = c.loop-next in
     let kept = now.invariant in
     let end = c.range_end-end.result in
@@ -46,8 +46,8 @@ loop-next-preserved g c =
 
 pub returns : goal.returns
 returns g c =
-    let names = g.P.Places.names c.args.places.now in
-    let log = c.args.log.now in
+    let names = g.P.Places.names c.args.judging.now.places.now in
+    let log = c.args.judging.now.log.now in
     let q = c.args.request in
     let now = c.loop-next in
     let kept = now.invariant in
@@ -56,5 +56,5 @@ returns g c =
     let lt : now.at < end = omega (arith, kept.before, kept.within) in
     let same : (v : ℕ) → now.at ≤ v → v < end → verdict_at names log q v ≡ now.verdict =
     λ v low high.
-    verdict_between names log q c.args.table.now c.requires.table now.at now.next within kept.none v low (omega (arith, high, c.loop-next-test.false)) ∙ sym kept.verdict in
+    verdict_between names log q c.args.judging.now.table.now c.requires.table now.at now.next within kept.none v low (omega (arith, high, c.loop-next-test.false)) ∙ sym kept.verdict in
     c.state_by-2.ensures ∙ ap (λ d. state_by d (validated_at log q.id)) (same_decides names log q now.at end now.verdict lt same ∙ sym kept.left)

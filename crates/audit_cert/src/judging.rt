@@ -1,0 +1,13 @@
+//! What requests are judged by.
+
+use crate::rematch::RematchTable;
+use admin_log::AdminLog;
+
+/// What requests are judged by: the log, the table of where another authorization may match first, and the places of the
+/// elements.
+#[derive(Drop)]
+pub(crate) struct Judging<'a, P> {
+    pub(crate) log: &'a AdminLog,
+    pub(crate) table: &'a RematchTable,
+    pub(crate) places: &'a P,
+}
