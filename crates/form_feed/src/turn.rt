@@ -4,7 +4,7 @@ ghost use Rattle.peer_step.specs.Answers.{is_quiet};
 ghost use Rattle.peer_core.specs.Answers.{answer_of, answer_settle};
 ghost use Rattle.peer_core.specs.After.{peer_after};
 ghost use Rattle.line_spelling.specs.Answers.{answer_line};
-ghost use Rattle.form_feed.specs.Turn.{settle_line, all_settle_steps, answer_lines, message_turn, frame_turn};
+ghost use Rattle.form_feed.specs.Turn.{settle_line, all_settle_steps, answer_lines, frame_turn};
 
 use edit_frame::Frame;
 use edit_message::Message;
@@ -59,20 +59,6 @@ fn settle(alloc: Global, peer: &mut Peer, out: &mut Vec<u8>) -> Result<(), NoMem
     }
 }
 
-// Hands a message to the peer, and appends the answers.
-fn receive(
-    alloc: Global,
-    peer: &mut Peer,
-    message: Message,
-    out: &mut Vec<u8>,
-) -> Result<(), NoMemory>
-    ensures reply { OnOk result (out.new.items ≡ out.old.items ++ (message_turn peer.old message).reply) }
-    ensures peer { OnOk result (peer.new ≡ (message_turn peer.old message).after) }
-{
-    step_line(alloc, peer, Step::Receive(message), out)?;
-    settle(alloc, peer, out)
-}
-
 /// Answers a frame.
 #[tactic(auto, unfolding(crate::specs::Turn::frame_turn))]
 pub(crate) fn answer_frame(
@@ -85,7 +71,10 @@ pub(crate) fn answer_frame(
     ensures peer { OnOk result (peer.new ≡ (frame_turn peer.old frame).after) }
 {
     match frame {
-        Frame::Item(message) => receive(alloc, peer, message, out),
+        Frame::Item(message) => {
+            step_line(alloc, peer, Step::Receive(message), out)?;
+            settle(alloc, peer, out)
+        }
         Frame::Turn => turn_line(out),
         Frame::End => end_line(out),
     }
