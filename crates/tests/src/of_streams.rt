@@ -1,8 +1,7 @@
 //! Sources and sinks over streams that are interrupted and fail.
-use edit_io::{Failed, OutFail, ReadSource, Sink, Source, WriteSink};
+use edit_io::{OutFail, ReadSource, Sink, Source, WriteSink};
 use std::io;
 use std::io::{Error, ErrorKind, Read, Write};
-use std::test::Fail;
 
 // Is interrupted at its first call, gives `ab` at the second, and fails from then on.
 #[derive(Drop)]
@@ -56,19 +55,22 @@ impl Write for Sticky {
 }
 
 #[test]
-fn streams_go_on_after_an_interruption_and_flush(rt: HostRuntime) -> Result<(), Fail> {
+fn a_source_goes_on_after_an_interruption(rt: HostRuntime) {
     let mut source = ReadSource::new(Flaky { calls: 0 });
     let mut buf = [0; 4];
-    assert_eq!(rt; source.read(&mut buf), Ok(2));
-    assert_eq!(rt; &buf[..2], b"ab".as_slice());
-    assert_eq!(rt; source.read(&mut buf), Err(Failed));
+    assert!(rt; matches!(source.read(&mut buf), Ok(2)));
+    assert!(rt; buf[0] == b'a' && buf[1] == b'b');
+    assert!(rt; source.read(&mut buf).is_err());
+}
 
+#[test]
+fn a_sink_goes_on_after_an_interruption_and_flushes(rt: HostRuntime) {
     let mut sink = WriteSink::new(Sticky {
         calls: 0,
         is_flushed: true,
     });
-    for wanted in [Ok(2), Ok(2), Err(OutFail::Failed)] {
-        assert_eq!(rt; sink.write(b"ab"), wanted);
+    for _ in 0..2u32 {
+        assert!(rt; matches!(sink.write(b"ab"), Ok(2)));
     }
-    Ok(())
+    assert!(rt; matches!(sink.write(b"ab"), Err(OutFail::Failed)));
 }
