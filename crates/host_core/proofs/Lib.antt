@@ -1,0 +1,13 @@
+pub mod Truncated
+pub mod Bytes
+pub mod Kept
+pub mod Refused
+pub mod Growing
+pub mod Saving
+pub mod InOrder
+pub mod Coming
+pub mod Closing
+pub mod Adding
+pub mod Texts
+pub mod Samples
+pub mod Questions

@@ -1,0 +1,150 @@
+-- What is saved, and what was given of it.
+use Rattle.std.proofs.Common.{◌≡◌, ℕ, zero, suc, ◌<◌, ◌≤◌, inl, inr, ⊎_elim, List, [], ◌∷◌, ◌++◌, length, get_or, Some, None, refl, ap, sym, subst, ◌∙◌, arith, append_assoc, length-append}
+use Rattle.std.specs.Prelude.{slice_get, Contains}
+use Rattle.std.proofs.lemmas.List.{append-nil}
+use Rattle.std.proofs.lemmas.Option.{slice_get_cases}
+use Rattle.std.proofs.lemmas.List.Elements.{Contains-append_left}
+use Rattle.edit_message.specs.declared.message.Message.{Message}
+use Rattle.peer_core.specs.Peer.{Peer}
+use Rattle.peer_core.specs.Answers.{answer_of}
+use Rattle.tomb_seq.proofs.Has.{Has, Has-from_Contains, Contains-from_Has}
+use Rattle.replay_net.proofs.Worlds.{journal_grows}
+use Rattle.replay_net.proofs.Members.{same_by_key}
+use Rattle.host_core.specs.declared.event.HostEvent.{HostEvent}
+use Rattle.host_core.specs.declared.event.HostEvent.TheVariants.{Began, Made, Saved, Gave}
+use Rattle.host_core.specs.Past.{first_peer, host_peer, saved_journal}
+use Rattle.host_core.specs.Happens.{IsPast}
+use Rattle.host_core.specs.Laws.{SavedLaw, BeginningLaw, WholeSavedLaw, WasGiven, NoForkLaw}
+
+-- a journal begins with these messages
+abbrev Begins : List Message → List Message → Type 0
+Begins J K = (more : List Message) × (K ≡ J ++ more)
+
+same_begins : (J : List Message) → Begins J J
+same_begins J = ([], sym (append-nil J))
+
+begins_on : (J K L : List Message) → Begins J K → Begins K L → Begins J L
+begins_on J K L first then = (first.0 ++ then.0, then.1 ∙ ap (λ (M : List Message). M ++ then.0) first.1 ∙ append_assoc J first.0 then.0)
+
+begins_has : (J K : List Message) (m : Message) → Begins J K → Has J m → Has K m
+begins_has J K m begins h =
+    subst (λ (L : List Message). Has L m) (sym begins.1)
+    (Has-from_Contains (J ++ begins.0) m (Contains-append_left J begins.0 m (Contains-from_Has J m h)))
+
+-- what is saved is a beginning of the journal
+pub beginning : BeginningLaw
+beginning [] h = same_begins []
+beginning (Began p document ∷ es) h = same_begins p.journal
+beginning (Made by step ∷ es) h =
+    begins_on (saved_journal es) (host_peer es).journal (host_peer (Made by step ∷ es)).journal (beginning es h.1)
+    (journal_grows (host_peer es) step (answer_of (host_peer es) step))
+beginning (Saved ∷ es) h = same_begins (host_peer es).journal
+beginning (e ∷ es) h = beginning es h.1
+
+-- so it is no longer
+pub short_saved : (es : List HostEvent) → IsPast es → length (saved_journal es) ≤ length (host_peer es).journal
+short_saved es h =
+    let front = beginning es h in
+    let size = length-append (saved_journal es) front.0 in
+    let same : length (host_peer es).journal ≡ length (saved_journal es ++ front.0) = ap length front.1 in
+    omega arith
+
+-- what stands early in a list stands in its beginning
+early : (S more : List Message) (i : ℕ) (m : Message) → i < length S → slice_get (S ++ more) i ≡ Some m → Has S m
+early [] more i m h is = absurd (omega arith)
+early (x ∷ S) more zero m h is = inl cc
+early (x ∷ S) more (suc i) m h is = inr (early S more i m (omega arith) is)
+
+-- what stands in the journal where it is saved is among what is saved
+pub next_saved : (es : List HostEvent) (i : ℕ) (m : Message) → IsPast es → slice_get (host_peer es).journal i ≡ Some m → i < length (saved_journal es)
+    → Contains (saved_journal es) m
+next_saved es i m h next saved =
+    let front = beginning es h in
+    Contains-from_Has (saved_journal es) m
+    (early (saved_journal es) front.0 i m saved (subst (λ (J : List Message). slice_get J i ≡ Some m) front.1 next))
+
+-- so something stands there
+pub not_there : (es : List HostEvent) (p : Peer) (i : ℕ) → IsPast es → p ≡ host_peer es → i < length (saved_journal es) → slice_get p.journal i ≡ None → ⊥
+not_there es p i h same saved none =
+    let short = short_saved es h in
+    let size : length p.journal ≡ length (host_peer es).journal = ap (λ (q : Peer). length q.journal) same in
+    ⊎_elim
+    (λ (there : (x : Message) × (i < length p.journal) × (slice_get p.journal i ≡ Some x) × (get_or p.journal i x ≡ x)). let some = there.2 in cc)
+    (λ (past : (length p.journal ≤ i) × (slice_get p.journal i ≡ None)). let end = past.0 in omega arith)
+    (slice_get_cases p.journal i).1
+
+-- what happened before is a past
+pub past_before : (later es : List HostEvent) → IsPast (later ++ es) → IsPast es
+past_before [] es h = h
+past_before (e ∷ later) es h = past_before later es h.1
+
+pub saved_before : SavedLaw
+saved_before later earlier l m h =
+    let here = past_before later (Gave l m ∷ earlier) h in
+    next_saved earlier here.0.link.mark m here.1 here.0.next here.0.saved
+
+-- ---- no fork
+
+-- nothing happened before what is first
+none_before : (later es : List HostEvent) → later ++ es ≡ [] → es ≡ []
+none_before [] es h = h
+none_before (e ∷ later) es h = absurd cc
+
+-- what was saved stays
+saved_stays : (later es : List HostEvent) → IsPast (later ++ es) → Begins (saved_journal es) (saved_journal (later ++ es))
+saved_stays [] es h = same_begins (saved_journal es)
+saved_stays (Began p document ∷ later) es h =
+    subst (λ (fs : List HostEvent). Begins (saved_journal fs) p.journal) (sym (none_before later es h.0)) (p.journal, refl)
+saved_stays (Saved ∷ later) es h =
+    begins_on (saved_journal es) (saved_journal (later ++ es)) (host_peer (later ++ es)).journal (saved_stays later es h.1) (beginning (later ++ es) h.1)
+saved_stays (e ∷ later) es h = saved_stays later es h.1
+
+-- of two beginnings of a journal the shorter is one of the longer
+shorter_begins : (J K more others : List Message) → length J ≤ length K → J ++ more ≡ K ++ others → Begins J K
+shorter_begins [] K more others less same = (K, refl)
+shorter_begins (x ∷ J) [] more others less same = absurd (omega arith)
+shorter_begins (x ∷ J) (y ∷ K) more others less same =
+    let rest = shorter_begins J K more others (omega arith) cc in
+    let head : x ≡ y = cc in
+    (rest.0, ap (λ (z : Message). z ∷ K) (sym head) ∙ ap (λ (M : List Message). x ∷ M) rest.1)
+
+-- what the journal had stays
+host_stays : (later es : List HostEvent) → IsPast (later ++ es) → Begins (host_peer es).journal (host_peer (later ++ es)).journal
+host_stays [] es h = same_begins (host_peer es).journal
+host_stays (Began p document ∷ later) es h =
+    subst (λ (fs : List HostEvent). Begins (host_peer fs).journal p.journal) (sym (none_before later es h.0)) (p.journal, refl)
+host_stays (Made by step ∷ later) es h =
+    begins_on (host_peer es).journal (host_peer (later ++ es)).journal (host_peer (Made by step ∷ (later ++ es))).journal (host_stays later es h.1)
+    (journal_grows (host_peer (later ++ es)) step (answer_of (host_peer (later ++ es)) step))
+host_stays (e ∷ later) es h = host_stays later es h.1
+
+pub whole_saved : WholeSavedLaw
+whole_saved later es h enough =
+    let then = host_stays later es h in
+    let saved = beginning (later ++ es) h in
+    shorter_begins (host_peer es).journal (saved_journal (later ++ es)) then.0 saved.0 enough (sym then.1 ∙ saved.1)
+
+-- what the host had first stays
+first_stays : (es : List HostEvent) → Begins (first_peer es).journal (host_peer es).journal
+first_stays [] = same_begins []
+first_stays (Began p document ∷ es) = same_begins p.journal
+first_stays (Made by step ∷ es) =
+    begins_on (first_peer es).journal (host_peer es).journal (host_peer (Made by step ∷ es)).journal (first_stays es)
+    (journal_grows (host_peer es) step (answer_of (host_peer es) step))
+first_stays (e ∷ es) = first_stays es
+
+-- what was given is saved
+given_saved : (es : List HostEvent) (m : Message) → IsPast es → WasGiven es m → Has (saved_journal es) m
+given_saved es m h was =
+    let past : IsPast (was.later ++ Gave was.link m ∷ was.earlier) = subst IsPast was.gave h in
+    let then : Has (saved_journal was.earlier) m = Has-from_Contains (saved_journal was.earlier) m (saved_before was.later was.earlier was.link m past) in
+    subst (λ (fs : List HostEvent). Has (saved_journal fs) m) (sym was.gave)
+    (begins_has (saved_journal was.earlier) (saved_journal (was.later ++ Gave was.link m ∷ was.earlier)) m (saved_stays was.later (Gave was.link m ∷ was.earlier) past) then)
+
+pub no_fork : NoForkLaw
+no_fork es fs m n h g sound continues first second key =
+    let J : List Message = (host_peer fs).journal in
+    let early_m : Has (first_peer fs).journal m = begins_has (saved_journal es) (first_peer fs).journal m (continues.more, continues.journal) (given_saved es m h first) in
+    let has_m : Has J m = begins_has (first_peer fs).journal J m (first_stays fs) early_m in
+    let has_n : Has J n = begins_has (saved_journal fs) J n (beginning fs g) (given_saved fs n g second) in
+    same_by_key [] J m n sound.journal has_m has_n key

@@ -1,0 +1,8 @@
+use Rattle.host_core.proofs.InOrder.{in_order, all_given}
+use Rattle.host_core.proofs.laws.in_order.Goals as goal
+
+pub returns-clause-order : goal.returns-clause-order
+returns-clause-order c = in_order
+
+pub returns-clause-whole : goal.returns-clause-whole
+returns-clause-whole c = all_given

@@ -1,0 +1,14 @@
+use Rattle.host_core.proofs.Adding.{held, clock, reserve, share}
+use Rattle.host_core.proofs.laws.nobody_stops_the_others.Goals as goal
+
+pub returns-clause-held : goal.returns-clause-held
+returns-clause-held c = held
+
+pub returns-clause-clock : goal.returns-clause-clock
+returns-clause-clock c = clock
+
+pub returns-clause-reserve : goal.returns-clause-reserve
+returns-clause-reserve c = reserve
+
+pub returns-clause-share : goal.returns-clause-share
+returns-clause-share c = share

@@ -1,0 +1,6 @@
+use Rattle.std.proofs.Common.{◌∷◌}
+use Rattle.host_core.specs.declared.event.HostEvent.TheVariants.{Gave}
+use Rattle.host_core.proofs.register.Register.gave.Given as goal
+
+abbrev pub ghost-changed : goal.ghost-changed
+ghost-changed a = Gave a._by.now.0 a._by.now.1.now ∷ a.self.now.items

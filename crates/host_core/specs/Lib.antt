@@ -1,0 +1,8 @@
+pub mod Past
+pub mod Stamps
+pub mod Refusals
+pub mod Outside
+pub mod Happens
+pub mod Records
+pub mod Laws
+pub mod Samples

@@ -1,0 +1,65 @@
+//! Laws of what happens at hosts. They hold of each host at every moment, since what has happened at it is a past.
+ghost use Rattle.host_core.specs.Samples.{SampleHappens, SampleGiven, SampleDoor, SampleClosed};
+ghost use Rattle.host_core.specs.Laws.{AuthenticLaw, OrderedLaw, SavedLaw, BeginningLaw, WholeSavedLaw, NoForkLaw, InOrderLaw, AllGivenLaw, ClosedLaw, DeviceClosedLaw, HeldLaw, ClockLaw, ReserveLaw, ShareLaw, ReplayLaw, PageLaw};
+
+/// Each request that the host has was there at the start, or is of the host's own site, or came on a link, open then,
+/// that had shown the secret of the request's site. Each entry was there at the start, or was issued for an owner.
+pub fn authentic()
+    ensures requests { AuthenticLaw }
+    ensures entries { OrderedLaw }
+{}
+
+/// Each message that a link was given was saved by then, and what is saved is a beginning of the journal. What came of a
+/// step is saved once as many messages are as the journal had right after it: then its answer may be told.
+pub fn saved_before_told()
+    ensures told { SavedLaw }
+    ensures answered { WholeSavedLaw }
+    ensures beginning { BeginningLaw }
+{}
+
+/// Over crashes and restarts no link is given two messages under one name or one version.
+pub fn no_fork()
+    ensures { NoForkLaw }
+{}
+
+/// What a link said that it has of the journal, and what it was given behind it, are a beginning of the journal: each
+/// message once, in order, and none is skipped. Where there is nothing more to give it has all that is saved.
+pub fn in_order()
+    ensures order { InOrderLaw }
+    ensures whole { AllGivenLaw }
+{}
+
+/// A link that was closed is given nothing more, and nothing of it is taken. After a device was closed nothing of its
+/// site happens any more.
+pub fn closed_is_closed()
+    ensures link { ClosedLaw }
+    ensures device { DeviceClosedLaw }
+{}
+
+/// A host that began with nothing held holds nothing, and its clock runs by one for each request at most. What a link
+/// offers takes no version, and none of the requests that are left to the owners; and no more requests of a site are
+/// denied as they come than may be. So no link makes another's edit find the end of the clock, a full hold, a full log or
+/// a full history, but by what was granted.
+pub fn nobody_stops_the_others()
+    ensures held { HeldLaw }
+    ensures clock { ClockLaw }
+    ensures reserve { ReserveLaw }
+    ensures share { ShareLaw }
+{}
+
+/// The host's peer is the one that it began with, after all steps that were made, in order. A page that has its
+/// journal, and nothing else, shows the same text.
+pub fn same_text()
+    ensures replay { ReplayLaw }
+    ensures page { PageLaw }
+{
+    peer_tables::laws::same_sets();
+}
+
+/// A small past: a device opens a link, offers a request, and is given it once it is saved.
+pub fn sample_past()
+    ensures happens { SampleHappens }
+    ensures given { SampleGiven }
+    ensures door { SampleDoor }
+    ensures closed { SampleClosed }
+{}
