@@ -33,7 +33,3 @@ module _ {A : Type 0} (bodies : List (Vec ℕ A)) (i : ℕ) (item : Vec ℕ A) (
         ap length (records-append (bytes_of_each (take (i + 1) bodies)) (bytes_of_each (drop (i + 1) bodies))),
         length-append (records (bytes_of_each (take (i + 1) bodies))) (records (bytes_of_each (drop (i + 1) bodies))),
       )
-
--- at the end all were taken
-pub taken_all : {A : Type 0} (bodies : List (Vec ℕ A)) (i : ℕ) → length bodies ≤ i → bytes_of_each (take i bodies) ≡ bytes_of_each bodies
-taken_all bodies i past = ap bytes_of_each (take_all i bodies past)

@@ -1,8 +1,8 @@
 -- How changes of people are spelled as bodies.
 use Rattle.std.specs.Prelude.{ℕ, List, [], ◌∷◌, ◌++◌, string_bytes}
 use Rattle.std.specs.Int.{w16, to_be_bytes}
-use Rattle.host_people.specs.declared.change.Role.{Role}
-use Rattle.host_people.specs.declared.change.Role.TheVariants.{Owner, Writer, Reader}
+use Rattle.host_core.specs.declared.event.Role.{Role}
+use Rattle.host_core.specs.declared.event.Role.TheVariants.{Owner, Writer, Reader}
 use Rattle.host_people.specs.declared.change.Change.{Change}
 use Rattle.host_people.specs.declared.change.Change.TheVariants.{Made, GivenRole, Renamed, Invited, Uninvited, Joined, Left}
 use Rattle.host_people.specs.declared.kinds.TheConstants.{MADE, GIVEN_ROLE, RENAMED, INVITED, UNINVITED, JOINED, LEFT}

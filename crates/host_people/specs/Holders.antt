@@ -1,8 +1,8 @@
 -- Who may what, by the changes that were made, the newest first.
-use Rattle.std.specs.Prelude.{◌≡◌, ℕ, ◌==◌, Bool, true, false, List, [], ◌∷◌, Option, Some, None, option_map, if◌then◌else◌}
+use Rattle.std.specs.Prelude.{◌≡◌, ℕ, ◌==◌, true, false, List, [], ◌∷◌, Option, Some, None, option_map, if◌then◌else◌}
 use Rattle.std.specs.Ordering.{nat_cmp}
 use Rattle.std.specs.BTreeMap.{BTreeMap, get}
-use Rattle.host_people.specs.declared.change.Role.{Role}
+use Rattle.host_core.specs.declared.event.Role.{Role}
 use Rattle.host_people.specs.declared.change.Change.{Change}
 use Rattle.host_people.specs.declared.change.Change.TheVariants.{Made, GivenRole, Renamed, Invited, Uninvited, Joined, Left}
 use Rattle.host_people.specs.declared.people.Holder.{Holder}

@@ -7,9 +7,10 @@ ghost use Rattle.std.specs.Prelude.{◌≡◌, ◌++◌, IfOk, IfSome, OnOk, str
 ghost use Rattle.host_people.specs.declared.kinds.TheConstants.{MADE, GIVEN_ROLE, RENAMED, INVITED, JOINED};
 ghost use Rattle.host_people.specs.Bodies.{role_byte, change_head, holder_fields, change_body};
 
-use crate::change::{Change, Digest, Role};
+use crate::change::{Change, Digest};
 use crate::kinds::{GIVEN_ROLE, INVITED, JOINED, LEFT, MADE, RENAMED, UNINVITED};
 use element_name::NoMemory;
+use host_core::Role;
 use std::alloc::{AllocError, Global};
 use std::str;
 

@@ -1,26 +1,16 @@
 //! What changes of people.
 
+use host_core::Role;
 use std::alloc::AllocError;
 
 /// How many bytes a secret has.
-pub const SECRET_BYTES: usize = 32;
+pub const SECRET_BYTES: usize = 16;
 
 /// What the holder of an invitation or a device shows.
 pub type Secret = [u8; SECRET_BYTES];
 
 /// The SHA-256 of a secret.
 pub type Digest = [u8; 32];
-
-/// What a person may do.
-#[derive(Clone, Copy, Debug, PartialEq, Eq)]
-pub enum Role {
-    /// All that a writer may, and orders: rules, people, documents.
-    Owner,
-    /// Edits.
-    Writer,
-    /// Nothing: he is given everything, and nothing is taken from him.
-    Reader,
-}
 
 /// A change. Persons, invitations and sites have numbers of their own, from 1.
 #[derive(Debug, Drop, PartialEq, Eq)]
@@ -63,24 +53,22 @@ pub enum Change {
     },
 }
 
-impl Role {
-    /// The word for it.
-    pub fn word(self) -> &'static str {
-        match self {
-            Role::Owner => "owner",
-            Role::Writer => "writer",
-            Role::Reader => "reader",
-        }
+/// The word for a role.
+pub fn role_word(role: Role) -> &'static str {
+    match role {
+        Role::Owner => "owner",
+        Role::Writer => "writer",
+        Role::Reader => "reader",
     }
+}
 
-    /// The role of this word.
-    pub fn of_word(word: &str) -> Option<Role> {
-        match word.as_bytes() {
-            b"owner" => Some(Role::Owner),
-            b"writer" => Some(Role::Writer),
-            b"reader" => Some(Role::Reader),
-            _ => None,
-        }
+/// The role of this word.
+pub fn role_of_word(word: &str) -> Option<Role> {
+    match word.as_bytes() {
+        b"owner" => Some(Role::Owner),
+        b"writer" => Some(Role::Writer),
+        b"reader" => Some(Role::Reader),
+        _ => None,
     }
 }
 

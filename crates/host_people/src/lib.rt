@@ -13,6 +13,6 @@ mod people;
 
 pub use body::{body_of, read_change};
 pub use book::Book;
-pub use change::{Change, Digest, Role, SECRET_BYTES, Secret};
+pub use change::{Change, Digest, SECRET_BYTES, Secret, role_of_word, role_word};
 pub use fault::BookFault;
 pub use people::{Holder, People};

@@ -3,9 +3,10 @@ ghost use Rattle.std.specs.Prelude.{◌≡◌, ◌∷◌, [], true, OnOk, OnErr}
 ghost use Rattle.host_people.specs.declared.change.Change.{Change};
 ghost use Rattle.host_people.specs.Holders.{role_of, invitation_holder, device_holder};
 
-use crate::change::{Change, Digest, Role, copy_of};
+use crate::change::{Change, Digest, copy_of};
 use element_name::NoMemory;
 use ghost_list::GhostList;
+use host_core::Role;
 use std::alloc::Global;
 use std::collections::BTreeMap;
 use std::marker::Model;
