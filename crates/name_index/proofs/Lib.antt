@@ -1,3 +1,4 @@
+pub mod Moves
 pub mod Entries
 pub mod Changes
 pub mod Results

@@ -1,6 +1,6 @@
 //! A chunk of an index.
-ghost use Rattle.std.specs.Prelude.{◌≡◌, ◌<◌, ◌≤◌, ◌/◌, ◌++◌, ◌∷◌, [], Some, true, false, IfOk, OnOk, OnErr, is_some, length, take, drop, slice_get};
-ghost use Rattle.std.specs.List.{find};
+ghost use Rattle.std.specs.Prelude.{◌≡◌, ◌<◌, ◌≤◌, ◌+◌, ◌/◌, ◌++◌, ◌∷◌, [], Some, true, false, IfOk, OnOk, OnErr, is_some, length, take, drop, slice_get};
+ghost use Rattle.std.specs.List.{find, insert, remove};
 ghost use Rattle.std.specs.Ordering.{is_lt};
 ghost use Rattle.std.specs.Map.{lookup, set_value, remove_entry};
 ghost use Rattle.std.specs.BTreeMap.{is_at, insert_entry};
@@ -69,6 +69,34 @@ fn is_here<K: Ord + Copy, V: Copy>(entries: &[(K, V)], at: usize, key: K) -> boo
     }
     let other = entries[at].0;
     key.cmp(&other).is_eq()
+}
+
+/// Puts an entry in at a place, or leaves all as it was. The entries behind it move in one piece.
+fn put_at<K: Copy, V: Copy>(
+    entries: &mut Vec<(K, V)>,
+    at: usize,
+    entry: (K, V),
+) -> Result<(), NoMemory>
+    requires { at ≤ length entries.old.items }
+    ensures ok { OnOk result (entries.new.items ≡ insert entries.old.items at entry) }
+    ensures len { OnOk result (length entries.new.items ≡ length entries.old.items + 1) }
+    ensures err { OnErr result (entries.new.items ≡ entries.old.items) }
+{
+    let len = entries.len();
+    entries.push(entry)?;
+    entries.copy_within(at..len, at + 1);
+    entries[at] = entry;
+    Ok(())
+}
+
+/// Takes the entry at a place out. The entries behind it move in one piece.
+fn take_at<K: Copy, V: Copy>(entries: &mut Vec<(K, V)>, at: usize)
+    requires { at < length entries.old.items }
+    ensures entries { entries.new.items ≡ remove entries.old.items at }
+    ensures len { length entries.new.items + 1 ≡ length entries.old.items }
+{
+    entries.copy_within(at + 1.., at);
+    entries.pop();
 }
 
 impl<K: Ord + Copy, V: Copy> Chunk<K, V> {
@@ -167,7 +195,7 @@ impl<K: Ord + Copy, V: Copy> Chunk<K, V> {
             self.entries[at] = (old.0, value);
             return Ok(Some(old.1));
         }
-        self.entries.insert(at, (key, value))?;
+        put_at(&mut self.entries, at, (key, value))?;
         self.first = self.entries[0].0;
         Ok(None)
     }
@@ -192,7 +220,7 @@ impl<K: Ord + Copy, V: Copy> Chunk<K, V> {
     {
         let at = place(&self.entries, key);
         if is_here(&self.entries, at, key) {
-            self.entries.remove(at);
+            take_at(&mut self.entries, at);
             self.first = self.entries[0].0;
         }
     }

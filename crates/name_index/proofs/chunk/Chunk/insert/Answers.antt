@@ -23,7 +23,7 @@ pub returns-clause-ok : goal.returns-clause-ok
 returns-clause-ok g c =
     let place = subst (λ fs. IsPlace (g.K.Ord.cmp c.args.key) fs c.place-at.result) (c.deref.ensures.value ∙ c.self.view_is) c.place-at.ensures in
     let gap = subst (λ fs. IsBefore (g.K.Ord.cmp c.args.key) (drop c.place-at.result fs)) (c.deref-2.ensures.value ∙ c.self.view_is) (c.is_here.ensures.gap c.if-is_here.false) in
-    c.in_ok-insert.ensures.items ∙ ap (λ fs. insert fs c.place-at.result (c.args.key, c.args.value)) c.self.view_is ∙ sym (insert-gap g.K.Ord.cmp c.args.key c.args.self.now c.place-at.result place gap c.args.value)
+    c.in_ok-put_at.ensures.ok ∙ ap (λ fs. insert fs c.place-at.result (c.args.key, c.args.value)) c.self.view_is ∙ sym (insert-gap g.K.Ord.cmp c.args.key c.args.self.now c.place-at.result place gap c.args.value)
 
 pub returns-clause-old : goal.returns-clause-old
 returns-clause-old g c =

@@ -8,7 +8,7 @@ pub returns-then-is_here : goal.returns-then-is_here
 returns-then-is_here g c =
     let place = subst (λ fs. IsPlace (g.K.Ord.cmp c.args.key) fs c.place-at.result) (c.deref.ensures.value ∙ c.self.view_is) c.place-at.ensures in
     let hit = subst (λ fs. IsHit (g.K.Ord.cmp c.args.key) fs c.place-at.result) (c.deref-2.ensures.value ∙ c.self.view_is) (c.is_here.ensures.hit c.if-is_here.true) in
-    c.remove.ensures.items ∙ ap (λ fs. remove fs c.place-at.result) c.self.view_is ∙ sym (remove-hit g.K.Ord.cmp c.args.key c.args.self.now c.place-at.result place hit c.index.result.now)
+    c.take_at.ensures.entries ∙ ap (λ fs. remove fs c.place-at.result) c.self.view_is ∙ sym (remove-hit g.K.Ord.cmp c.args.key c.args.self.now c.place-at.result place hit c.index.result.now)
 
 pub returns-else-is_here : goal.returns-else-is_here
 returns-else-is_here g c =
