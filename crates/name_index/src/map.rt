@@ -1,5 +1,5 @@
 //! An ordered index in chunks.
-ghost use Rattle.std.specs.Prelude.{◌≡◌, ◌<◌, ◌≤◌, ◌++◌, ◌∷◌, [], Some, None, IsSome, true, false, cond, IfOk, OnOk, OnErr, length, slice_get, if◌then◌else◌};
+ghost use Rattle.std.specs.Prelude.{◌≡◌, ◌<◌, ◌≤◌, ◌++◌, ◌∷◌, [], Some, None, IsSome, true, false, cond, IfOk, OnOk, OnErr, List, length, get_or, slice_get, if◌then◌else◌};
 ghost use Rattle.std.specs.List.{find};
 ghost use Rattle.std.specs.Ordering.{is_lt};
 ghost use Rattle.std.specs.Map.{lookup, set_value, remove_entry};
@@ -100,19 +100,17 @@ fn append<K: Ord + Copy, V: Copy>(
     Ok(())
 }
 
-/// A full chunk becomes two.
-fn make_room<K: Ord + Copy, V: Copy>(
+/// A chunk of more than one entry becomes two.
+fn cut<K: Ord + Copy, V: Copy>(
     chunks: &mut Vec<Chunk<K, V>>,
     alloc: Global,
     c: usize,
 ) -> Result<(), NoMemory>
     requires c { c < length chunks.old.items }
+    requires long { (d : List (K × V)) → 1 < length (get_or chunks.old.items c d) }
     ensures entries { flat chunks.new.items ≡ flat chunks.old.items }
     ensures some { 0 < length chunks.new.items }
 {
-    if chunks[c].len() < CHUNK {
-        return Ok(());
-    }
     let upper = chunks[c].upper_half(alloc)?;
     chunks.insert(c + 1, upper)?;
     let chunk = &mut chunks[c];
@@ -149,6 +147,24 @@ fn next_in<K: Ord + Copy, V: Copy>(chunks: &[Chunk<K, V>], key: K) -> Option<(K,
     }
 }
 
+/// The same as [`insert_in`], where the chunk is known in which the key is, or belongs.
+fn insert_at<K: Ord + Copy, V: Copy>(
+    chunks: &mut Vec<Chunk<K, V>>,
+    c: usize,
+    key: K,
+    value: V,
+) -> Result<Option<V>, NoMemory>
+    requires ordered { IsOrdered K.cmp (flat chunks.old.items) }
+    requires spot { IsSpot (K.cmp key) chunks.old.items c }
+    ensures ok { OnOk result (flat chunks.new.items ≡ insert_entry K.cmp (flat chunks.old.items) key value) }
+    ensures old { IfOk result (λ old. old ≡ lookup (is_at (K.cmp key)) (flat chunks.old.items)) }
+    ensures err { OnErr result (flat chunks.new.items ≡ flat chunks.old.items) }
+{
+    let chunk = &mut chunks[c];
+    let old = chunk.insert(key, value)?;
+    Ok(old)
+}
+
 /// Puts an entry in, or another value at a key that is there, whose value it answers.
 fn insert_in<K: Ord + Copy, V: Copy>(
     chunks: &mut Vec<Chunk<K, V>>,
@@ -166,11 +182,12 @@ fn insert_in<K: Ord + Copy, V: Copy>(
         return Ok(None);
     }
     let c = spot(chunks, key);
-    make_room(chunks, alloc, c)?;
+    if chunks[c].len() < CHUNK {
+        return insert_at(chunks, c, key, value);
+    }
+    cut(chunks, alloc, c)?;
     let c = spot(chunks, key);
-    let chunk = &mut chunks[c];
-    let old = chunk.insert(key, value)?;
-    Ok(old)
+    insert_at(chunks, c, key, value)
 }
 
 /// Writes another value at a key, if it is there.

@@ -1,10 +1,9 @@
-use Rattle.std.proofs.Common.{[], ◌∙◌, ap, set, sym, subst}
+use Rattle.std.proofs.Common.{[], ◌∙◌, length, ap, sym, subst, arith}
 use Rattle.std.specs.Map.{lookup}
 use Rattle.std.specs.BTreeMap.{is_at, insert_entry}
-use Rattle.std.proofs.lemmas.List.{append-nil}
+use Rattle.std.proofs.lemmas.List.{append-nil, get_or_default}
 use Rattle.name_index.specs.Chunks.{flat, IsOrdered, IsPast, IsSpot}
 use Rattle.name_index.proofs.Changes.{insert-past, lookup-past}
-use Rattle.name_index.proofs.Flats.{chunk_sorted, insert_spot, lookup_spot}
 use Rattle.name_index.proofs.map.insert_in.Goals as goal
 
 pub returns-then-is_behind-clause-ok : goal.returns-then-is_behind-clause-ok
@@ -19,20 +18,20 @@ returns-then-is_behind-clause-old g c =
     let past = subst (λ cs. IsPast (g.K.Ord.cmp c.args.key) (flat cs)) c.deref.ensures.value (c.is_behind.ensures.past c.if-is_behind.true) in
     sym (lookup-past g.K.Ord.cmp c.args.key [] es past) ∙ ap (lookup (is_at (g.K.Ord.cmp c.args.key))) (append-nil es)
 
-pub insert-requires : goal.insert-requires
-insert-requires g c =
-    let spot = subst (λ cs. IsSpot (g.K.Ord.cmp c.args.key) cs c.spot-c-2.result) c.deref-3.ensures.value c.spot-c-2.ensures in
-    record { ordered = chunk_sorted g.K.Ord.cmp c.make_room.new.chunks.items c.spot-c-2.result c.index_mut-chunk.result.now spot.within c.index_mut-chunk.ensures.value (subst (IsOrdered g.K.Ord.cmp) (sym c.in_ok-make_room.ensures.entries) c.requires.ordered) }
+pub insert_at-requires : goal.insert_at-requires
+insert_at-requires g c = record {
+  ordered = c.requires.ordered;
+  spot = subst (λ cs. IsSpot (g.K.Ord.cmp c.args.key) cs c.spot-c.result) c.deref-2.ensures.value c.spot-c.ensures;
+}
 
-pub returns-clause-ok : goal.returns-clause-ok
-returns-clause-ok g c =
-    let cs = c.make_room.new.chunks.items in
-    let spot = subst (λ ds. IsSpot (g.K.Ord.cmp c.args.key) ds c.spot-c-2.result) c.deref-3.ensures.value c.spot-c-2.ensures in
-    ap (λ x. flat (set cs c.spot-c-2.result x)) c.in_ok-old.ensures.ok ∙ insert_spot g.K.Ord.cmp c.args.key cs c.spot-c-2.result c.index_mut-chunk.result.now spot c.index_mut-chunk.ensures.value c.args.value
-    ∙ ap (λ es. insert_entry g.K.Ord.cmp es c.args.key c.args.value) c.in_ok-make_room.ensures.entries
+pub cut-requires-clause-long : goal.cut-requires-clause-long
+cut-requires-clause-long g c = λ d.
+    let spot = subst (λ cs. IsSpot (g.K.Ord.cmp c.args.key) cs c.spot-c.result) c.deref-2.ensures.value c.spot-c.ensures in
+    let same = c.index.ensures ∙ get_or_default c.args.chunks.now.items c.spot-c.result c.index.result.now d spot.within in
+    omega (arith, ap length same, c.len.ensures, c.if-len-lt-CHUNK.false)
 
-pub returns-clause-old : goal.returns-clause-old
-returns-clause-old g c =
-    let cs = c.make_room.new.chunks.items in
-    let spot = subst (λ ds. IsSpot (g.K.Ord.cmp c.args.key) ds c.spot-c-2.result) c.deref-3.ensures.value c.spot-c-2.ensures in
-    c.in_ok-old.ensures.old ∙ sym (lookup_spot g.K.Ord.cmp c.args.key cs c.spot-c-2.result c.index_mut-chunk.result.now spot c.index_mut-chunk.ensures.value) ∙ ap (lookup (is_at (g.K.Ord.cmp c.args.key))) c.in_ok-make_room.ensures.entries
+pub insert_at-requires-2 : goal.insert_at-requires-2
+insert_at-requires-2 g c = record {
+  ordered = subst (IsOrdered g.K.Ord.cmp) (sym c.in_ok-cut.ensures.entries) c.requires.ordered;
+  spot = subst (λ cs. IsSpot (g.K.Ord.cmp c.args.key) cs c.spot-c-2.result) c.deref-3.ensures.value c.spot-c-2.ensures;
+}
