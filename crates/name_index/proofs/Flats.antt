@@ -123,11 +123,11 @@ module _ {K X : Type 0} (cmp : K → K → Ordering) (k : K) (cs : List (List (K
   remove_spot = flat_set cs c (remove_entry (is_at (cmp k)) x) spot.within ∙ sym remove_parts
 
   -- the only entry of its chunk
-  pub remove_chunk : length x ≡ 1 → (lookup (is_at (cmp k)) (flat cs) ≡ None → ⊥) → flat (remove cs c) ≡ remove_entry (is_at (cmp k)) (flat cs)
+  pub remove_chunk : length x ≤ 1 → (lookup (is_at (cmp k)) (flat cs) ≡ None → ⊥) → flat (remove cs c) ≡ remove_entry (is_at (cmp k)) (flat cs)
   remove_chunk one there = flat_remove cs c ∙ ap (λ es. flat (take c cs) ++ (es ++ flat (drop (c + 1) cs))) (sym (nothing x one (λ none. there (lookup_spot ∙ none)))) ∙ sym remove_parts
     where
-      nothing : (y : List (K × X)) → length y ≡ 1 → (lookup (is_at (cmp k)) y ≡ None → ⊥) → remove_entry (is_at (cmp k)) y ≡ []
-      nothing [] e h = absurd (omega (arith, e))
+      nothing : (y : List (K × X)) → length y ≤ 1 → (lookup (is_at (cmp k)) y ≡ None → ⊥) → remove_entry (is_at (cmp k)) y ≡ []
+      nothing [] e h = refl
       nothing (y ∷ z ∷ ys) e h = absurd (omega (arith, e))
       nothing (y ∷ []) e h = by (is_at (cmp k) y.0) h
         where

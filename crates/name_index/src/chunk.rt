@@ -212,16 +212,21 @@ impl<K: Ord + Copy, V: Copy> Chunk<K, V> {
         }
     }
 
-    /// Takes an entry out, of two or more.
-    pub(crate) fn remove(&mut self, key: K)
+    /// Takes an entry out, of two or more, and answers its value.
+    pub(crate) fn remove(&mut self, key: K) -> Option<V>
         requires ordered { IsOrdered K.cmp self.old }
         requires others { 1 < length self.old }
-        ensures { self.new ≡ remove_entry (is_at (K.cmp key)) self.old }
+        ensures value { result ≡ lookup (is_at (K.cmp key)) self.old }
+        ensures entries { self.new ≡ remove_entry (is_at (K.cmp key)) self.old }
     {
         let at = place(&self.entries, key);
         if is_here(&self.entries, at, key) {
+            let value = self.entries[at].1;
             take_at(&mut self.entries, at);
             self.first = self.entries[0].0;
+            Some(value)
+        } else {
+            None
         }
     }
 

@@ -213,15 +213,14 @@ fn remove_in<K: Ord + Copy, V: Copy>(chunks: &mut Vec<Chunk<K, V>>, key: K) -> O
         return None;
     }
     let c = spot(chunks, key);
+    if chunks[c].len() > 1 {
+        let chunk = &mut chunks[c];
+        return chunk.remove(key);
+    }
     let Some(value) = chunks[c].get(key) else {
         return None;
     };
-    if chunks[c].len() == 1 {
-        chunks.remove(c);
-        return Some(value);
-    }
-    let chunk = &mut chunks[c];
-    chunk.remove(key);
+    chunks.remove(c);
     Some(value)
 }
 
@@ -307,7 +306,7 @@ impl<K: Ord + Copy, V: Copy> ChunkMap<K, V> {
         set_in(&mut self.chunks, key, value);
     }
 
-    /// Takes an entry out, whose value it answers. Takes two look-ups and a move within a chunk, and no memory.
+    /// Takes an entry out, whose value it answers. Takes a look-up and a move within a chunk, and no memory.
     pub fn remove(&mut self, key: K) -> Option<V>
         ensures value { result ≡ lookup (is_at (K.cmp key)) self.old }
         ensures entries { self.new ≡ remove_entry (is_at (K.cmp key)) self.old }
