@@ -12,14 +12,12 @@ use Rattle.edit_message.specs.declared.message.Message.TheVariants.{Coop, Admin}
 use Rattle.request_state.specs.declared.state.Undone.{Undone}
 use Rattle.peer_step.specs.declared.step.Step.{Step}
 use Rattle.peer_step.specs.declared.step.Step.TheVariants.{Receive}
-use Rattle.peer_step.specs.declared.answer.Answer.{Answer}
 use Rattle.peer_step.specs.declared.answer.Answer.TheVariants.{Issued}
 use Rattle.tomb_seq.proofs.Has.{Has, Has-from_Contains, Contains-from_Has}
 use Rattle.peer_core.specs.Peer.{Peer}
 use Rattle.peer_core.specs.Answers.{answer_of}
-use Rattle.replay_net.specs.Reply.{issued_by}
-use Rattle.replay_net.proofs.Worlds.{same_site}
-use Rattle.replay_net.proofs.Steps.{got}
+use Rattle.peer_core.proofs.AnswerLemmas.Causes.{IssuesNone, received}
+use Rattle.peer_core.proofs.AfterLemmas.{same_site}
 use Rattle.host_core.specs.declared.event.Device.{Device}
 use Rattle.host_core.specs.declared.event.Hello.{Hello}
 use Rattle.host_core.specs.declared.event.LinkId.{LinkId}
@@ -153,9 +151,9 @@ authentic_more e es q same (inr (inl own)) = inr (inl (own ∙ sym (ap (λ (p : 
 authentic_more e es q same (inr (inr c)) = inr (inr (came_more e es q c))
 
 -- a request that the host received came by its key
-received : (es : List HostEvent) (by : Option LinkId) (step : Step) (q : Request) → IsPast es → MayHappen es (Made by step) → step ≡ Receive (Coop q) → CameByKey (Made by step ∷ es) q
-received es None step q h may is = let own : IsTrue (is_own (Receive (Coop q))) = subst (λ (s : Step). IsTrue (is_own s)) is may in absurd cc
-received es (Some l) step q h may is =
+received_by_key : (es : List HostEvent) (by : Option LinkId) (step : Step) (q : Request) → IsPast es → MayHappen es (Made by step) → step ≡ Receive (Coop q) → CameByKey (Made by step ∷ es) q
+received_by_key es None step q h may is = let own : IsTrue (is_own (Receive (Coop q))) = subst (λ (s : Step). IsTrue (is_own s)) is may in absurd cc
+received_by_key es (Some l) step q h may is =
     let taken = takes es l q (subst (λ (s : Step). ask_refusal es l s ≡ None) is may) in
     let known = open_known es l taken.link taken.open_is in
     let was : WasOpened es q.id.site taken.link = was_opened es q.id.site taken.link h (subst (λ (u : ℕ). link_of u es ≡ Some taken.link) (sym taken.of_site) known.0) in
@@ -184,7 +182,7 @@ authentic_has (Made by step ∷ es) q h there = from (origin (host_peer es) step
   where
     from : Origin (host_peer es) step (answer_of (host_peer es) step) (Coop q) → (Has (messages_had (host_peer es)) (Coop q) → Authentic es q) → Authentic (Made by step ∷ es) q
     from (inl old) rest = authentic_more (Made by step) es q refl (rest old)
-    from (inr (inl is)) rest = inr (inr (received es by step q h.1 h.0 is))
+    from (inr (inl is)) rest = inr (inr (received_by_key es by step q h.1 h.0 is))
     from (inr (inr own)) rest = inr (inl (own ∙ site_stays es))
 authentic_has (e ∷ es) q h there = authentic_more e es q refl (authentic_has es q h.1 there)
 
@@ -213,10 +211,7 @@ ordered_more f es e same (inr was) = inr (record {
 -- a message that is received issues nothing
 none_issued : (p : Peer) (step : Step) (m : Message) (e : Entry) (undone : Undone) → step ≡ Receive m → answer_of p step ≡ Issued e undone → ⊥
 none_issued p step m e undone is issued =
-    let answer : answer_of p (Receive m) ≡ Issued e undone = subst (λ (s : Step). answer_of p s ≡ Issued e undone) is issued in
-    let none : issued_by (answer_of p (Receive m)) ≡ None = (got p m).none in
-    let some : issued_by (Issued e undone) ≡ None = subst (λ (a : Answer). issued_by a ≡ None) answer none in
-    cc
+    subst IssuesNone (subst (λ (s : Step). answer_of p s ≡ Issued e undone) is issued) (received p m)
 
 -- a step that issued an entry was an owner's
 by_owner : (es : List HostEvent) (by : Option LinkId) (step : Step) (e : Entry) (undone : Undone) → MayHappen es (Made by step)

@@ -15,7 +15,7 @@ use Rattle.peer_tables.specs.Derived.{is_due}
 use Rattle.peer_core.specs.Peer.{Peer}
 use Rattle.peer_core.specs.Answers.{answer_of}
 use Rattle.peer_core.specs.After.{changed_by, peer_after}
-use Rattle.replay_net.proofs.Causes.{Cause, cause}
+use Rattle.peer_core.proofs.AnswerLemmas.Causes.{Cause, cause}
 use Rattle.host_core.specs.Laws.{messages_had}
 
 -- ---- what stands in lists

@@ -8,7 +8,7 @@ use Rattle.std.proofs.lemmas.Option.{same_Some, slice_get_within, get_or_from_sl
 use Rattle.std.proofs.Math.Seq.{take-suc}
 use Rattle.edit_message.specs.declared.message.Message.{Message}
 use Rattle.peer_core.specs.Answers.{answer_of}
-use Rattle.replay_net.proofs.Worlds.{journal_grows}
+use Rattle.peer_core.proofs.AfterLemmas.{journal_grows}
 use Rattle.host_core.specs.declared.event.Device.{Device}
 use Rattle.host_core.specs.declared.event.Hello.{Hello}
 use Rattle.host_core.specs.declared.event.LinkId.{LinkId}

@@ -8,8 +8,8 @@ use Rattle.edit_message.specs.declared.message.Message.{Message}
 use Rattle.peer_core.specs.Peer.{Peer}
 use Rattle.peer_core.specs.Answers.{answer_of}
 use Rattle.tomb_seq.proofs.Has.{Has, Has-from_Contains, Contains-from_Has}
-use Rattle.replay_net.proofs.Worlds.{journal_grows}
-use Rattle.replay_net.proofs.Members.{same_by_key}
+use Rattle.peer_core.proofs.AfterLemmas.{journal_grows}
+use Rattle.peer_core.proofs.KeyLemmas.{same_by_key}
 use Rattle.host_core.specs.declared.event.HostEvent.{HostEvent}
 use Rattle.host_core.specs.declared.event.HostEvent.TheVariants.{Began, Made, Saved, Gave}
 use Rattle.host_core.specs.Past.{first_peer, host_peer, saved_journal}

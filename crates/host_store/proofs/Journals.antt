@@ -15,7 +15,7 @@ use Rattle.peer_core.specs.Answers.{answer_of}
 use Rattle.peer_core.specs.After.{peer_after}
 use Rattle.peer_store.specs.Steps.{replay_of, if_changing}
 use Rattle.peer_store.specs.Store.{KeptAs, StandsFor, StandsWithOrWithout, Saved, IsSaved, IsAhead, IsOnDisk, HasMessages}
-use Rattle.replay_net.proofs.Worlds.{journal_grows}
+use Rattle.peer_core.proofs.AfterLemmas.{journal_grows}
 use Rattle.host_store.specs.Kept.{KeepsJournal, IsHeld, IsHeldIfTold}
 
 -- a store stands for one list of steps

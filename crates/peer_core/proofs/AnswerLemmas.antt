@@ -4,3 +4,5 @@ pub mod Edits
 pub mod Entries
 pub mod Received
 pub mod Settled
+pub mod Rows
+pub mod Causes

@@ -19,8 +19,8 @@ use Rattle.peer_step.specs.declared.step.LocalEdit.{LocalEdit}
 use Rattle.peer_step.specs.declared.step.Step.{Step}
 use Rattle.peer_step.specs.declared.step.Step.TheVariants.{Edit, Administer, Receive, ValidateNext}
 use Rattle.peer_step.specs.declared.answer.Answer.{Answer}
-use Rattle.peer_step.specs.declared.answer.Answer.TheVariants.{HistoryFull, NotAdministrator, LogFull}
-use Rattle.peer_step.specs.declared.answer.Answer.TheVariants.{NothingTentative, Repeat, Conflict, OwnSite, OwnLog, Illegal, HoldFull, Held}
+use Rattle.peer_step.specs.declared.answer.Answer.TheVariants.{HistoryFull, Done, NotAdministrator, LogFull}
+use Rattle.peer_step.specs.declared.answer.Answer.TheVariants.{NothingTentative, Issued, Repeat, Conflict, OwnSite, OwnLog, Illegal, HoldFull, Held}
 use Rattle.peer_step.specs.declared.answer.Answer.TheVariants.{Dropped, Settled, Quiet}
 use Rattle.peer_step.proofs.Rows.{table_has, when_has, map_has, given_has}
 use Rattle.peer_tables.specs.Derived.{finds_no_room, is_due}
@@ -31,7 +31,8 @@ use Rattle.peer_core.specs.Answers.{rows_of_edit, rows_of_log, rows_of_operation
 use Rattle.peer_core.specs.Answers.{rows_of_message, answer_known, answer_own, fault_in, is_next_entry, answer_taken, answer_missing, answer_receive, outcome_of, answer_due, answer_settle}
 use Rattle.peer_core.specs.After.{changed_by}
 use Rattle.replay_net.specs.Reply.{issued_by}
-use Rattle.replay_net.proofs.AnswerRows.{edit_rows, operation_rows}
+use Rattle.peer_core.proofs.AnswerLemmas.Rows.{edit_rows, operation_rows}
+use Rattle.peer_core.proofs.AnswerLemmas.Causes.{IssuesNone, received}
 
 -- ---- edits and operations: the peer holds what it held
 
@@ -77,47 +78,61 @@ validate_next_held p =
 
 -- ---- a message that is received
 
--- nothing is issued, at most one more is held, and there is no room only where the hold is full
+-- at most one more is held, and there is no room only where the hold is full
+record HoldsOneMore (p : Peer) (m : Message) (answer : Answer) : Type 0 where
+  more : length (changed_by p (Receive m) answer).held ≤ length p.held + 1
+  full : answer ≡ HoldFull → is_full_hold p ≡ true
+
+holds_known : (p : Peer) (m kept : Message) (same : Bool) → HoldsOneMore p m (cond same Repeat (Conflict kept))
+holds_known p m kept true = record { more = omega arith; full = λ h. absurd cc }
+holds_known p m kept false = record { more = omega arith; full = λ h. absurd cc }
+
+holds_own : (p : Peer) (m : Message) (a : Answer) → answer_own p m ≡ Some a → HoldsOneMore p m a
+holds_own p (Coop q) a h =
+    when_has (HoldsOneMore p (Coop q)) (nat_eq q.id.site p.site) OwnSite (λ t. record { more = omega arith; full = λ g. absurd cc }) a h
+holds_own p (Admin e) a h = when_has (HoldsOneMore p (Admin e)) (nat_eq p.site 0) OwnLog (λ t. record { more = omega arith; full = λ g. absurd cc }) a h
+
+holds_missing : (p : Peer) (m : Message) (what : Missing) (full : Bool) → is_full_hold p ≡ full → HoldsOneMore p m (cond full HoldFull (Held what))
+holds_missing p m what true is = record { more = omega arith; full = λ h. is }
+holds_missing p m what false is = record { more = let size = length-append p.held (m ∷ []) in omega (arith, size); full = λ h. absurd cc }
+
+holds_taken : (p : Peer) (m : Message) → HoldsOneMore p m (answer_taken p m)
+holds_taken p (Coop q) = record { more = omega arith; full = λ h. absurd cc }
+holds_taken p (Admin e) = record { more = omega arith; full = λ h. absurd cc }
+
+holds_received : (p : Peer) (m : Message) → HoldsOneMore p m (answer_receive p m)
+holds_received p m =
+    let P : Answer → Type 0 = HoldsOneMore p m in
+    table_has P (option_map (answer_known m) (find_key (key_of m) (p.journal ++ p.held)) ∷ rows_of_message p m ++ option_map (answer_missing p) (missing p m) ∷ []) (answer_taken p m) (
+      map_has P (answer_known m) (find_key (key_of m) (p.journal ++ p.held)) (λ kept found. holds_known p m kept (message_eq kept m)),
+      (
+        holds_own p m,
+        (
+          when_has P (finds_no_room p.journal m) HistoryFull (λ h. record { more = omega arith; full = λ g. absurd cc }),
+          (
+            given_has P (is_next_entry p m) (option_map Illegal (fault_in p m))
+                (λ next. map_has P Illegal (fault_in p m) (λ fault h. record { more = omega arith; full = λ g. absurd cc })),
+            (map_has P (answer_missing p) (missing p m) (λ what h. holds_missing p m what (is_full_hold p) refl), tt),
+          ),
+        ),
+      ),
+    )
+    (holds_taken p m)
+
+-- what issues nothing
+issues_none : (a : Answer) → IssuesNone a → issued_by a ≡ None
+issues_none (Done q) h = absurd h
+issues_none (Issued e undone) h = absurd h
+issues_none a h = refl
+
+-- and nothing is issued
 pub record Got (p : Peer) (m : Message) (answer : Answer) : Type 0 where
   pub none : issued_by answer ≡ None
   pub more : length (changed_by p (Receive m) answer).held ≤ length p.held + 1
   pub full : answer ≡ HoldFull → is_full_hold p ≡ true
 
-got_known : (p : Peer) (m kept : Message) (same : Bool) → Got p m (cond same Repeat (Conflict kept))
-got_known p m kept true = record { none = refl; more = omega arith; full = λ h. absurd cc }
-got_known p m kept false = record { none = refl; more = omega arith; full = λ h. absurd cc }
-
-got_own : (p : Peer) (m : Message) (a : Answer) → answer_own p m ≡ Some a → Got p m a
-got_own p (Coop q) a h =
-    when_has (Got p (Coop q)) (nat_eq q.id.site p.site) OwnSite (λ t. record { none = refl; more = omega arith; full = λ g. absurd cc }) a h
-got_own p (Admin e) a h = when_has (Got p (Admin e)) (nat_eq p.site 0) OwnLog (λ t. record { none = refl; more = omega arith; full = λ g. absurd cc }) a h
-
-got_missing : (p : Peer) (m : Message) (what : Missing) (full : Bool) → is_full_hold p ≡ full → Got p m (cond full HoldFull (Held what))
-got_missing p m what true is = record { none = refl; more = omega arith; full = λ h. is }
-got_missing p m what false is = record { none = refl; more = let size = length-append p.held (m ∷ []) in omega (arith, size); full = λ h. absurd cc }
-
-got_taken : (p : Peer) (m : Message) → Got p m (answer_taken p m)
-got_taken p (Coop q) = record { none = refl; more = omega arith; full = λ h. absurd cc }
-got_taken p (Admin e) = record { none = refl; more = omega arith; full = λ h. absurd cc }
-
 pub got : (p : Peer) (m : Message) → Got p m (answer_receive p m)
-got p m =
-    let P : Answer → Type 0 = Got p m in
-    table_has P (option_map (answer_known m) (find_key (key_of m) (p.journal ++ p.held)) ∷ rows_of_message p m ++ option_map (answer_missing p) (missing p m) ∷ []) (answer_taken p m) (
-      map_has P (answer_known m) (find_key (key_of m) (p.journal ++ p.held)) (λ kept found. got_known p m kept (message_eq kept m)),
-      (
-        got_own p m,
-        (
-          when_has P (finds_no_room p.journal m) HistoryFull (λ h. record { none = refl; more = omega arith; full = λ g. absurd cc }),
-          (
-            given_has P (is_next_entry p m) (option_map Illegal (fault_in p m))
-                (λ next. map_has P Illegal (fault_in p m) (λ fault h. record { none = refl; more = omega arith; full = λ g. absurd cc })),
-            (map_has P (answer_missing p) (missing p m) (λ what h. got_missing p m what (is_full_hold p) refl), tt),
-          ),
-        ),
-      ),
-    )
-    (got_taken p m)
+got p m = let holds = holds_received p m in record { none = issues_none (answer_receive p m) (received p m); more = holds.more; full = holds.full }
 
 -- ---- a peer that settles
 
