@@ -286,7 +286,7 @@ impl Journal {
         ensures state { IfOk result (λ state. state ≡ state_in (requests_of self.old ++ request ∷ []) (entries_of self.old) request) }
         ensures unchanged { OnErr result (self.new ≡ self.old) }
     {
-        self.items.push(&Message::Coop(request))?;
+        self.items.push_request(request)?;
         match join(
             &self.log,
             &mut self.seq,
@@ -314,11 +314,7 @@ impl Journal {
         ensures undone { IfOk result (λ undone. undone.count ≡ undone_between (requests_of self.old) (entries_of self.old) (entries_of self.old ++ entry ∷ [])) }
         ensures unchanged { OnErr result (self.new ≡ self.old) }
     {
-        let message = Message::Admin(entry);
-        self.items.push(&message)?;
-        let Message::Admin(entry) = message else {
-            unreachable!()
-        };
+        self.items.push_entry(&entry)?;
         match advance(
             self.alloc,
             &mut self.log,

@@ -129,44 +129,40 @@ module _ (L : List Entry) (slots : List Slot) (cells : Table) (table : List Kept
 
 -- ---- a journal with one more entry
 
--- the entry of a message is the one that it was made of
-pub entry_again : (e found : Entry) → ◌≡◌ {A = Message} (Admin e) (Admin found) → found ≡ e
-entry_again e found is = cc
-
 module _ (J : List Message) (L : List Entry) (slots : List Slot) (cells : Table) (table : List Kept) (stamp count : ℕ)
-    (k : IsKeptOf J L slots cells table stamp count) (e found : Entry) (same : found ≡ e) (follows : FollowsJournal J (Admin e)) where
+    (k : IsKeptOf J L slots cells table stamp count) (e : Entry) (follows : FollowsJournal J (Admin e)) where
   known_of : AreKnown (requests_of J) L
   known_of = subst (λ (M : List Entry). AreKnown (requests_of J) M) (sym k.entries) (known_law J k.journal)
 
-  pub is_advancing : IsAdvancing L slots cells table found
+  pub is_advancing : IsAdvancing L slots cells table e
   is_advancing = record {
     requests = requests_of J;
     stamp = stamp;
     kept = k.kept;
     known = known_of;
     few = k.few;
-    follows = subst (λ (M : List Entry). FollowsLog M found) (sym k.entries) (subst (λ (d : Entry). FollowsLog (entries_of J) d) (sym same) (follows_log J e follows));
+    follows = subst (λ (M : List Entry). FollowsLog M e) (sym k.entries) (follows_log J e follows);
   }
 
   -- the log is that of the longer journal
-  entries_are : (M : List Entry) → M ≡ L ++ found ∷ [] → M ≡ entries_of J ++ e ∷ []
-  entries_are M is = is ∙ ap (λ (N : List Entry). N ++ found ∷ []) k.entries ∙ ap (λ (d : Entry). entries_of J ++ d ∷ []) same
+  entries_are : (M : List Entry) → M ≡ L ++ e ∷ [] → M ≡ entries_of J ++ e ∷ []
+  entries_are M is = is ∙ ap (λ (N : List Entry). N ++ e ∷ []) k.entries
 
   pub kept_of_longer : (K : List Message) (M : List Entry) (new_slots : List Slot) (new_cells : Table) (new : List Kept)
-      → K ≡ J ++ Admin e ∷ [] → M ≡ L ++ found ∷ [] → IsTrue (is_entry found)
+      → K ≡ J ++ Admin e ∷ [] → M ≡ L ++ e ∷ [] → IsTrue (is_entry e)
       → ((R : List Request) (s : ℕ) → AreTablesOf R L slots cells table s → AreKnown R L → AreTablesOf R M new_slots new_cells new s)
       → IsKeptOf K M new_slots new_cells new stamp count
   kept_of_longer K M new_slots new_cells new is_journal is_log formed keeps =
       subst (λ (I : List Message). IsKeptOf I M new_slots new_cells new stamp count) (sym is_journal) (record {
         journal = EachAfter-push FollowsJournal J (Admin e) k.journal follows;
-        formed = formed_push J (Admin e) k.formed (ap is_entry (sym same) ∙ formed);
+        formed = formed_push J (Admin e) k.formed formed;
         few = subst (λ (R : List Request). length R ≤ MAX_REQUESTS) (sym (requests_entry J e)) k.few;
         counted = k.counted ∙ ap (λ (R : List Request). length R) (sym (requests_entry J e));
         entries = entries_are M is_log ∙ sym (entries_entry J e);
         kept = subst (λ (R : List Request). AreTablesOf R M new_slots new_cells new stamp) (sym (requests_entry J e)) (keeps (requests_of J) stamp k.kept known_of);
       })
 
-  pub undone_longer : (M : List Entry) (n : ℕ) → M ≡ L ++ found ∷ []
+  pub undone_longer : (M : List Entry) (n : ℕ) → M ≡ L ++ e ∷ []
       → ((R : List Request) (s : ℕ) → AreTablesOf R L slots cells table s → AreKnown R L → n ≡ undone_between R L M)
       → n ≡ undone_between (requests_of J) (entries_of J) (entries_of J ++ e ∷ [])
   undone_longer M n is_log counts =

@@ -37,16 +37,16 @@ invariant_of-self-in-Ok c =
     let room : length (requests_of J) < MAX_REQUESTS = subst (λ (K : List Message). length (requests_of K) < MAX_REQUESTS) (sym c.self.view_is) c.requires.room in
     let stamp : c.max-self-inside.result ≡ max c.self.inside.stamp q.id.stamp =
     c.max-self-inside.ensures ∙ ap (max c.self.inside.stamp) (c.stamp.ensures.value ∙ ap (λ (n : Name). n.stamp) c.id.ensures.value) in
-    subst (λ k. IsKeptOf c.push.new.self c.self.inside.log c.join.new.seq c.join.new.cells c.join.new.states k (c.self.inside.requests + 1)) (sym stamp)
+    subst (λ k. IsKeptOf c.push_request.new.self c.self.inside.log c.join.new.seq c.join.new.cells c.join.new.states k (c.self.inside.requests + 1)) (sym stamp)
     (grown J _ _ _ _ _ _ c.self.invariant q (follows_items _ _ _ c.self.view_is c.requires.follows)
-    c.push.new.self c.join.new.seq c.join.new.cells c.join.new.states c.in-Ok.state c.in_ok-push.ensures.ok c.in_ok-push.ensures.formed room
+    c.push_request.new.self c.join.new.seq c.join.new.cells c.join.new.states c.in-Ok.state c.in_ok-push_request.ensures.ok c.in_ok-push_request.ensures.formed room
     c.in-Ok.ensures.state c.in-Ok.ensures.slots c.in-Ok.ensures.cells c.in-Ok.ensures.states)
 
 pub invariant_of-self-in-Err : goal.invariant_of-self-in-Err
 invariant_of-self-in-Err c =
     kept_again c.self.inside.items _ _ _ _ _ _ c.self.invariant c.cut_last.new.self c.join.new.seq c.join.new.cells c.join.new.states
     (cut_again c.self.inside.items _ _ _ _ _ _ c.self.invariant (Coop c.args.request) c.cut_last.new.self
-    (c.cut_last.ensures ∙ ap (λ (items : List Message). take (length items - 1) items) c.in_ok-push.ensures.ok))
+    (c.cut_last.ensures ∙ ap (λ (items : List Message). take (length items - 1) items) c.in_ok-push_request.ensures.ok))
     c.in-Err.ensures.same_seq c.in-Err.ensures.same_cells c.in-Err.ensures.same_states
 
 pub returns-in-Ok-clause-state : goal.returns-in-Ok-clause-state
