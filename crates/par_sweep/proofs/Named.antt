@@ -7,14 +7,14 @@ use Rattle.std.proofs.lemmas.Bool.{and_parts}
 use Rattle.element_name.specs.Name.{Name, name_eq, has_name}
 use Rattle.element_name.proofs.NameOrder.{same_name, name_lt-apart}
 use Rattle.coop_request.specs.Request.{Request, element_of}
-use Rattle.request_state.specs.declared.state.State.{State}
-use Rattle.request_state.specs.declared.state.State.TheVariants.{Tentative, Valid, Invalid}
+use Rattle.request_state.specs.declared.state.State.TheVariants.{Tentative}
 use Rattle.request_state.specs.declared.kept.Kept.{Kept}
 use Rattle.request_state.specs.State.{is_tentative}
 use Rattle.request_state.specs.Table.{kept_of, kept_request, is_in_order}
 use Rattle.retro_undo.specs.Undo.{have_elements}
 use Rattle.retro_undo.proofs.Parts.{all_by}
 use Rattle.retro_undo.proofs.Found.{IsAbove, first_below, rest_in_order, request_named}
+use Rattle.retro_undo.proofs.Steps.{tentative_is}
 use Rattle.par_sweep.specs.Judged.{tentative_named, is_tentative_named}
 
 pub all_both : {X : Type 0} (P Q : X → Type 0) (xs : List X) → AllByRecursion P xs → AllByRecursion Q xs → AllByRecursion (λ x. P x × Q x) xs
@@ -49,14 +49,6 @@ kept_named n (k ∷ table) order = (
 
 -- ---- the Tentative request of a name
 
-tentative_as : (k : Kept) → is_tentative k.state ≡ true → k ≡ record { request = k.request; state = Tentative }
-tentative_as k t = ap (λ s. record { request = k.request; state = s }) (by k.state t)
-  where
-    by : (s : State) → is_tentative s ≡ true → s ≡ Tentative
-    by Tentative t = refl
-    by (Valid at) t = absurd cc
-    by (Invalid at a) t = absurd cc
-
 tentative_found : (x : Option Kept) (q : Request) → cond (option_map_or (λ k. is_tentative k.state) x false) (option_map (λ k. k.request) x) None ≡ Some q
     → x ≡ Some (record { request = q; state = Tentative })
 tentative_found None q found = absurd cc
@@ -65,7 +57,7 @@ tentative_found (Some k) q found = by (is_tentative k.state) refl found
     by : (b : Bool) → is_tentative k.state ≡ b → cond b (Some k.request) None ≡ Some q → Some k ≡ Some (record { request = q; state = Tentative })
     by true t found =
         let same : k.request ≡ q = cc in
-        ap Some (tentative_as k t ∙ ap (λ r. record { request = r; state = Tentative }) same)
+        ap Some (tentative_is k t ∙ ap (λ r. record { request = r; state = Tentative }) same)
     by false t found = absurd cc
 
 pub tentative_kept : (table : List Kept) (n : Name) (q : Request) → tentative_named table n ≡ Some q → kept_of table n ≡ Some (record { request = q; state = Tentative })

@@ -1,7 +1,6 @@
 //! A verdict that was taken before is carried out.
-ghost use Rattle.std.specs.Prelude.{◌≡◌, ◌&&◌, Some, IsTrue};
-ghost use Rattle.request_state.specs.declared.state.State.TheVariants.{Tentative, Invalid};
-ghost use Rattle.request_state.specs.Table.{kept_of, is_in_order, with_state};
+ghost use Rattle.std.specs.Prelude.{◌≡◌, ◌&&◌, IsTrue};
+ghost use Rattle.request_state.specs.Table.{is_in_order};
 ghost use Rattle.retro_undo.specs.Undo.{is_denied, counted_of, with_counted};
 ghost use Rattle.par_sweep.specs.Judged.{tentative_named, is_tentative_named, with_verdict};
 
@@ -11,6 +10,7 @@ use coop_request::Request;
 use elem_show::ElemTable;
 use element_name::Name;
 use request_state::{State, StateTable};
+use retro_undo::undo;
 
 // The request of a name, if it is Tentative.
 fn tentative(states: &StateTable, id: Name) -> Option<Request>
@@ -20,17 +20,6 @@ fn tentative(states: &StateTable, id: Name) -> Option<Request>
         State::Tentative => states.request(id),
         State::Valid { .. } | State::Invalid { .. } => None,
     }
-}
-
-// A Tentative request becomes Invalid, and counts no more.
-fn undo(request: Request, at: u32, by: Option<u32>, states: &mut StateTable, table: &mut ElemTable)
-    requires tentative { kept_of states.old request.id ≡ Some (record { request = request; state = Tentative }) }
-    requires counted { table.old.counted ≡ counted_of states.old }
-    ensures states { states.new ≡ with_state states.old request.id (Invalid at by) }
-    ensures cells { table.new ≡ with_counted table.old states.new }
-{
-    states.set(request.id(), State::Invalid { at, by });
-    table.withdraw(request);
 }
 
 /// Undoes the judged request if it was denied and is Tentative. Whether it did.

@@ -50,7 +50,8 @@ one_counted judged holds n counted same = counted ∙ by judged ∙ ap one_if sa
 abbrev pub is_next : Whose → Name → Kept → Bool
 is_next whose above k = is_tentative k.state && is_above whose above k.request
 
-tentative_is : (k : Kept) → is_tentative k.state ≡ true → k ≡ record { request = k.request; state = Tentative }
+-- what is kept and Tentative, by its request
+pub tentative_is : (k : Kept) → is_tentative k.state ≡ true → k ≡ record { request = k.request; state = Tentative }
 tentative_is k t = ap (λ s. record { request = k.request; state = s }) (by k.state t)
   where
     by : (s : State) → is_tentative s ≡ true → s ≡ Tentative

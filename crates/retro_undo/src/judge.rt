@@ -15,8 +15,14 @@ use element_name::Places;
 use policy_book::Policy;
 use request_state::{State, StateTable};
 
-/// A Tentative request becomes Invalid, and counts no more.
-fn undo(request: Request, at: u32, by: Option<u32>, states: &mut StateTable, table: &mut ElemTable)
+/// A Tentative request becomes Invalid, and counts no more. Takes time logarithmic in both tables.
+pub fn undo(
+    request: Request,
+    at: u32,
+    by: Option<u32>,
+    states: &mut StateTable,
+    table: &mut ElemTable,
+)
     requires tentative { kept_of states.old request.id ≡ Some (record { request = request; state = Tentative }) }
     requires counted { table.old.counted ≡ counted_of states.old }
     ensures states { states.new ≡ with_state states.old request.id (Invalid at by) }

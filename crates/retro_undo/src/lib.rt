@@ -8,5 +8,6 @@ mod judge;
 mod sweep;
 mod walk;
 
+pub use judge::undo;
 pub use sweep::sweep_reach;
 pub use walk::{Whose, below_all, next_tentative};
