@@ -1,7 +1,7 @@
 -- Which steps change a peer, and what they lead to.
 use Rattle.std.specs.Prelude.{ℕ, Bool, true, false, not, ◌==◌, ◌||◌, List, [], ◌∷◌, length, fold, if◌then◌else◌}
 use Rattle.peer_step.specs.declared.step.Step.{Step}
-use Rattle.peer_step.specs.declared.step.Step.TheVariants.{Edit, Administer, Receive, Settle, ValidateNext, Look, Show}
+use Rattle.peer_step.specs.declared.step.Step.TheVariants.{Look, Show}
 use Rattle.peer_core.specs.Peer.{Peer, fresh_peer}
 use Rattle.peer_core.specs.After.{peer_after}
 
@@ -23,10 +23,6 @@ if_changing p step = if changes p step then step ∷ [] else []
 
 -- a look at the journal or at the text
 abbrev pub is_look : Step → Bool
-is_look (Edit edit) = false
-is_look (Administer op) = false
-is_look (Receive m) = false
-is_look Settle = false
-is_look ValidateNext = false
 is_look (Look from) = true
 is_look Show = true
+is_look step = false
