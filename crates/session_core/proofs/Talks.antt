@@ -31,29 +31,22 @@ messages_in-append : (xs ys : List Event) → messages_in (xs ++ ys) ≡ message
 messages_in-append [] ys = refl
 messages_in-append (MessageRead b ∷ xs) ys = ap (λ l. b ∷ l) (messages_in-append xs ys)
 messages_in-append (MessageUnread b ∷ xs) ys = ap (λ l. b ∷ l) (messages_in-append xs ys)
-messages_in-append (MessageSent b ∷ xs) ys = messages_in-append xs ys
-messages_in-append (StepMade s a ∷ xs) ys = messages_in-append xs ys
+messages_in-append (x ∷ xs) ys = messages_in-append xs ys
 
 messages_out-append : (xs ys : List Event) → messages_out (xs ++ ys) ≡ messages_out xs ++ messages_out ys
 messages_out-append [] ys = refl
-messages_out-append (MessageRead b ∷ xs) ys = messages_out-append xs ys
-messages_out-append (MessageUnread b ∷ xs) ys = messages_out-append xs ys
 messages_out-append (MessageSent b ∷ xs) ys = ap (λ l. b ∷ l) (messages_out-append xs ys)
-messages_out-append (StepMade s a ∷ xs) ys = messages_out-append xs ys
+messages_out-append (x ∷ xs) ys = messages_out-append xs ys
 
 steps_in-append : (xs ys : List Event) → steps_in (xs ++ ys) ≡ steps_in xs ++ steps_in ys
 steps_in-append [] ys = refl
-steps_in-append (MessageRead b ∷ xs) ys = steps_in-append xs ys
-steps_in-append (MessageUnread b ∷ xs) ys = steps_in-append xs ys
-steps_in-append (MessageSent b ∷ xs) ys = steps_in-append xs ys
 steps_in-append (StepMade s a ∷ xs) ys = ap (λ l. s ∷ l) (steps_in-append xs ys)
+steps_in-append (x ∷ xs) ys = steps_in-append xs ys
 
 answers_in-append : (xs ys : List Event) → answers_in (xs ++ ys) ≡ answers_in xs ++ answers_in ys
 answers_in-append [] ys = refl
-answers_in-append (MessageRead b ∷ xs) ys = answers_in-append xs ys
-answers_in-append (MessageUnread b ∷ xs) ys = answers_in-append xs ys
-answers_in-append (MessageSent b ∷ xs) ys = answers_in-append xs ys
 answers_in-append (StepMade s a ∷ xs) ys = ap (λ l. a ∷ l) (answers_in-append xs ys)
+answers_in-append (x ∷ xs) ys = answers_in-append xs ys
 
 LeadsTo-append : (mode : Mode) (s m t : SessionState) (xs ys : List Event) → LeadsTo mode s xs m → LeadsTo mode m ys t → LeadsTo mode s (xs ++ ys) t
 LeadsTo-append mode s m t [] ys p q = subst (λ (x : SessionState). LeadsTo mode x ys t) p q

@@ -159,29 +159,22 @@ abbrev pub messages_in : List Event → List (List ℕ)
 messages_in [] = []
 messages_in (MessageRead bytes ∷ es) = bytes ∷ messages_in es
 messages_in (MessageUnread bytes ∷ es) = bytes ∷ messages_in es
-messages_in (MessageSent bytes ∷ es) = messages_in es
-messages_in (StepMade step answer ∷ es) = messages_in es
+messages_in (e ∷ es) = messages_in es
 
 -- the messages that were sent
 abbrev pub messages_out : List Event → List (List ℕ)
 messages_out [] = []
-messages_out (MessageRead bytes ∷ es) = messages_out es
-messages_out (MessageUnread bytes ∷ es) = messages_out es
 messages_out (MessageSent bytes ∷ es) = bytes ∷ messages_out es
-messages_out (StepMade step answer ∷ es) = messages_out es
+messages_out (e ∷ es) = messages_out es
 
 -- the steps that the caller made
 abbrev pub steps_in : List Event → List Step
 steps_in [] = []
-steps_in (MessageRead bytes ∷ es) = steps_in es
-steps_in (MessageUnread bytes ∷ es) = steps_in es
-steps_in (MessageSent bytes ∷ es) = steps_in es
 steps_in (StepMade step answer ∷ es) = step ∷ steps_in es
+steps_in (e ∷ es) = steps_in es
 
 -- the answers to these
 abbrev pub answers_in : List Event → List Answer
 answers_in [] = []
-answers_in (MessageRead bytes ∷ es) = answers_in es
-answers_in (MessageUnread bytes ∷ es) = answers_in es
-answers_in (MessageSent bytes ∷ es) = answers_in es
 answers_in (StepMade step answer ∷ es) = answer ∷ answers_in es
+answers_in (e ∷ es) = answers_in es
