@@ -7,6 +7,7 @@ use Rattle.coop_request.specs.declared.edit.Edit.{Edit}
 use Rattle.coop_request.specs.Request.{Request, request_fault}
 use Rattle.policy_book.specs.Entry.{Entry, is_entry_version}
 use Rattle.policy_book.specs.declared.op.AdminOp.{AdminOp}
+use Rattle.edit_message.specs.declared.message.Message.{Message}
 use Rattle.edit_message.specs.declared.message.Message.TheVariants.{Coop, Admin}
 use Rattle.edit_frame.specs.declared.frame.Frame.{Frame}
 use Rattle.edit_frame.specs.declared.frame.Frame.TheVariants.{Item, Turn, End}
@@ -101,6 +102,17 @@ frame_at bytes = prefix_frame false bytes
 -- the frame that is all of the bytes, or the first fault
 unfoldable pub decoded_frame : List ℕ → Result Frame FrameKind
 decoded_frame bytes = prefix_frame (nat_lt (LENGTH_BYTES + length_field bytes) (length bytes)) bytes
+
+-- the message of what was read as a frame; none of a turn, of an end, and of a fault
+abbrev pub message_of_frame : Result Frame FrameKind → Option Message
+message_of_frame (Ok (Item m)) = Some m
+message_of_frame (Ok Turn) = None
+message_of_frame (Ok End) = None
+message_of_frame (Err fault) = None
+
+-- the message whose frame is all of the bytes
+abbrev pub framed_message : List ℕ → Option Message
+framed_message bytes = message_of_frame (decoded_frame bytes)
 
 -- what stands after the length field has the kind of an entry, and an operation with lists
 abbrev pub has_listing : List ℕ → Bool

@@ -1,10 +1,7 @@
 -- A peer with what it told last, and what a call leaves of them by its code.
-use Rattle.std.specs.Prelude.{◌≡◌, ℕ, List, Option, Some, None, IsSomeAnd, Result, Ok, Err, option_map}
+use Rattle.std.specs.Prelude.{◌≡◌, ℕ, List, Option, Some, None, IsSomeAnd, option_map}
 use Rattle.edit_message.specs.declared.message.Message.{Message}
-use Rattle.edit_frame.specs.declared.frame.Frame.{Frame}
-use Rattle.edit_frame.specs.declared.frame.Frame.TheVariants.{Item, Turn, End}
-use Rattle.edit_frame.specs.declared.frame.FrameKind.{FrameKind}
-use Rattle.edit_frame.specs.Reading.{decoded_frame}
+use Rattle.edit_frame.specs.Reading.{framed_message}
 use Rattle.peer_step.specs.declared.step.Step.{Step}
 use Rattle.peer_step.specs.declared.step.Step.TheVariants.{Receive}
 use Rattle.peer_core.specs.Peer.{Peer, fresh_peer}
@@ -52,16 +49,9 @@ Restored ends.Untold site bytes after = ⊥
 
 -- ---- steps
 
--- a message that was read; none of a turn, of an end, and of a fault
-abbrev pub message_read : Result Frame FrameKind → Option Message
-message_read (Ok (Item message)) = Some message
-message_read (Ok Turn) = None
-message_read (Ok End) = None
-message_read (Err kind) = None
-
 -- to receive the message whose frame is all of the bytes
 abbrev pub step_received : List ℕ → Option Step
-step_received bytes = option_map Receive (message_read (decoded_frame bytes))
+step_received bytes = option_map Receive (framed_message bytes)
 
 -- what a call for the step that bytes say, or for none, leaves of a desk, by its code
 abbrev pub StepMade : Code → Option Step → Desk → Desk → Type 0

@@ -9,12 +9,13 @@ use Rattle.edit_message.specs.declared.message.Message.{Message}
 use Rattle.edit_message.specs.Formed.{is_message}
 use Rattle.edit_frame.specs.declared.frame.Frame.TheVariants.{Item}
 use Rattle.edit_frame.specs.Spelling.{spelling}
+use Rattle.edit_frame.specs.Reading.{message_of_frame, framed_message}
 use Rattle.edit_frame.proofs.Frames.{decoded_again}
 use Rattle.peer_step.specs.declared.step.LocalEdit.TheVariants.{Insert, Delete, Update}
 use Rattle.peer_step.specs.declared.step.Step.{Step}
 use Rattle.peer_step.specs.declared.step.Step.TheVariants.{Edit, Administer, Receive, Settle, ValidateNext, Look, Show}
 use Rattle.record_step.specs.Body.{IsBody, made_entry}
-use Rattle.record_step.specs.Reading.{whole_place, placed_piece_in, message_of_frame, framed_message, operation_of_entry, receive_by, step_in_body}
+use Rattle.record_step.specs.Reading.{whole_place, placed_piece_in, operation_of_entry, receive_by, step_in_body}
 
 placed_again : (at : ℕ) (piece : List ℕ) → at < 2 ^ 32 → IsTrue (is_piece piece) → placed_piece_in (to_be_bytes w32 at ++ length piece ∷ piece) ≡ Some (at, piece)
 placed_again at piece small is =

@@ -12,14 +12,14 @@ use Rattle.edit_frame.specs.declared.frame.Frame.{Frame}
 use Rattle.edit_frame.specs.declared.frame.Frame.TheVariants.{Item, Turn, End}
 use Rattle.edit_frame.specs.declared.frame.FrameKind.{FrameKind}
 use Rattle.edit_frame.specs.Spells.{IsBytes, Spells}
-use Rattle.edit_frame.specs.Reading.{decoded_frame}
+use Rattle.edit_frame.specs.Reading.{decoded_frame, message_of_frame, framed_message}
 use Rattle.edit_frame.proofs.Frames.{decoded_spells}
 use Rattle.edit_frame.proofs.Readers.{wide32}
 use Rattle.peer_step.specs.declared.step.LocalEdit.TheVariants.{Insert, Delete, Update}
 use Rattle.peer_step.specs.declared.step.Step.{Step}
 use Rattle.peer_step.specs.declared.step.Step.TheVariants.{Edit, Administer, Receive, Settle, ValidateNext}
 use Rattle.record_step.specs.Body.{IsBody, made_entry}
-use Rattle.record_step.specs.Reading.{whole_place, placed_piece_in, message_of_frame, framed_message, insert_in, delete_in, update_in, operation_of_entry, receive_by, alone_in, step_of_kind, step_in_body}
+use Rattle.record_step.specs.Reading.{whole_place, placed_piece_in, insert_in, delete_in, update_in, operation_of_entry, receive_by, alone_in, step_of_kind, step_in_body}
 
 -- the branch that gave it
 chosen : {A : Type 0} (test : Bool) (x y z : A) → cond test x y ≡ z → ((test ≡ true) × (x ≡ z)) ⊎ (y ≡ z)

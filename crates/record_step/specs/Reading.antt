@@ -1,14 +1,11 @@
 -- Which step has a body, read from its kind.
-use Rattle.std.specs.Prelude.{ℕ, List, [], ◌∷◌, Option, Some, None, Result, Ok, Err, length, option_map, ◌==◌, if◌then◌else◌}
+use Rattle.std.specs.Prelude.{ℕ, List, [], ◌∷◌, Option, Some, None, length, option_map, ◌==◌, if◌then◌else◌}
 use Rattle.std.specs.Int.{w32, from_be_bytes}
 use Rattle.element_name.specs.Cases.{when, given}
 use Rattle.coop_request.specs.Piece.{is_piece}
 use Rattle.edit_message.specs.declared.message.Message.{Message}
 use Rattle.edit_message.specs.declared.message.Message.TheVariants.{Coop, Admin}
-use Rattle.edit_frame.specs.declared.frame.Frame.{Frame}
-use Rattle.edit_frame.specs.declared.frame.Frame.TheVariants.{Item, Turn, End}
-use Rattle.edit_frame.specs.declared.frame.FrameKind.{FrameKind}
-use Rattle.edit_frame.specs.Reading.{decoded_frame}
+use Rattle.edit_frame.specs.Reading.{framed_message}
 use Rattle.peer_step.specs.declared.step.LocalEdit.TheVariants.{Insert, Delete, Update}
 use Rattle.peer_step.specs.declared.step.Step.{Step}
 use Rattle.peer_step.specs.declared.step.Step.TheVariants.{Edit, Administer, Receive, Settle, ValidateNext}
@@ -23,17 +20,6 @@ whole_place fields = None
 abbrev pub placed_piece_in : List ℕ → Option (ℕ × List ℕ)
 placed_piece_in (a ∷ b ∷ c ∷ d ∷ len ∷ rest) = given (length rest == len) (when (is_piece rest) (from_be_bytes w32 (a ∷ b ∷ c ∷ d ∷ []), rest))
 placed_piece_in fields = None
-
--- the message of what was read as a frame
-abbrev pub message_of_frame : Result Frame FrameKind → Option Message
-message_of_frame (Ok (Item m)) = Some m
-message_of_frame (Ok Turn) = None
-message_of_frame (Ok End) = None
-message_of_frame (Err fault) = None
-
--- the message whose frame is all of the fields
-abbrev pub framed_message : List ℕ → Option Message
-framed_message fields = message_of_frame (decoded_frame fields)
 
 -- ---- the step of each kind
 

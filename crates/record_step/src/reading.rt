@@ -1,8 +1,9 @@
 //! Steps from bodies.
 ghost use Rattle.std.specs.Prelude.{◌≡◌, Some, IfOk, IfSome};
+ghost use Rattle.edit_frame.specs.Reading.{framed_message};
 ghost use Rattle.peer_step.specs.declared.step.Step.{Step};
 ghost use Rattle.record_step.specs.Body.{IsBody};
-ghost use Rattle.record_step.specs.Reading.{whole_place, placed_piece_in, framed_message, insert_in, delete_in, update_in, operation_of_entry, receive_by, alone_in, step_of_kind, step_in_body};
+ghost use Rattle.record_step.specs.Reading.{whole_place, placed_piece_in, insert_in, delete_in, update_in, operation_of_entry, receive_by, alone_in, step_of_kind, step_in_body};
 
 use crate::kinds::{ADMINISTER, DELETE, INSERT, RECEIVE, SETTLE, UPDATE, VALIDATE_NEXT};
 use coop_request::Piece;
