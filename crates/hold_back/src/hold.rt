@@ -1,13 +1,15 @@
 //! The hold.
-ghost use Rattle.std.specs.Prelude.{◌≡◌, ◌&&◌, ◌≤◌, ◌<◌, ◌++◌, [], ◌∷◌, None, Some, length, remove, slice_get, position, find};
+ghost use Rattle.std.specs.Prelude.{◌≡◌, ◌&&◌, ◌≤◌, ◌<◌, ◌++◌, List, [], ◌∷◌, None, Some, length, remove, slice_get, position, find};
 ghost use Rattle.std.specs.Prelude.{unwrap_or, option_map, IfOk, IfErr, OnOk, OnErr, IsTrue};
 ghost use Rattle.std.specs.List.{count_by};
 ghost use Rattle.std.specs.Option.{option_copied};
 ghost use Rattle.hold_back.specs.declared.fault.HoldFault.TheVariants.{NoMemory as no_memory};
+ghost use Rattle.hold_back.specs.declared.held.Held.{Held};
 ghost use Rattle.element_name.specs.Growing.{EachAfter};
 ghost use Rattle.edit_message.specs.Message.{key_of, key_eq};
 ghost use Rattle.hold_back.specs.Hold.{find_held, keep_fault, woken_by, waiting_at, woken_from, waiting_from, due_at};
 ghost use Rattle.hold_back.specs.Hold.{only_woken_due, is_woken, waits_for, IsNewKey, keys_of};
+ghost use Rattle.hold_back.specs.Index.{IsIndexed};
 
 use crate::awaited::Awaited;
 use crate::census::Census;
@@ -50,10 +52,6 @@ pub struct HoldBack {
 }
 
 impl Model for HoldBack {
-    ghost use Rattle.std.specs.Prelude.{List};
-    ghost use Rattle.hold_back.specs.declared.held.Held.{Held};
-    ghost use Rattle.hold_back.specs.Index.{IsIndexed};
-
     ghost Value = { List Held };
 
     ghost view = { λ h. h.held.items };
