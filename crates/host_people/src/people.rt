@@ -1,7 +1,7 @@
 //! The people of a host.
-ghost use Rattle.std.specs.Prelude.{◌≡◌, ◌∷◌, [], true, OnOk, OnErr};
+ghost use Rattle.std.specs.Prelude.{◌≡◌, List, [], ◌∷◌, true, OnOk, OnErr};
 ghost use Rattle.host_people.specs.declared.change.Change.{Change};
-ghost use Rattle.host_people.specs.Holders.{role_of, invitation_holder, device_holder};
+ghost use Rattle.host_people.specs.Holders.{role_of, invitation_holder, device_holder, AreOfChanges};
 
 use crate::change::{Change, Digest, copy_of};
 use element_name::NoMemory;
@@ -31,10 +31,6 @@ pub struct People {
 }
 
 impl Model for People {
-    ghost use Rattle.std.specs.Prelude.{List};
-    ghost use Rattle.host_people.specs.declared.change.Change.{Change};
-    ghost use Rattle.host_people.specs.Holders.{AreOfChanges};
-
     ghost Value = { List Change };
 
     ghost view = { λ p. p.past.items };
