@@ -1,6 +1,7 @@
 //! The list of the steps that an input asks for.
 ghost use Rattle.std.specs.Prelude.{◌≡◌, ◌≢◌, ◌+◌, ◌^◌, ◌<◌, ℕ, List, [], ◌∷◌, ◌++◌, length, OnOk};
 ghost use Rattle.line_engine.specs.Engine.{Reads};
+ghost use Rattle.peer_step.specs.declared.step.Step.{Step};
 ghost use Rattle.line_input.specs.Steps.{ReadSteps, EndCause};
 ghost use Rattle.line_input.specs.Turn.{step_line_turn, step_line_closing, IsReadingStatus, end_after};
 
@@ -44,9 +45,6 @@ struct StepLines {
 }
 
 impl Model for StepLines {
-    ghost use Rattle.std.specs.Prelude.{List};
-    ghost use Rattle.peer_step.specs.declared.step.Step.{Step};
-
     ghost Value = { List Step };
 
     ghost view = { λ l. l.steps.items };
