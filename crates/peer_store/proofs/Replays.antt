@@ -1,26 +1,17 @@
 -- Bodies one by one, and the places of their gates.
-use Rattle.std.proofs.Common.{◌≡◌, ℕ, suc, ◌+◌, ◌≤◌, ◌<◌, true, List, [], ◌∷◌, ◌++◌, length, get_or, take, drop, refl, sym, ◌∙◌, ap, subst, arith, append_assoc, length-append, Vec}
-use Rattle.std.specs.Int.{w16, to_be_bytes}
+use Rattle.std.proofs.Common.{◌≡◌, ℕ, suc, ◌+◌, ◌≤◌, ◌<◌, true, List, [], ◌∷◌, ◌++◌, length, get_or, take, drop, refl, sym, ◌∙◌, ap, subst, arith, append_assoc, Vec}
 use Rattle.std.proofs.Math.Seq.{drop-cons}
-use Rattle.std.proofs.lemmas.List.{take-append-drop, take_more, take_all}
+use Rattle.std.proofs.lemmas.List.{take-append-drop}
 use Rattle.std.proofs.lemmas.List.Sums.{fold_push}
 use Rattle.record_file.specs.Records.{file_head, record_of, records, gate_place, bytes_of_each}
-use Rattle.record_file.proofs.Appending.{records-append, records-push, each-append}
+use Rattle.record_file.proofs.Appending.{records-append, each-append}
+use Rattle.record_file.proofs.Buffers.{one_more, gate_behind, gate_within}
 use Rattle.peer_core.specs.Peer.{Peer}
 use Rattle.peer_core.specs.After.{peer_after}
 use Rattle.peer_store.specs.Steps.{changes}
 use Rattle.peer_store.specs.Store.{IsBodyFor, IsNoStep}
 use Rattle.peer_store.specs.Replay.{MakesBody, IsReplay, StopsBefore}
 use Rattle.peer_store.proofs.Saving.{kept_push}
-
--- the place of the gate behind one record more
-pub gate_place-push : (bodies : List (List ℕ)) (body : List ℕ) → gate_place (bodies ++ body ∷ []) ≡ gate_place bodies + (3 + length body)
-gate_place-push bodies body =
-    omega (arith, ap length (records-push bodies body), length-append (records bodies) (record_of body), length-append (to_be_bytes w16 (length body)) body)
-
--- no gate of the first records stands behind that of all
-pub gate_place-append : (some others : List (List ℕ)) → gate_place some ≤ gate_place (some ++ others)
-gate_place-append some others = omega (arith, ap length (records-append some others), length-append (records some) (records others))
 
 -- of bytes that begin with these bodies, those behind the first ones
 pub behind_made : (site : ℕ) (made others : List (List ℕ)) (body end : List ℕ)
@@ -66,24 +57,18 @@ stops_here old mid offset bodies made others body are so_far no_step offset_is =
 -- ---- a loop over buffers
 
 module _ {A : Type 0} (bodies : List (Vec ℕ A)) (i : ℕ) (item : Vec ℕ A) (within : i < length bodies) (item_is : item ≡ get_or bodies i item) where
-  next_bodies : bytes_of_each (take (i + 1) bodies) ≡ bytes_of_each (take i bodies) ++ item.items ∷ []
-  next_bodies =
-      ap bytes_of_each (take_more bodies i item within) ∙ each-append (take i bodies) (get_or bodies i item ∷ [])
-      ∙ ap (λ (v : Vec ℕ A). bytes_of_each (take i bodies) ++ v.items ∷ []) (sym item_is)
-
   -- the replay and the place of the gate after one body more
   pub next_replay : (old mid new : Peer) (body : List ℕ) → body ≡ item.items → IsReplay old (bytes_of_each (take i bodies)) mid → MakesBody mid body new → IsReplay old (bytes_of_each (take (i + 1) bodies)) new
   next_replay old mid new body body_is so_far made =
-      subst (λ (l : List (List ℕ)). IsReplay old l new) (sym (next_bodies ∙ ap (λ (b : List ℕ). bytes_of_each (take i bodies) ++ b ∷ []) (sym body_is))) (made_more old mid new (bytes_of_each (take i bodies)) body so_far made)
+      subst (λ (l : List (List ℕ)). IsReplay old l new) (sym (one_more bodies i item within item_is ∙ ap (λ (b : List ℕ). bytes_of_each (take i bodies) ++ b ∷ []) (sym body_is))) (made_more old mid new (bytes_of_each (take i bodies)) body so_far made)
 
   pub next_place : (place len : ℕ) → len ≡ length item.items → place ≡ gate_place (bytes_of_each (take i bodies)) → place + (3 + len) ≡ gate_place (bytes_of_each (take (i + 1) bodies))
   next_place place len len_is place_is =
-      omega (arith, ap gate_place next_bodies, gate_place-push (bytes_of_each (take i bodies)) item.items, len_is, place_is)
+      omega (arith, gate_behind bodies i item within item_is, len_is, place_is)
 
   pub place_below : (place len : ℕ) → len ≡ length item.items → place ≡ gate_place (bytes_of_each (take i bodies)) → place + (3 + len) ≤ gate_place (bytes_of_each bodies)
   place_below place len len_is place_is =
-      let parts : bytes_of_each bodies ≡ bytes_of_each (take (i + 1) bodies) ++ bytes_of_each (drop (i + 1) bodies) = ap bytes_of_each (sym (take-append-drop (i + 1) bodies)) ∙ each-append (take (i + 1) bodies) (drop (i + 1) bodies) in
-      omega (arith, next_place place len len_is place_is, gate_place-append (bytes_of_each (take (i + 1) bodies)) (bytes_of_each (drop (i + 1) bodies)), ap gate_place parts)
+      omega (arith, next_place place len len_is place_is, gate_within bodies i item within item_is)
 
   pub stops_at_item : (old mid : Peer) (place : ℕ) (body : List ℕ) → body ≡ item.items → place ≡ gate_place (bytes_of_each (take i bodies)) → IsReplay old (bytes_of_each (take i bodies)) mid → IsNoStep mid body
       → StopsBefore old place (bytes_of_each bodies)
@@ -92,7 +77,3 @@ module _ {A : Type 0} (bodies : List (Vec ℕ A)) (i : ℕ) (item : Vec ℕ A) (
       ∙ ap (λ (v : Vec ℕ A). bytes_of_each (take i bodies) ++ v.items ∷ bytes_of_each (drop (suc i) bodies)) (sym item_is)
       ∙ ap (λ (b : List ℕ). bytes_of_each (take i bodies) ++ b ∷ bytes_of_each (drop (suc i) bodies)) (sym body_is) in
       stops_here old mid place (bytes_of_each bodies) (bytes_of_each (take i bodies)) (bytes_of_each (drop (suc i) bodies)) body parts so_far no_step place_is
-
--- at the end all bodies were taken
-pub all_taken : {A : Type 0} (bodies : List (Vec ℕ A)) (i : ℕ) → length bodies ≤ i → bytes_of_each (take i bodies) ≡ bytes_of_each bodies
-all_taken bodies i past = ap bytes_of_each (take_all i bodies past)

@@ -1,6 +1,7 @@
 pub mod Appending
 mod Behind
 pub mod Bodies
+pub mod Buffers
 mod Chunks
 mod Crashes
 mod Gates
