@@ -1,12 +1,8 @@
 /* Stands before the C library's calls that give memory. The call of the number in FAIL_AT, counted from 1, finds none, and so do
    those behind it, FAIL_FOR in all: 1 where that isn't set, and all that come where it is 0. At the end the number of calls
    is written into the file that COUNT_IN names. */
+#include "counting.h"
 #include <errno.h>
-#include <fcntl.h>
-#include <stdio.h>
-#include <stdlib.h>
-#include <sys/syscall.h>
-#include <unistd.h>
 
 void *__libc_malloc(size_t size);
 void *__libc_calloc(size_t count, size_t size);
@@ -56,30 +52,13 @@ int posix_memalign(void **to, size_t alignment, size_t size) {
 }
 
 __attribute__((constructor)) static void begin(void) {
-    const char *at = getenv("FAIL_AT");
-    const char *row = getenv("FAIL_FOR");
     calls = 0;
-    fail_for = row ? strtoul(row, NULL, 10) : 1;
-    fail_at = at ? strtoul(at, NULL, 10) : 0;
+    fail_for = number("FAIL_FOR", 1);
+    fail_at = number("FAIL_AT", 0);
 }
 
-__attribute__((destructor)) static void end(void) {
-    const char *path = getenv("COUNT_IN");
+static void end(void) {
     char text[24];
     int length = snprintf(text, sizeof text, "%lu\n", calls);
-    int file = path ? open(path, O_WRONLY | O_CREAT | O_TRUNC, 0666) : -1;
-    if (file >= 0) {
-        if (write(file, text, length) != length) {
-            abort();
-        }
-        close(file);
-    }
-}
-
-/* A program that ends so runs no destructor. */
-void _exit(int status) {
-    end();
-    for (;;) {
-        syscall(SYS_exit_group, status);
-    }
+    write_counts(text, length);
 }
