@@ -99,7 +99,7 @@ module _ (names : List Name) (p : Policy) (version : ℕ) (ids : List Name) (tab
       each_by (IsSameFor names p version (λ q. is_among (take i ids) q || is_named (get_or ids i start) q) (is_among (take (i + 1) ids)))
       (λ k. ap (λ b. b && is_undone names p k) (among_more i lt k.request)) table
 
-  pub states_more : (i : ℕ) (j : Judgement) (states new : List Kept) → i < length ids → j ≡ judgement_on names p table (get_or ids i start) → is_in_order table ≡ true
+  states_more : (i : ℕ) (j : Judgement) (states new : List Kept) → i < length ids → j ≡ judgement_on names p table (get_or ids i start) → is_in_order table ≡ true
       → states ≡ states_after_in (is_among (take i ids)) names p version table → new ≡ with_verdict version j states
       → new ≡ states_after_in (is_among (take (i + 1) ids)) names p version table
   states_more i j states new lt judged order before carried =
@@ -110,7 +110,7 @@ module _ (names : List Name) (p : Policy) (version : ℕ) (ids : List Name) (tab
       ∙ states_twice names p version (is_named n) (is_among (take i ids)) table
       ∙ states_same names p version (λ q. is_among (take i ids) q || is_named n q) (is_among (take (i + 1) ids)) table (all_more i lt)
 
-  pub undone_more : (i : ℕ) (j : Judgement) (states : List Kept) → i < length ids → j ≡ judgement_on names p table (get_or ids i start) → is_in_order table ≡ true
+  undone_more : (i : ℕ) (j : Judgement) (states : List Kept) → i < length ids → j ≡ judgement_on names p table (get_or ids i start) → is_in_order table ≡ true
       → states ≡ states_after_in (is_among (take i ids)) names p version table
       → undone_in (is_among (take (i + 1) ids)) names p table ≡ undone_in (is_among (take i ids)) names p table + one_if (is_tentative_named states j.id && is_denied j.verdict)
   undone_more i j states lt judged order before =
@@ -126,12 +126,24 @@ module _ (names : List Name) (p : Policy) (version : ℕ) (ids : List Name) (tab
       omega (arith, twice, same, one)
 
   -- the judgement at a place is that on the name there
-  pub judged_at : (js : List Judgement) (i : ℕ) (d j : Judgement) → js ≡ map (judgement_on names p table) ids → i < length js → get_or js i d ≡ j
+  judged_at : (js : List Judgement) (i : ℕ) (d j : Judgement) → js ≡ map (judgement_on names p table) ids → i < length js → get_or js i d ≡ j
       → (i < length ids) × (j ≡ judgement_on names p table (get_or ids i start))
   judged_at js i d j are lt at =
       let long : length js ≡ length ids = ap length are ∙ length-map ids (judgement_on names p table) in
       let within : i < length ids = omega arith in
       (within, sym at ∙ ap (λ xs. get_or xs i d) are ∙ get_or-map (judgement_on names p table) ids i start d within)
+
+  -- so by one judgement more its name is carried out
+  module _ (js : List Judgement) (i : ℕ) (d j : Judgement) (states : List Kept) (are : js ≡ map (judgement_on names p table) ids) (lt : i < length js) (at : get_or js i d ≡ j)
+      (order : is_in_order table ≡ true) (before : states ≡ states_after_in (is_among (take i ids)) names p version table) where
+    here : (i < length ids) × (j ≡ judgement_on names p table (get_or ids i start))
+    here = judged_at js i d j are lt at
+
+    pub states_next : (new : List Kept) → new ≡ with_verdict version j states → new ≡ states_after_in (is_among (take (i + 1) ids)) names p version table
+    states_next new carried = states_more i j states new here.0 here.1 order before carried
+
+    pub undone_next : undone_in (is_among (take (i + 1) ids)) names p table ≡ undone_in (is_among (take i ids)) names p table + one_if (is_tentative_named states j.id && is_denied j.verdict)
+    undone_next = undone_more i j states here.0 here.1 order before
 
 -- ---- those within the reach are all that are undone
 

@@ -9,7 +9,7 @@ use Rattle.retro_undo.proofs.Undoing.{counted_again, counted_last}
 use Rattle.par_sweep.specs.declared.judging.Judgement.{Judgement}
 use Rattle.par_sweep.specs.Judged.{judgement_on}
 use Rattle.par_sweep.specs.Listed.{names_within}
-use Rattle.par_sweep.proofs.Swept.{is_among, order_after, judged_at, states_more, undone_more, states_swept, undone_swept}
+use Rattle.par_sweep.proofs.Swept.{is_among, order_after, states_next, undone_next, states_swept, undone_swept}
 use Rattle.par_sweep.proofs.sweep.par_sweep.Goals as goal
 
 pub loop-judgement-init : goal.loop-judgement-init
@@ -32,30 +32,23 @@ carry_out-requires-clause-counted g c = ap (λ (t : Table). t.counted) c.loop-ju
 pub overflow_add-count : goal.overflow_add-count
 overflow_add-count g c =
     let names = g.P.Places.names c.args.places.now in
-    let p = c.args.policy.now in
-    let table = c.args.states.now in
-    let ids = names_within c.args.reach table in
-    let i = c.loop-judgement.judgement-index in
-    let j = c.judgement-item.result in
-    let at = judged_at names p c.args.version ids table c.as_slice-judgement-items.result.now i j j (c.as_slice-judgement-items.ensures.value ∙ c.in-Some.ensures.judged) c.loop-judgement-test.true (sym c.judgement-item.is) in
-    let more = undone_more names p c.args.version ids table i j c.loop-judgement.states at.0 at.1 c.in-Some.ensures.in_order c.loop-judgement.invariant.states in
-    let few = few_undone names p c.args.version (is_among (take (i + 1) ids)) table in
+    let ids = names_within c.args.reach c.args.states.now in
+    let more = undone_next names c.args.policy.now c.args.version ids c.args.states.now c.as_slice-judgement-items.result.now c.loop-judgement.judgement-index c.judgement-item.result c.judgement-item.result c.loop-judgement.states
+    (c.as_slice-judgement-items.ensures.value ∙ c.in-Some.ensures.judged) c.loop-judgement-test.true (sym c.judgement-item.is) c.in-Some.ensures.in_order c.loop-judgement.invariant.states in
+    let few = few_undone names c.args.policy.now c.args.version (is_among (take (c.loop-judgement.judgement-index + 1) ids)) c.args.states.now in
     let one = one_counted _ _ _ c.from-count.ensures c.carry_out.ensures.undone in
     omega (arith, more, few, one, c.loop-judgement.invariant.count, c.requires.tables.few)
 
 pub loop-judgement-preserved : goal.loop-judgement-preserved
 loop-judgement-preserved g c =
     let names = g.P.Places.names c.args.places.now in
-    let p = c.args.policy.now in
-    let table = c.args.states.now in
-    let ids = names_within c.args.reach table in
-    let i = c.loop-judgement.judgement-index in
-    let j = c.judgement-item.result in
-    let at = judged_at names p c.args.version ids table c.as_slice-judgement-items.result.now i j j (c.as_slice-judgement-items.ensures.value ∙ c.in-Some.ensures.judged) c.loop-judgement-test.true (sym c.judgement-item.is) in
-    let more = undone_more names p c.args.version ids table i j c.loop-judgement.states at.0 at.1 c.in-Some.ensures.in_order c.loop-judgement.invariant.states in
+    let ids = names_within c.args.reach c.args.states.now in
+    let more = undone_next names c.args.policy.now c.args.version ids c.args.states.now c.as_slice-judgement-items.result.now c.loop-judgement.judgement-index c.judgement-item.result c.judgement-item.result c.loop-judgement.states
+    (c.as_slice-judgement-items.ensures.value ∙ c.in-Some.ensures.judged) c.loop-judgement-test.true (sym c.judgement-item.is) c.in-Some.ensures.in_order c.loop-judgement.invariant.states in
     let one = one_counted _ _ _ c.from-count.ensures c.carry_out.ensures.undone in
     record {
-      states = states_more names p c.args.version ids table i j c.loop-judgement.states c.carry_out.new.states at.0 at.1 c.in-Some.ensures.in_order c.loop-judgement.invariant.states c.carry_out.ensures.states;
+      states = states_next names c.args.policy.now c.args.version ids c.args.states.now c.as_slice-judgement-items.result.now c.loop-judgement.judgement-index c.judgement-item.result c.judgement-item.result c.loop-judgement.states
+          (c.as_slice-judgement-items.ensures.value ∙ c.in-Some.ensures.judged) c.loop-judgement-test.true (sym c.judgement-item.is) c.in-Some.ensures.in_order c.loop-judgement.invariant.states c.carry_out.new.states c.carry_out.ensures.states;
       count = omega (arith, more, one, c.loop-judgement.invariant.count);
       cells = counted_last c.args.table.now c.loop-judgement.table c.carry_out.new.table c.loop-judgement.states c.carry_out.new.states c.loop-judgement.invariant.cells c.carry_out.ensures.cells;
     }
