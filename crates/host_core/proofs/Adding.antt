@@ -21,8 +21,7 @@ use Rattle.policy_book.specs.Entry.{Entry}
 use Rattle.edit_message.specs.declared.message.Message.{Message}
 use Rattle.edit_message.specs.declared.message.Message.TheVariants.{Coop, Admin}
 use Rattle.edit_message.specs.declared.message.Missing.{Missing}
-use Rattle.edit_message.specs.declared.message.Key.{Key}
-use Rattle.edit_message.specs.Message.{key_of, find_key, requests_of}
+use Rattle.edit_message.specs.Message.{key_of, find_key}
 use Rattle.edit_message.specs.Missing.{missing_end}
 use Rattle.edit_message.specs.Same.{message_eq}
 use Rattle.auth_match.specs.declared.verdict.Verdict.{Verdict}
@@ -48,7 +47,6 @@ use Rattle.host_core.specs.declared.refusal.Refusal.TheVariants.{NoLink}
 use Rattle.host_core.specs.declared.event.HostEvent.{HostEvent}
 use Rattle.host_core.specs.declared.event.HostEvent.TheVariants.{Began, Made}
 use Rattle.host_core.specs.Past.{first_peer, host_peer, is_offer, is_denial, denied_of, link_of, open_link}
-use Rattle.host_core.specs.Stamps.{later_stamp}
 use Rattle.host_core.specs.Refusals.{refusal_by, ask_refusal}
 use Rattle.host_core.specs.Happens.{MayHappen, IsPast}
 use Rattle.host_core.specs.Laws.{HeldLaw, ClockLaw, ReserveLaw, ShareLaw}
@@ -212,18 +210,6 @@ take_next J i m there =
 -- the greatest stamp with one more request
 greatest_push : (requests : List Request) (q : Request) → greatest_stamp (requests ++ q ∷ []) ≡ max (greatest_stamp requests) q.id.stamp
 greatest_push requests q = fold_push (λ stamp (r : Request). max stamp r.id.stamp) 0 requests q
-
--- with one more message of a journal
-one_later : (J : List Message) (m : Message) → greatest_stamp (requests_of (J ++ m ∷ [])) ≡ later_stamp (greatest_stamp (requests_of J)) (key_of m)
-one_later J (Coop q) = ap greatest_stamp (requests_request J q) ∙ greatest_push (requests_of J) q
-one_later J (Admin e) = ap greatest_stamp (requests_entry J e)
-
-pub one_stamp_more : (J : List Message) (i found new : ℕ) (m : Message) (key : Key) → found ≡ greatest_stamp (requests_of (take i J)) → slice_get J i ≡ Some m → key ≡ key_of m → new ≡ later_stamp found key
-    → new ≡ greatest_stamp (requests_of (take (i + 1) J))
-one_stamp_more J i found new m key so_far there same later =
-    let front : take (i + 1) J ≡ take i J ++ m ∷ [] = take_next J i m there in
-    later ∙ ap (λ n. later_stamp n key) so_far ∙ ap (later_stamp (greatest_stamp (requests_of (take i J)))) same
-    ∙ sym (one_later (take i J) m) ∙ ap (λ (K : List Message). greatest_stamp (requests_of K)) (sym front)
 
 -- a clock that ran slowly enough does so still
 clock_on : (H K : List Request) (stamp count : ℕ) → (K ≡ H) ⊎ ((q : Request) × (q.id.stamp ≤ greatest_stamp H + 1) × (K ≡ H ++ q ∷ []))
