@@ -15,11 +15,33 @@ export const LENGTH_BYTES = 4;
 // The frame version of all frames but those of a long piece.
 export const PLAIN_VERSION = 1;
 
+export const DELETE_KIND = 2;
+
+export const UPDATE_KIND = 3;
+
 export const ENTRY_KIND = 4;
 
 export const TURN_KIND = 5;
 
 export const END_KIND = 6;
+
+// The greatest number of requests in a history.
+export const MOST_REQUESTS = 131072;
+
+// The version of the protocol.
+export const PROTOCOL = 1;
+
+// How many bytes a message that comes may have.
+export const MOST_MESSAGE_BYTES = 65536;
+
+// How many bytes the words of a caret may have.
+export const MOST_CARET_BYTES = 200;
+
+// How many scalar values a name may have.
+export const MOST_NAME_LETTERS = 40;
+
+// The greatest number of users, of objects, of groups, of members of a group and of authorizations.
+export const MOST_OF_KIND = 256;
 
 // How a call ended.
 export const Code = Object.freeze({
