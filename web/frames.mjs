@@ -1,10 +1,11 @@
 // Frames of messages, one behind another, as docs/FORMATS.md has them.
-import { ENTRY_KIND, LENGTH_BYTES } from './limits.mjs';
+import { DELETE_KIND, ENTRY_KIND, LENGTH_BYTES, UPDATE_KIND } from './limits.mjs';
 
 // Behind the length, which counts the bytes behind it, and the version of the frame.
 const KIND_AT = LENGTH_BYTES + 1;
 const NAME_AT = KIND_AT + 1;
-const SITE_AT = NAME_AT + 6;
+const STAMP_BYTES = 6;
+const TARGET_AT = NAME_AT + 10; // behind the name and the version
 const FIRST_ROOM = 4096;
 const FIRST_COUNT = 64;
 
@@ -35,15 +36,58 @@ export function isEntry(frame) {
 }
 
 /**
- * The stamp and the user, who is the site, of the name of the request of a frame, and the name.
+ * A name that stands in a frame: its stamp, its user, who is the site, and as lines spell it.
+ *
+ * @param {Uint8Array} frame
+ * @param {number} at
+ */
+function nameAt(frame, at) {
+  const view = new DataView(frame.buffer, frame.byteOffset + at);
+  const stamp = view.getUint16(0) * 2 ** 32 + view.getUint32(2);
+  const user = view.getUint16(STAMP_BYTES);
+  return { stamp, user, name: `${stamp}.${user}` };
+}
+
+/**
+ * The name of the request of a frame.
  *
  * @param {Uint8Array} frame
  */
 export function requestOf(frame) {
-  const view = new DataView(frame.buffer, frame.byteOffset);
-  const stamp = view.getUint16(NAME_AT) * 2 ** 32 + view.getUint32(NAME_AT + 2);
-  const user = view.getUint16(SITE_AT);
-  return { stamp, user, name: `${stamp}.${user}` };
+  return nameAt(frame, NAME_AT);
+}
+
+/**
+ * The name of the element that the request of a frame deletes; null where it deletes none.
+ *
+ * @param {Uint8Array} frame
+ */
+export function deletedBy(frame) {
+  return frame[KIND_AT] === DELETE_KIND ? nameAt(frame, TARGET_AT).name : null;
+}
+
+/**
+ * The name of the element that the request of a frame changes; null where it changes none.
+ *
+ * @param {Uint8Array} frame
+ */
+export function changedBy(frame) {
+  return frame[KIND_AT] === UPDATE_KIND ? nameAt(frame, TARGET_AT).name : null;
+}
+
+/**
+ * Rows of bytes as one.
+ *
+ * @param {Uint8Array[]} rows
+ */
+export function joined(rows) {
+  const all = new Uint8Array(rows.reduce((size, it) => size + it.length, 0));
+  let at = 0;
+  for (const row of rows) {
+    all.set(row, at);
+    at += row.length;
+  }
+  return all;
 }
 
 /**

@@ -1,0 +1,52 @@
+// Who is known: persons with their names and roles, and whose each device is, as the host tells. A device is a user of a document's rules,
+// and a person a group of them.
+
+/** @typedef {import('./protocol.mjs').Person} Person */
+
+export class Directory {
+  constructor() {
+    /** @type {Map<number, Person>} by their numbers */
+    this.people = new Map();
+    /** @type {Map<number, number>} persons, by the sites of their devices */
+    this.devices = new Map();
+  }
+
+  /** @param {import('./protocol.mjs').People} told */
+  take({ people, devices }) {
+    this.people = new Map(people.map((it) => [it.person, it]));
+    this.devices = new Map(devices.map(({ site, person }) => [site, person]));
+  }
+
+  // The same, for a browser to keep.
+  get kept() {
+    const devices = [...this.devices].map(([site, person]) => ({ site, person }));
+    return { people: [...this.people.values()], devices };
+  }
+
+  /**
+   * The person who has the device of a site; null where the host told of none.
+   *
+   * @param {number} site
+   */
+  personOf(site) {
+    return this.devices.get(site) ?? null;
+  }
+
+  /** @param {number} person */
+  nameOf(person) {
+    return this.people.get(person)?.name ?? null;
+  }
+
+  /**
+   * Whether two devices are of one person.
+   *
+   * @param {number} site
+   * @param {number} other
+   */
+  isSame(site, other) {
+    return site === other || (this.devices.has(site) && this.devices.get(site) === this.devices.get(other));
+  }
+}
+
+// Those whom this page knows.
+export const directory = new Directory();

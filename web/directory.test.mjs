@@ -1,0 +1,17 @@
+import assert from 'node:assert/strict';
+import test from 'node:test';
+import { Directory } from './directory.mjs';
+
+test('who is known', () => {
+  const known = new Directory();
+  assert.equal(known.personOf(1), null);
+  const told = {
+    people: [{ person: 1, role: 'owner', name: 'Ada Lund' }, { person: 2, role: 'writer', name: 'Bea Okafor' }],
+    devices: [{ site: 1, person: 1 }, { site: 2, person: 2 }, { site: 3, person: 1 }],
+  };
+  known.take({ kind: 'people', ...told });
+  assert.deepEqual([known.personOf(3), known.nameOf(1), known.nameOf(3)], [1, 'Ada Lund', null]);
+  assert.ok(known.isSame(1, 3) && known.isSame(9, 9));
+  assert.ok(!known.isSame(1, 2) && !known.isSame(8, 9));
+  assert.deepEqual(known.kept, told);
+});
