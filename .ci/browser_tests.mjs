@@ -1,4 +1,4 @@
-// Tries the page in headless Chromium, by keys as a person presses them.
+// Tries the page for trying alone in headless Chromium, by keys as a person presses them.
 //
 //   node .ci/browser_tests.mjs CHROMIUM [--program PROGRAM] [--only TRY,TRY] [--picture FILE] [--speed]
 //
@@ -17,7 +17,7 @@ import { measure } from './page_speed.mjs';
 const PATIENCE_MS = 60000; // for what has to come, on a machine with much other work
 const WHOLE_MS = 280000; // for all of it
 const STEP_MS = 40;
-const FRAME = '<!doctype html><iframe src="/?site=9"></iframe>';
+const FRAME = '<!doctype html><iframe src="/alone/?site=9"></iframe>';
 const KINDS = { '.html': 'text/html', '.mjs': 'text/javascript', '.css': 'text/css', '.wasm': 'application/wasm' };
 const WEB = new URL('../web/', import.meta.url);
 const DESK = { width: 900, height: 1000 };
@@ -42,7 +42,7 @@ async function until(what, holds) {
 // The folder web/, to be had from this machine alone, with a page that frames it.
 async function serveFolder() {
   const server = createServer(({ url }, response) => {
-    const name = new URL(url, 'http://localhost').pathname.slice(1) || 'index.html';
+    const name = new URL(url, 'http://localhost').pathname.slice(1).replace(/^$|(?<=\/)$/, 'index.html');
     try {
       const bytes = name === 'frame.html' ? FRAME : readFileSync(new URL(name, WEB));
       response.writeHead(200, { 'content-type': KINDS[extname(name)] ?? 'application/octet-stream' }).end(bytes);
@@ -69,7 +69,7 @@ class Sheet {
   }
 
   address(more = '') {
-    return `${this.world.address}?site=${this.site}${more}`;
+    return `${this.world.address}alone/?site=${this.site}${more}`;
   }
 
   // Whether what was loaded since the mark was set is open, or said that it isn't.
@@ -175,7 +175,7 @@ async function pair(world) {
   const user = await Sheet.open(world, world.profile, 1);
   await administrator.press('#people-form button[value=adduser]');
   await administrator.press('#rule-form button[value="+"]');
-  await user.says('rules', /^User 1 may insert, delete or change in the whole text\./);
+  await user.says('rules', /^User 1 may write everywhere\./);
   return { administrator, user };
 }
 
@@ -251,29 +251,29 @@ const tries = {
     await user.page.insert(MARKUP);
     await administrator.has(MARKUP);
     await administrator.press('#rule-form button[value="-"]');
-    await user.says('undone', /^User 1: [0-9]+ letters written[^]*Version [0-9]+ of the rules denies it, [^]*“User 1 may not insert, delete or change in the whole text\.”/);
+    await user.says('undone', /^User 1: [0-9]+ letters written[^]*The rule says: User 1 may not write anywhere\./);
     await user.says('status', /^[0-9]+ edits? (was|were) undone\./);
     await user.has('');
     for (const { page } of [administrator, user]) {
       assert.deepEqual([await page.value('document.querySelectorAll("img, script:not([src])").length'), page.asked], [0, []]);
     }
     await administrator.press('#rules button');
-    await user.says('rules', /^User 1 may insert/);
+    await user.says('rules', /^User 1 may write/);
   },
 
   async protecting_and_denying({ administrator, user }) {
     await begin(administrator, user, 'Rent: 600.\nFood: 20.');
     await administrator.select(2);
     await administrator.press('#protect');
-    await user.says('rules', /^Nobody may insert, delete or change in paragraph 1 \(“Rent: 600\.”\)\./);
+    await user.says('rules', /^Nobody may write in the paragraph “Rent: 600\.”/);
     await user.select(6, 7);
     await user.page.type('5');
-    await user.says('status', /^This is not allowed\. Version [0-9]+ of the rules denies it, .*Nobody may insert, delete or change in paragraph 1 \(“Rent: 600\.”\)\./);
+    await user.says('status', /^You may not do this here\. The rule says: Nobody may write in the paragraph “Rent: 600\.”/);
     await user.append('!?');
     await administrator.has('Rent: 600.\nFood: 20.!?');
     await administrator.press('#validate-all');
     await administrator.says('status', /^[0-9]+ edits? (is|are) confirmed\.$/);
-    await administrator.says('versions', /[0-9]+ edits are confirmed, up to version [0-9]+\.$/);
+    await administrator.says('versions', /[0-9]+ edits are confirmed, up to change [0-9]+\.$/);
     await administrator.holds('document.getElementById("versions").lastElementChild.value < Number(/[0-9]+(?= of the rules)/.exec(who.textContent)[0])');
   },
 
@@ -295,7 +295,7 @@ const tries = {
 
   // What the administrator wrote in another browser makes a page that lacks it stale, for good, and it changes no rules.
   async a_page_that_is_stale({ administrator }, world) {
-    const frames = await administrator.page.value("import('./store.mjs').then(({ Store }) => Store.open(0)).then((it) => it.read()).then((it) => [...it])");
+    const frames = await administrator.page.value("import('../store.mjs').then(({ Store }) => Store.open('site 0')).then((it) => it.read()).then((it) => [...it])");
     const other = await Sheet.open(world, await world.browser.profile(), 0);
     await other.holds('!powers.disabled && !validates.checked');
     await other.append('mine');
@@ -303,7 +303,7 @@ const tries = {
     for (let times = 0; times < 2; times++) {
       await other.says('status', /^This person wrote before/);
       await other.holds('powers.disabled && text.readOnly && validate.matches(":disabled") && !document.querySelector("#rules button")');
-      await until('it is kept', () => other.page.value("import('./store.mjs').then(({ Store }) => Store.open(0)).then((it) => it.isMarked())"));
+      await until('it is kept', () => other.page.value("import('../store.mjs').then(({ Store }) => Store.open('site 0')).then((it) => it.isMarked())"));
       await other.load();
     }
     await other.close();
@@ -311,7 +311,7 @@ const tries = {
 
   // A browser that keeps nothing more lets nothing more be changed.
   async a_store_that_takes_no_more({ administrator }) {
-    await administrator.page.value("import('./store.mjs').then(({ Store }) => (Store.prototype.append = () => Promise.reject(new Error('no room'))))");
+    await administrator.page.value("import('../store.mjs').then(({ Store }) => (Store.prototype.append = () => Promise.reject(new Error('no room'))))");
     await administrator.append('x');
     await administrator.says('status', /^This browser keeps nothing more \(no room\)/);
     await administrator.holds('powers.disabled && text.readOnly && !document.querySelector("#rules button")');
@@ -351,7 +351,7 @@ const tries = {
       await it.load();
       await it.says('status', /^This page is back/);
       await it.has('Tea.');
-      await it.says('rules', /User 1 may insert, delete or change in the whole text\./);
+      await it.says('rules', /User 1 may write everywhere\./);
     }
     await user.append(' Milk?');
     await administrator.has('Tea. Milk?');
@@ -395,7 +395,7 @@ const tries = {
   },
 
   async a_store_that_is_no_journal({ user }, world) {
-    await user.page.value("import('./store.mjs').then(({ Store }) => Store.open(1)).then((it) => it.append(Uint8Array.of(1, 2, 3)))");
+    await user.page.value("import('../store.mjs').then(({ Store }) => Store.open('site 1')).then((it) => it.append(Uint8Array.of(1, 2, 3)))");
     await user.load();
     await user.says('status', /is no journal/);
     await world.browser.call('Browser.setDownloadBehavior', { behavior: 'allow', browserContextId: world.profile, downloadPath: world.folder });
@@ -431,9 +431,9 @@ async function lost(administrator, user, world) {
   await user.has('Tea at four. Milk? And bread.');
   const second = world.run(2, port, 2);
   for (const it of sheets) await it.has('Tea at four. Milk? Yes.');
-  await user.says('undone', /^User 1: 11 letters written \(“ And bread\.”\)\. Version [0-9]+ of the rules denies it/);
+  await user.says('undone', /^User 1: 11 letters written \(“ And bread\.”\)\. The rule says: /);
   await user.append('No');
-  await user.says('status', /^This is not allowed\. Version [0-9]+ of the rules denies it/);
+  await user.says('status', /^You may not do this here\. The rule says: /);
   if (world.picture) await show(world.picture, user, 4, 870);
   for (const it of sheets) await it.press('#unlink');
   assert.equal(await second.ended, 0);

@@ -10,16 +10,16 @@ const PATIENCE_MS = 120000;
 // Puts a text of so many letters, each a piece that user 1 wrote, into the store of site 0, and keeps its bytes in the page.
 function filled(count) {
   return `globalThis.isFilled = false; (async () => {
-    const { Module } = await import('./peer.mjs');
-    const { Copy } = await import('./copy.mjs');
-    const { Store } = await import('./store.mjs');
-    const module = async () => Module.load(await (await fetch('editor.wasm')).arrayBuffer());
+    const { Module } = await import('../peer.mjs');
+    const { Copy } = await import('../copy.mjs');
+    const { Store } = await import('../store.mjs');
+    const module = async () => Module.load(await (await fetch('../editor.wasm')).arrayBuffer());
     const rules = new Copy(await module(), 0);
     ['admin adduser 1', 'admin addauth 0 + 1 idu 0'].forEach((it) => rules.step(it));
     const copy = new Copy(await module(), 1, rules.journal.slice(0, rules.journal.count));
     for (let i = 0; i < ${count}; i++) copy.peer.step('edit insert ' + i + ' ' + (i % 60 === 59 ? '\\\\n' : 'x'));
     copy.takeIn('');
-    const store = await Store.open(0);
+    const store = await Store.open('site 0');
     await store.clear();
     await store.append(copy.journal.slice(0, copy.journal.count));
     globalThis.isFilled = true;
@@ -54,11 +54,11 @@ function noted(name) {
 
 // Writes letters in another copy of the page's journal, and posts each as another page does.
 const COMES = `globalThis.isSent = false; (async () => {
-  const { Module } = await import('./peer.mjs');
-  const { Copy } = await import('./copy.mjs');
-  const { Store } = await import('./store.mjs');
-  const bytes = await (await Store.open(0)).read();
-  const copy = new Copy(await Module.load(await (await fetch('editor.wasm')).arrayBuffer()), 1, bytes);
+  const { Module } = await import('../peer.mjs');
+  const { Copy } = await import('../copy.mjs');
+  const { Store } = await import('../store.mjs');
+  const bytes = await (await Store.open('site 0')).read();
+  const copy = new Copy(await Module.load(await (await fetch('../editor.wasm')).arrayBuffer()), 1, bytes);
   const channel = new BroadcastChannel('roastcliff');
   for (let i = 0; i < ${FRAMES}; i++) {
     copy.insert((i * 7919) % copy.pieces.count, 'y');
@@ -122,7 +122,7 @@ async function frames(page, count) {
 }
 
 export async function measure({ browser, address }) {
-  const page = await browser.page(`${address}?site=0`, await browser.profile(), { width: 900, height: 1000 });
+  const page = await browser.page(`${address}alone/?site=0`, await browser.profile(), { width: 900, height: 1000 });
   await page.before(NOTE);
   for (const count of [SMALL, LARGE]) {
     await open(page, count);

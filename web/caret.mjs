@@ -1,30 +1,37 @@
 // A caret by the name of the piece that it stands behind or in, so that it is found again whatever comes.
+import { difference } from './difference.mjs';
 
 /**
- * `inside` is how far it stands in its piece, null where it stands behind it; `name` is null at the text's start.
+ * `inside` is how far it stands in its piece, null where it stands behind it; `name` is null at the text's start; `piece` is the piece in
+ * which it stands.
  *
- * @param {import('./copy.mjs').Copy} copy
+ * @typedef {{ name: string | null, inside: number | null, piece: string }} Caret
+ * @typedef {import('./copy.mjs').Copy} Copy
+ */
+
+/**
+ * @param {Copy} copy
  * @param {number} offset
+ * @returns {Caret}
  */
 export function caretAt({ peer, pieces }, offset) {
   const { place, start } = pieces.behind(offset);
-  if (start < offset) return { offset, name: peer.nameAt(place), inside: offset - start };
-  return { offset, name: place ? peer.nameAt(place - 1) : null, inside: null };
+  if (start < offset) return { name: peer.nameAt(place), inside: offset - start, piece: pieces.pieceAt(place) };
+  return { name: place ? peer.nameAt(place - 1) : null, inside: null, piece: '' };
 }
 
 /**
- * Where a caret stands now. If it stood in a piece that is gone, the difference between the texts tells.
+ * Where a caret stands now: in a piece that was changed as the difference tells, and where its piece is gone at its place.
  *
- * @param {import('./copy.mjs').Copy} copy
- * @param {{ offset: number, name: string | null, inside: number | null }} caret
- * @param {{ start: number, end: number, text: string }} change
+ * @param {Copy} copy
+ * @param {Caret} caret
  */
-export function offsetOf({ peer, pieces }, { offset, name, inside }, change) {
+export function offsetOf({ peer, pieces }, { name, inside, piece }) {
   if (name === null) return 0;
   const place = peer.shownUpTo(name) ?? 0;
-  if (inside === null) return pieces.startOf(place);
-  if (!place || peer.nameAt(place - 1) !== name) return moved(offset, change);
-  return pieces.startOf(place - 1) + Math.min(inside, pieces.sizes[place - 1]);
+  if (inside === null || !place || peer.nameAt(place - 1) !== name) return pieces.startOf(place);
+  const now = pieces.pieceAt(place - 1);
+  return pieces.startOf(place - 1) + (now === piece ? inside : moved(inside, difference(piece, now)));
 }
 
 /**

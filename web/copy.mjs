@@ -1,7 +1,8 @@
 // A person's own copy: the peer, the frames of its journal's items, the pieces that show, the policy, and what was undone.
-import { BAD, DONE, NoMemory, Peer, UNTOLD } from './peer.mjs';
-import { Frames, isEntry, requestOf, split } from './frames.mjs';
+import { authorsOf } from './authors.mjs';
+import { changedBy, deletedBy, Frames, isEntry, requestOf, split } from './frames.mjs';
 import { readMessage, spelled, undoneBy } from './lines.mjs';
+import { BAD, DONE, NoMemory, Peer, UNTOLD } from './peer.mjs';
 import { Pieces } from './pieces.mjs';
 import { MOST_TO_CONFIRM, Policy } from './policy.mjs';
 import { Undone } from './undone.mjs';
@@ -9,7 +10,15 @@ import { Undone } from './undone.mjs';
 // A frame of no message: the bytes are at fault, and whoever sent them.
 export class BadFrame extends Error {}
 
+/**
+ * A change of a piece: its name's parts, and where in the journal it stands.
+ *
+ * @typedef {{ name: string, stamp: number, user: number, place: number }} Change
+ * @typedef {import('./lines.mjs').EditRequest & { isDeleted: boolean }} Lost a request that would be undone, and whether its letters are gone
+ */
+
 const ITEM = 'item ';
+const decoder = new TextDecoder('utf-8', { ignoreBOM: true });
 const EXCERPT = 24; // letters by which a paragraph is told
 
 export class Copy {
@@ -21,6 +30,7 @@ export class Copy {
    * @param {Uint8Array} [bytes]
    */
   constructor(module, site, bytes) {
+    this.module = module;
     this.peer = new Peer(module, site, bytes);
     this.site = site;
     this.journal = new Frames();
@@ -32,6 +42,12 @@ export class Copy {
     this.tentative = new Map();
     this.undone = new Undone();
     this.isStale = false; // this site wrote before what isn't here
+    /** @type {Set<string>} the names of elements that somebody deleted, whether or not it was undone */
+    this.deleted = new Set();
+    /** @type {Map<string, Change[]>} by the names of elements, the changes of them that weren't undone */
+    this.changes = new Map();
+    /** @type {{ name: string, request: string }[]} changes of elements by others that came since these were looked at */
+    this.changed = [];
     /** @type {Pieces | null} those that show, where they are known */
     this.shown = null;
     if (bytes) this.takeAll(bytes);
@@ -51,7 +67,9 @@ export class Copy {
         this.takeVersion(this.entryAt(place));
         continue;
       }
+      this.noteTarget(frame, place);
       const denial = this.denialOf(requestOf(frame), place);
+      if (denial) this.dropChange(frame);
       if (denial) undone.push({ place, denial });
     }
     undone.sort((a, b) => a.denial.version - b.denial.version);
@@ -61,8 +79,55 @@ export class Copy {
 
   // The pieces that show.
   get pieces() {
-    this.shown ??= Pieces.of(this.peer.text(), this.peer.sizes());
+    this.shown ??= this.askPieces();
     return this.shown;
+  }
+
+  // The pieces that show, as the peer tells. It takes the time of the text.
+  askPieces() {
+    const { peer } = this;
+    const pieces = Pieces.of(peer.text(), peer.sizes(), (place) => Number(peer.nameAt(place)?.split('.')[1]));
+    for (const [name, changes] of this.changes) {
+      const place = this.placeOf(name);
+      if (changes.length && place !== null) pieces.authors.set(place, this.authorsAt(name, changes));
+    }
+    return pieces;
+  }
+
+  /**
+   * The place at which an element shows; null where it doesn't.
+   *
+   * @param {string} name
+   */
+  placeOf(name) {
+    const place = (this.peer.shownUpTo(name) ?? 0) - 1;
+    return place >= 0 && this.peer.nameAt(place) === name ? place : null;
+  }
+
+  /**
+   * Whose the letters of an element are that was changed.
+   *
+   * @param {string} name
+   * @param {Change[]} changes
+   */
+  authorsAt(name, changes) {
+    const places = [this.placeInJournal(name), ...changes.toSorted((a, b) => a.stamp - b.stamp || a.user - b.user).map(({ place }) => place)];
+    return authorsOf(places.map((it) => this.requestAt(it)).map(({ edit, user }) => ({ piece: edit.piece, user })));
+  }
+
+  /**
+   * Where in the journal the request of a name stands, which is there.
+   *
+   * @param {string} name
+   */
+  placeInJournal(name) {
+    const known = this.tentative.get(name);
+    if (known !== undefined) return known;
+    for (let place = 0; place < this.journal.count; place++) {
+      const frame = this.journal.view(place);
+      if (!isEntry(frame) && requestOf(frame).name === name) return place;
+    }
+    throw new Error(`the journal has no request ${name}`);
   }
 
   /**
@@ -92,18 +157,28 @@ export class Copy {
     return this.step(`edit delete ${place}`);
   }
 
+  /**
+   * @param {number} place
+   * @param {string} piece
+   */
+  update(place, piece) {
+    return this.step(`edit update ${place} ${spelled(piece)}`);
+  }
+
   // Has the pieces asked for anew when they are asked for next.
   forgetPieces() {
     this.shown = null;
   }
 
   /**
-   * Whether the rules let this person delete the piece at a place, as far as this page reads them.
+   * Whether the rules let this person do something, as far as this page reads them: delete the piece at a place (`d`), change it (`u`), or
+   * put one in there (`i`).
    *
+   * @param {string} right
    * @param {number} place
    */
-  mayDelete(place) {
-    return this.policy.allows(this.site, 'd', (extent) => this.covers(extent, place));
+  may(right, place) {
+    return this.policy.allows(this.site, right, (extent) => (right === 'i' ? this.coversNew(extent, place) : this.covers(extent, place)));
   }
 
   /**
@@ -117,6 +192,35 @@ export class Copy {
     if (kind === 'span') return this.firstOf(words[0]) <= place && place < (this.peer.shownUpTo(words[1]) ?? 0);
     const name = this.peer.nameAt(place) ?? '';
     return kind === 'by' ? name.endsWith(`.${words[0]}`) : words[0].split(',').includes(name);
+  }
+
+  /**
+   * Whether an extent would have a piece that this person puts in at a place.
+   *
+   * @param {import('./policy.mjs').Extent} extent
+   * @param {number} place
+   */
+  coversNew({ kind, words }, place) {
+    if (kind === 'span') return this.firstOf(words[0]) < place && place < (this.peer.shownUpTo(words[1]) ?? 0);
+    return kind === 'all' || (kind === 'by' && Number(words[0]) === this.site);
+  }
+
+  /**
+   * What would be undone if these operations were made now. A second peer of the same journal is asked, so the rules are read by nobody
+   * but a peer. It takes the time of the journal.
+   *
+   * @param {string[]} operations
+   * @returns {Lost[]}
+   */
+  wouldUndo(operations) {
+    const peer = new Peer(this.module, this.site, this.journal.slice(0, this.journal.count));
+    try {
+      operations.forEach((it, i) => peer.step(`message entry ${this.policy.version + 1 + i} ${it}`));
+      const gone = [...this.tentative].filter(([name]) => undoneBy(peer.state(name)));
+      return gone.map(([name, place]) => ({ ...this.requestAt(place), isDeleted: this.deleted.has(name) }));
+    } finally {
+      peer.close();
+    }
   }
 
   /**
@@ -226,8 +330,31 @@ export class Copy {
       const place = this.journal.count;
       this.journal.append(it.frame);
       if (it.message.kind === 'entry') this.takeEntry(it.message, !answer.endsWith(' undone 0'));
-      else this.takeRequest(it.message, place);
+      else this.takeRequest(it.message, place, it.frame);
     }
+  }
+
+  /**
+   * Notes which element a request deletes or changes.
+   *
+   * @param {Uint8Array} frame
+   * @param {number} place
+   */
+  noteTarget(frame, place) {
+    const [deleted, changed] = [deletedBy(frame), changedBy(frame)];
+    if (deleted) this.deleted.add(deleted);
+    if (changed) this.changes.set(changed, [...(this.changes.get(changed) ?? []), { ...requestOf(frame), place }]);
+  }
+
+  /**
+   * Forgets the change that a request made, which was undone.
+   *
+   * @param {Uint8Array} frame
+   */
+  dropChange(frame) {
+    const name = changedBy(frame);
+    const { name: request } = requestOf(frame);
+    if (name) this.changes.set(name, (this.changes.get(name) ?? []).filter((it) => it.name !== request));
   }
 
   /** @param {import('./lines.mjs').Entry} entry */
@@ -276,15 +403,19 @@ export class Copy {
     const denial = this.denialOf({ user: null, name }, place);
     if (!denial) return;
     this.undone.put(this.requestAt(place), denial);
+    this.dropChange(this.journal.view(place));
     this.forgetPieces();
   }
 
   /**
    * @param {import('./lines.mjs').EditRequest} request
    * @param {number} place
+   * @param {Uint8Array} frame
    */
-  takeRequest(request, place) {
+  takeRequest(request, place, frame) {
     const denial = this.denialOf(request, place);
+    this.noteTarget(frame, place);
+    if (denial) this.dropChange(frame);
     if (denial) this.undone.put(request, denial);
     else this.follow(request);
   }
@@ -304,16 +435,45 @@ export class Copy {
   }
 
   /**
-   * Puts what a new request changed into the pieces, where one piece came or went by it; else they are asked for anew.
+   * Puts what a new request changed into the pieces, where one piece came, went or was changed by it; else they are asked for anew.
    *
    * @param {import('./lines.mjs').EditRequest} request
    */
-  follow({ name, edit }) {
+  follow({ name, user, edit }) {
     const { peer, shown } = this;
+    if (edit.kind === 'update' && user !== this.site) this.changed.push({ name: edit.name, request: name });
     if (!shown) return;
     const upTo = peer.shownUpTo(edit.kind === 'insert' ? name : edit.name) ?? 0;
-    if (edit.kind === 'insert' && peer.shows(shown.count + 1)) shown.splice(upTo - 1, 0, [edit.piece]);
+    if (edit.kind === 'insert' && peer.shows(shown.count + 1)) shown.splice(upTo - 1, 0, [edit.piece], user);
     else if (edit.kind === 'delete' && peer.shows(shown.count - 1)) shown.splice(upTo, 1, []);
-    else if (edit.kind === 'update' || !peer.shows(shown.count)) this.forgetPieces();
+    else if (edit.kind === 'update' && peer.shows(shown.count)) this.followUpdate(shown, user, edit);
+    else if (!peer.shows(shown.count)) this.forgetPieces();
+  }
+
+  /**
+   * The last update of a piece by name shows. This person's own, which was just made, has a greater name than all that are here; of
+   * another one the peer is asked.
+   *
+   * @param {Pieces} shown
+   * @param {number} user
+   * @param {import('./lines.mjs').Edit} edit
+   */
+  followUpdate(shown, user, { name, piece }) {
+    const place = this.placeOf(name);
+    if (place === null) return;
+    shown.splice(place, 1, [user === this.site ? piece : this.askPiece(place)], shown.users[place]);
+    shown.authors.set(place, this.authorsAt(name, this.changes.get(name) ?? []));
+  }
+
+  /**
+   * The piece at a place, as the peer has it. It takes the time of the text.
+   *
+   * @param {number} place
+   */
+  askPiece(place) {
+    const sizes = this.peer.sizes();
+    let start = 0;
+    for (let i = 0; i < place; i++) start += sizes[i];
+    return decoder.decode(this.peer.text().subarray(start, start + sizes[place]));
   }
 }

@@ -1,22 +1,22 @@
 import assert from 'node:assert/strict';
 import test from 'node:test';
 import { Copy } from './copy.mjs';
-import { Editor } from './editor.mjs';
 import { Module, NoMemory } from './peer.mjs';
 import { MOST_TO_CONFIRM } from './policy.mjs';
-import { administratorAndUser, Area, bytes, exchange, framesOf, limited, opened, until } from './testing.mjs';
+import { administratorAndUser, bytes, exchange, framesOf, limited, Side } from './testing.mjs';
+import { until } from './testing_links.mjs';
 import * as words from './words.mjs';
 
 test('undone', () => {
   const [administrator, user] = administratorAndUser('Tea.');
-  user.area.type(4, 4, ' Now.');
+  user.type(4, 4, ' Now.');
   administrator.copy.step('admin addauth 0 - 1 idu 0');
   exchange(administrator, user);
-  assert.equal(user.area.value, 'Tea.');
-  const again = opened(1, user.copy.journal.slice(0, user.copy.journal.count));
+  assert.equal(user.text, 'Tea.');
+  const again = new Side(1, user.copy.journal.slice(0, user.copy.journal.count));
   for (const { copy } of [administrator, user, again]) {
     assert.deepEqual(copy.undone.rows.map((it) => words.undone(it, copy.policy)), [
-      'User 1: 5 letters written (“\u2068 Now.\u2069”). Version 3 of the rules denies it, by the rule that version 3 made: “User 1 may not insert, delete or change in the whole text.”',
+      'User 1: 5 letters written (“\u2068 Now.\u2069”). The rule says: User 1 may not write anywhere.',
     ]);
   }
 });
@@ -26,23 +26,24 @@ test('pieces of made texts', () => {
   const texts = ['a', 'long ', 'é𝟝\n', ''];
   for (let i = 0; i < 600; i++) {
     const side = sides[i % 2];
-    const { length } = side.area.value;
+    const { length } = side.text;
     const start = Math.min(length, (i * 7919) % (length + 1));
     const end = Math.min(length, start + (i % 7 === 6 ? i % 9 : 0));
-    side.area.type(start, end, texts[i % texts.length]);
+    side.type(start, end, texts[i % texts.length]);
     if (i % 50 === 49) side.copy.step(`edit update 0 new${i}`);
     if (i === 300) sides[0].copy.step('admin addauth 0 - 1 d 0');
     if (i % 13 === 12) exchange(...sides);
   }
   exchange(...sides);
-  assert.equal(sides[0].area.value, sides[1].area.value);
+  assert.equal(sides[0].text, sides[1].text);
   assert.ok(sides[0].copy.undone.count > 0);
 });
 
 // Where memory is wanting halfway the pieces are asked for anew.
 test('pieces that are not followed', () => {
-  const { area, copy } = opened(0);
-  area.type(0, 0, 'a');
+  const side = new Side(0);
+  const { copy } = side;
+  side.type(0, 0, 'a');
   const { peer } = copy;
   peer.shows = () => {
     throw new NoMemory();
@@ -57,7 +58,7 @@ test('confirming', () => {
   const [administrator, user] = administratorAndUser();
   const { copy } = administrator;
   while (copy.policy.version < MOST_TO_CONFIRM - 2) copy.step(`admin ${copy.policy.users.has(2) ? 'deluser' : 'adduser'} 2`);
-  for (const it of 'abc') user.area.type(0, 0, it);
+  for (const it of 'abc') user.type(0, 0, it);
   exchange(administrator, user);
   copy.validateAll();
   assert.equal(copy.policy.version, MOST_TO_CONFIRM);
@@ -67,13 +68,13 @@ test('confirming', () => {
   assert.match(copy.step('validatenext'), /^entry/);
   const shown = words.versions(copy.entries, copy.policy, 3);
   assert.deepEqual(shown.map((it) => it.version), [MOST_TO_CONFIRM - 3, MOST_TO_CONFIRM - 2, MOST_TO_CONFIRM - 1]);
-  assert.equal(shown[2].text, `3 edits are confirmed, up to version ${MOST_TO_CONFIRM + 1}.`);
-  assert.deepEqual(words.versions(copy.entries.slice(0, 2), copy.policy, 3).map((it) => it.text), ['User 1 may take part.', 'User 1 may insert, delete or change in the whole text.']);
+  assert.equal(shown[2].text, `3 edits are confirmed, up to change ${MOST_TO_CONFIRM + 1}.`);
+  assert.deepEqual(words.versions(copy.entries.slice(0, 2), copy.policy, 3).map((it) => it.text), ['User 1 may take part.', 'User 1 may write everywhere.']);
 });
 
 test('want of memory', async () => {
   const copy = new Copy(await Module.load(limited(bytes, 64)), 0);
-  const editor = new Editor(copy, new Area(), { refused: () => {}, changed: () => {} });
+  assert.equal(copy.pieces.text, ''); // as the page shows it from the start
   const made = () => {
     for (let i = 0; i < 100000; i++) copy.step(`edit insert ${i} x`);
   };
@@ -81,21 +82,58 @@ test('want of memory', async () => {
   const { count } = copy.pieces;
   assert.ok(count > 100 && count - copy.journal.count <= 1); // the last insert may be made and not told
   assert.equal(copy.step('settle'), 'quiet');
-  editor.show();
-  assert.equal(editor.area.value, 'x'.repeat(count));
+  assert.equal(copy.pieces.text, 'x'.repeat(count));
 });
 
 test('a site that wrote before', async () => {
   const [administrator, user] = administratorAndUser();
-  user.area.type(0, 0, 'a');
+  user.type(0, 0, 'a');
   exchange(administrator, user);
-  const again = opened(1);
-  again.editor.during(() => framesOf(administrator).forEach((it) => again.copy.receive(it)));
-  assert.ok(again.copy.isStale && again.area.readOnly);
+  const again = new Side(1);
+  framesOf(administrator).forEach((it) => again.copy.receive(it));
+  assert.ok(again.copy.isStale);
+  again.keeper.keep();
   await until('it is kept that it did', () => again.store.isStale && again.keeper.isDone);
-  const changed = opened(1);
+  const changed = new Side(1);
   framesOf(administrator).slice(0, 2).forEach((it) => changed.copy.receive(it));
   changed.copy.step('edit insert 0 b');
   changed.copy.receive(framesOf(administrator).at(-1));
   assert.ok(changed.copy.isStale);
+});
+
+// Whose the letters are, in a copy that follows the edits and in one that comes back.
+test('authors', () => {
+  const [administrator, user] = administratorAndUser('Tea at four.');
+  user.type(7, 11, 'five'); // within the administrator's piece
+  exchange(administrator, user);
+  administrator.type(0, 0, 'Hot ');
+  exchange(administrator, user);
+  const again = new Side(1, user.copy.journal.slice(0, user.copy.journal.count));
+  for (const { copy } of [administrator, user, again]) {
+    assert.equal(copy.pieces.text, 'Hot Tea at five.');
+    assert.deepEqual(copy.pieces.runs().map(({ end, user }) => [end, user]), [[12, 0], [15, 1], [16, 0]]);
+  }
+  administrator.copy.step('admin addauth 0 - 1 idu 0'); // his change goes, and so his letters
+  exchange(administrator, user);
+  for (const { copy } of [administrator, user]) {
+    assert.equal(copy.pieces.text, 'Hot Tea at four.');
+    assert.deepEqual(copy.pieces.runs().map(({ end, user }) => [end, user]), [[16, 0]]);
+  }
+});
+
+// What would be undone is what is undone.
+test('what would be undone', () => {
+  const [administrator, user] = administratorAndUser('Tea.');
+  user.type(4, 4, ' Milk.');
+  user.type(0, 4, '');
+  exchange(administrator, user);
+  const { copy } = user;
+  const before = copy.journal.count;
+  const gone = copy.wouldUndo(['addauth 0 - 1 idu 0']);
+  assert.deepEqual([gone.map(({ user }) => user), copy.journal.count, copy.undone.count], [[1, 1], before, 0]);
+  assert.equal(words.wouldUndo(gone), '2 edits of user 1 would be undone: “\u2068 Milk.\u2069”');
+  assert.deepEqual(copy.wouldUndo(['adduser 9']), []);
+  administrator.copy.step('admin addauth 0 - 1 idu 0');
+  exchange(administrator, user);
+  assert.equal(copy.undone.count, 2);
 });

@@ -42,6 +42,20 @@ export function difference(from, to, behind = Infinity) {
 }
 
 /**
+ * A text that was changed in two ways at once, with both changes; null where they overlap.
+ *
+ * @param {string} base
+ * @param {string} mine
+ * @param {string} theirs
+ */
+export function merged(base, mine, theirs) {
+  const [own, other] = [difference(base, mine), difference(base, theirs)];
+  if (other.end <= own.start) return theirs.slice(0, theirs.length - (base.length - own.start)) + own.text + base.slice(own.end);
+  if (own.end <= other.start) return base.slice(0, own.start) + own.text + theirs.slice(own.end);
+  return null;
+}
+
+/**
  * The pieces that a text is written in: a line end is one of its own, so that paragraphs begin and end with pieces, and what stands
  * between two is as few as can be.
  *
@@ -61,22 +75,4 @@ export function cut(text) {
     }
   }
   return pieces;
-}
-
-/**
- * What a difference does to pieces: `removed` ones from the place `at` are replaced by `added`. The first of these is what stays of the
- * piece in which it begins where `isFrontSplit`, and the last what stays of the one in which it ends where `isBackSplit`.
- *
- * @param {import('./pieces.mjs').Pieces} pieces
- * @param {{ start: number, end: number, text: string }} change
- */
-export function replacement(pieces, { start, end, text }) {
-  const first = pieces.behind(start);
-  const isWithin = first.start < start;
-  if (start === end && (!isWithin || !text)) return { at: first.place, removed: 0, added: cut(text), isFrontSplit: false, isBackSplit: false };
-  const last = pieces.behind(Math.max(start, end - 1));
-  const front = pieces.text.slice(first.start, start);
-  const back = pieces.text.slice(end, last.end);
-  const added = [front, ...cut(text), back].filter(Boolean);
-  return { at: first.place, removed: last.place + 1 - first.place, added, isFrontSplit: front !== '', isBackSplit: back !== '' };
 }

@@ -1,7 +1,6 @@
 import assert from 'node:assert/strict';
 import test from 'node:test';
-import { cut, difference, replacement } from './difference.mjs';
-import { piecesOf } from './testing.mjs';
+import { cut, difference, merged } from './difference.mjs';
 
 test('differences', () => {
   const rows = [
@@ -17,22 +16,19 @@ test('differences', () => {
   for (const [from, to, behind, wanted] of rows) assert.deepEqual(difference(from, to, behind), wanted);
 });
 
-test('replacements', () => {
-  const pieces = piecesOf('Tea ', 'at 𝟝our', '.');
+test('both of two changes', () => {
   const rows = [
-    ['Tea at five.', 1, 1, ['at ', 'five'], true, false],
-    ['Tea at 𝟝our!', 2, 1, ['!'], false, false],
-    ['Tea Xat 𝟝our.', 1, 0, ['X'], false, false],
-    ['TeaX at 𝟝our.', 0, 1, ['Tea', 'X', ' '], true, true],
-    ['Tea at 𝟝our.\nX\n', 3, 0, ['\n', 'X', '\n'], false, false],
-    ['Tur.', 0, 2, ['T', 'ur'], true, true],
-    ['.', 0, 2, [], false, false],
+    ['one two', 'one, two', 'one two three', 'one, two three'],
+    ['one two', 'one two three', 'one, two', 'one, two three'],
+    ['one two', 'two', 'one', null], // both took away what stood between
+    ['one two three', 'one three', 'one two three four', 'one three four'],
+    ['one two', 'one 2', 'one zwei', null],
   ];
-  for (const [to, at, removed, added, isFrontSplit, isBackSplit] of rows) {
-    assert.deepEqual(replacement(pieces, difference(pieces.text, to)), { at, removed, added, isFrontSplit, isBackSplit });
-  }
-  const { removed, added } = replacement(pieces, { start: 2, end: 2, text: '' });
-  assert.deepEqual([removed, added], [0, []]);
+  for (const [base, mine, theirs, both] of rows) assert.equal(merged(base, mine, theirs), both, `${mine} ${theirs}`);
+});
+
+test('cutting', () => {
   assert.deepEqual(cut('a'.repeat(600)).map((it) => it.length), [255, 255, 90]);
   assert.deepEqual(cut('é'.repeat(200)).map((it) => it.length), [127, 73]);
+  assert.deepEqual(cut('a\nb c\n'), ['a', '\n', 'b c', '\n']);
 });

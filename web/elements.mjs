@@ -64,3 +64,42 @@ export function download(bytes, name) {
   link.click();
   setTimeout(() => URL.revokeObjectURL(link.href), 60000);
 }
+
+/**
+ * An element with a class and what stands in it.
+ *
+ * @param {string} tag
+ * @param {string} className
+ * @param {(Node | string)[]} parts
+ */
+export function made(tag, className, ...parts) {
+  const it = document.createElement(tag);
+  it.className = className;
+  it.append(...parts);
+  return it;
+}
+
+/**
+ * Hides an element, or shows it, where it isn't so already.
+ *
+ * @param {string} id
+ * @param {boolean} isHidden
+ */
+export function hide(id, isHidden) {
+  if (of(id).hidden !== isHidden) of(id).hidden = isHidden;
+}
+
+/**
+ * Who stands in a list with the keyboard stands at what has the same name afterwards, or at the list's heading.
+ *
+ * @param {string} id
+ * @param {() => void} action
+ */
+export function staying(id, action) {
+  const stood = of(id).contains(document.activeElement) ? document.activeElement?.getAttribute('aria-label') : null;
+  action();
+  if (!stood) return;
+  /** @type {NodeListOf<HTMLElement>} */
+  const acts = of(id).querySelectorAll('button, select');
+  ([...acts].find((it) => it.getAttribute('aria-label') === stood) ?? of(`${id}-title`)).focus();
+}

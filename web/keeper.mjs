@@ -1,13 +1,22 @@
 // Keeps what the journal has in the browser's store, one write after another, so soon that what shows needn't wait for it: what comes
-// during a write goes with the next. It also keeps that the site is stale.
+// during a write goes with the next. It also keeps how far the page is with its host, and that the site is stale.
 
-const soon = () => new Promise((done) => setTimeout(done, 0));
+const soon = () => new Promise((done) => setTimeout(() => done(undefined), 0));
 
 export class Keeper {
-  // `kept` is called after each write, `failed` is given why one failed, after which there is none.
-  constructor(copy, store, { kept, failed }) {
+  /**
+   * `kept` is called after each write, `failed` is given why one failed, after which there is none. `marks` tells how far the page is with
+   * its host; null where it has none.
+   *
+   * @param {import('./copy.mjs').Copy} copy
+   * @param {Pick<import('./store.mjs').Store, 'append' | 'mark'>} store
+   * @param {{ kept: () => void, failed: (error: Error) => void, marks?: () => import('./store.mjs').Marks | null }} sides
+   */
+  constructor(copy, store, { kept, failed, marks = () => null }) {
     this.copy = copy;
     this.store = store;
+    this.marks = marks;
+    this.from = marks()?.from; // so far as the store knows
     this.kept = kept;
     this.failed = failed;
     this.isMarked = copy.isStale; // the store says that the site is stale
@@ -17,7 +26,7 @@ export class Keeper {
 
   // Whether all that the journal has is kept.
   get isDone() {
-    return this.copy.kept === this.copy.journal.count && this.isMarked === this.copy.isStale;
+    return this.copy.kept === this.copy.journal.count && this.isMarked === this.copy.isStale && this.from === this.marks()?.from;
   }
 
   async keep() {
@@ -41,9 +50,11 @@ export class Keeper {
       this.isMarked = true;
     }
     const { count } = copy.journal;
-    if (count === copy.kept) return;
-    await this.store.append(copy.journal.slice(copy.kept, count));
+    const marks = this.marks();
+    if (count === copy.kept && marks?.from === this.from) return;
+    await this.store.append(copy.journal.slice(copy.kept, count), marks);
     copy.kept = count;
+    this.from = marks?.from;
     this.kept();
   }
 }

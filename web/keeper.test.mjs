@@ -1,25 +1,26 @@
 import assert from 'node:assert/strict';
 import test from 'node:test';
+import { Session } from './alone/session.mjs';
 import { Copy } from './copy.mjs';
 import { Keeper } from './keeper.mjs';
 import { NoJournal } from './peer.mjs';
-import { Session } from './session.mjs';
 import { Store } from './store.mjs';
-import { administratorAndUser, bytes, exchange, module, opened, until } from './testing.mjs';
+import { administratorAndUser, exchange, module, Side } from './testing.mjs';
+import { until } from './testing_links.mjs';
 
 test('coming back', async () => {
   const [administrator, user] = administratorAndUser('Tea at four.');
-  user.area.type(12, 12, ' Milk?');
-  user.area.type(3, 4, '-');
+  user.type(12, 12, ' Milk?');
+  user.type(3, 4, '-');
   await until('all is kept', () => user.keeper.isDone);
-  const again = opened(1, user.store.bytes);
-  assert.equal(again.area.value, 'Tea-at four. Milk?');
+  const again = new Side(1, user.store.bytes);
+  assert.equal(again.text, 'Tea-at four. Milk?');
   assert.deepEqual(again.copy.entries, user.copy.entries);
   assert.deepEqual([...again.copy.tentative], [...user.copy.tentative]);
-  again.area.type(0, 0, 'No names twice. ');
+  again.type(0, 0, 'No names twice. ');
   again.sent = user.sent;
   exchange(administrator, again);
-  assert.equal(administrator.area.value, again.area.value);
+  assert.equal(administrator.text, again.text);
   for (const bytes of [[1], [...user.store.bytes, 0], user.store.bytes.subarray(1), [...user.store.bytes, ...user.store.bytes]]) {
     assert.throws(() => new Copy(module, 1, Uint8Array.from(bytes)), NoJournal);
   }

@@ -1,4 +1,5 @@
-// A text and where its pieces end, in units of UTF-16 as a text area counts them. A piece has at most 255 bytes, so its size fits a byte.
+// A text, where its pieces end, in units of UTF-16 as the page counts them, and whose their letters are. A piece has at most 255 bytes, so
+// its size fits a byte.
 
 const FIRST_ROOM = 256;
 const decoder = new TextDecoder('utf-8', { ignoreBOM: true }); // U+FEFF is a letter like others
@@ -18,21 +19,38 @@ function unitsOf(bytes, from, to) {
   return units;
 }
 
+/**
+ * The same row with this room, of which some is moved from one place to another.
+ *
+ * @template {Uint8Array | Uint16Array} T
+ * @param {T} row
+ * @param {number} room
+ * @returns {T}
+ */
+function roomier(row, room) {
+  const larger = new /** @type {new (room: number) => T} */ (row.constructor)(room);
+  larger.set(row);
+  return larger;
+}
+
 export class Pieces {
   /**
-   * The pieces of these sizes in bytes that a text's bytes are.
+   * The pieces of these sizes in bytes that a text's bytes are; `userAt` tells of a place who put its piece in.
    *
    * @param {Uint8Array} bytes
    * @param {Uint8Array} sizes
+   * @param {(place: number) => number} [userAt]
    */
-  static of(bytes, sizes) {
+  static of(bytes, sizes, userAt = () => 0) {
     const pieces = new Pieces();
     pieces.text = decoder.decode(bytes);
     pieces.sizes = new Uint8Array(sizes.length + FIRST_ROOM);
+    pieces.users = new Uint16Array(sizes.length + FIRST_ROOM);
     pieces.count = sizes.length;
     let at = 0;
     sizes.forEach((size, place) => {
       pieces.sizes[place] = unitsOf(bytes, at, at + size);
+      pieces.users[place] = userAt(place);
       at += size;
     });
     return pieces;
@@ -41,6 +59,9 @@ export class Pieces {
   constructor() {
     this.text = '';
     this.sizes = new Uint8Array(FIRST_ROOM);
+    this.users = new Uint16Array(FIRST_ROOM); // who put each in
+    /** @type {Map<number, import('./authors.mjs').Run[]>} by their places, whose the letters of those are that were changed */
+    this.authors = new Map();
     this.count = 0;
   }
 
@@ -67,35 +88,76 @@ export class Pieces {
   }
 
   /**
-   * So many pieces from a place are replaced by these.
+   * The text of the piece at a place.
+   *
+   * @param {number} place
+   */
+  pieceAt(place) {
+    const start = this.startOf(place);
+    return this.text.slice(start, start + this.sizes[place]);
+  }
+
+  /**
+   * So many pieces from a place are replaced by these, which a user put in.
    *
    * @param {number} place
    * @param {number} removed
    * @param {string[]} added
+   * @param {number} [user]
    */
-  splice(place, removed, added) {
+  splice(place, removed, added, user = 0) {
     const start = this.startOf(place);
     let end = start;
     for (let i = place; i < place + removed; i++) end += this.sizes[i];
     this.text = this.text.slice(0, start) + added.join('') + this.text.slice(end);
-    this.move(place + removed, place + added.length);
-    added.forEach((it, i) => (this.sizes[place + i] = it.length));
+    this.move(place, place + removed, place + added.length);
+    added.forEach((it, i) => {
+      this.sizes[place + i] = it.length;
+      this.users[place + i] = user;
+    });
   }
 
   /**
-   * The sizes from one place on go to another.
+   * What stands from one place on goes to another, and what stood between a first place and both is gone.
    *
+   * @param {number} first
    * @param {number} from
    * @param {number} to
    */
-  move(from, to) {
+  move(first, from, to) {
     const count = this.count + to - from;
     if (count > this.sizes.length) {
-      const larger = new Uint8Array(2 * count);
-      larger.set(this.sizes);
-      this.sizes = larger;
+      this.sizes = roomier(this.sizes, 2 * count);
+      this.users = roomier(this.users, 2 * count);
     }
     this.sizes.copyWithin(to, from, this.count);
+    this.users.copyWithin(to, from, this.count);
     this.count = count;
+    if (!this.authors.size) return;
+    const stay = [...this.authors].filter(([place]) => place < first || place >= from);
+    this.authors = new Map(stay.map(([place, runs]) => [place < first ? place : place + to - from, runs]));
+  }
+
+  /**
+   * The letters of each user, one behind another: where they end, as few as can be.
+   *
+   * @returns {{ end: number, user: number }[]}
+   */
+  runs() {
+    /** @type {{ end: number, user: number }[]} */
+    const runs = [];
+    let end = 0;
+    const add = (length, user) => {
+      end += length;
+      const last = runs.at(-1);
+      if (last && last.user === user) last.end = end;
+      else if (length) runs.push({ end, user });
+    };
+    for (let place = 0; place < this.count; place++) {
+      const changed = this.authors.get(place);
+      if (changed) changed.forEach(({ length, user }) => add(length, user));
+      else add(this.sizes[place], this.users[place]);
+    }
+    return runs;
   }
 }

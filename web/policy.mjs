@@ -39,6 +39,7 @@ export class Policy {
   constructor() {
     this.version = 0;
     this.users = new Set([0]);
+    this.known = new Set([0]); // who ever was a user
     /** @type {Map<number, Extent>} */
     this.objects = new Map([[0, { kind: 'all', words: [] }]]);
     /** @type {Map<number, Set<number>>} */
@@ -59,7 +60,7 @@ export class Policy {
   take({ version, op: [kind, first, ...rest] }) {
     const number = Number(first);
     this.version = version;
-    if (kind === 'adduser') this.users.add(number);
+    if (kind === 'adduser') this.addUser(number);
     else if (kind === 'deluser') this.users.delete(number);
     else if (kind === 'addobj') this.addObject(number, extentOf(rest));
     else if (kind === 'delobj') this.objects.delete(number);
@@ -69,6 +70,12 @@ export class Policy {
     else if (kind === 'delmember') this.groups.get(number)?.delete(Number(rest[0]));
     else if (kind === 'addauth') this.addAuthorization(number, authorizationOf(version, rest));
     else if (kind === 'delauth') this.authorizations.splice(number, 1);
+  }
+
+  /** @param {number} number */
+  addUser(number) {
+    this.users.add(number);
+    this.known.add(number);
   }
 
   /**
@@ -102,14 +109,38 @@ export class Policy {
       if (kind === 'all') return true;
       return kind === 'users' ? numbers.includes(user) : numbers.some((it) => this.groups.get(it)?.has(user));
     };
+    return user === 0 || (this.users.has(user) && this.isAllowed(isFor, right, covers, this.authorizations));
+  }
+
+  /**
+   * Whether a user who is a member of a group and of no other has a right, whether or not there is one.
+   *
+   * @param {number} group
+   * @param {string} right
+   * @param {(extent: Extent) => boolean} covers
+   * @param {Authorization[]} [authorizations] in place of the policy's own
+   */
+  allowsGroup(group, right, covers, authorizations = this.authorizations) {
+    /** @param {UserSet} users */
+    const isFor = ({ kind, numbers }) => kind === 'all' || (kind === 'groups' && numbers.includes(group));
+    return this.isAllowed(isFor, right, covers, authorizations);
+  }
+
+  /**
+   * What the first authorization says that is for somebody, of a right and of an element; no where none is.
+   *
+   * @param {(users: UserSet) => boolean} isFor
+   * @param {string} right
+   * @param {(extent: Extent) => boolean} covers
+   * @param {Authorization[]} authorizations
+   */
+  isAllowed(isFor, right, covers, authorizations) {
     /** @param {number} number */
     const isIn = (number) => {
       const extent = this.objects.get(number);
       return extent !== undefined && covers(extent);
     };
-    /** @param {Authorization} authorization */
-    const isFirst = ({ users, rights, objects }) => isFor(users) && rights.includes(right) && objects.some(isIn);
-    return user === 0 || (this.users.has(user) && (this.authorizations.find(isFirst)?.allows ?? false));
+    return authorizations.find(({ users, rights, objects }) => isFor(users) && rights.includes(right) && objects.some(isIn))?.allows ?? false;
   }
 
   // A number that is no object's and never was.

@@ -1,9 +1,13 @@
-// Where a browser keeps the frames of a site's journal: rows of bytes in a database of their own, in the order in which they came, and
-// a mark where the site is stale.
+// Where a browser keeps the frames of a site's journal: rows of bytes in a database of their own, in the order in which they came, how
+// far the page was with its host by then, and a mark where the site is stale.
+import { joined } from './frames.mjs';
+
+/** @typedef {{ from: number, back: number }} Marks how many of the host's messages are here, and how many of this device's requests came back */
 
 const FRAMES = 'frames';
 const MARKS = 'marks';
 const STALE = 'stale';
+const HOST = 'host';
 const VERSION = 2; // of the database: the first had no marks
 const MOST_ROWS = 64; // of so many one is made
 
@@ -19,26 +23,15 @@ function result(request) {
   });
 }
 
-/** @param {Uint8Array[]} rows */
-function joined(rows) {
-  const all = new Uint8Array(rows.reduce((size, it) => size + it.length, 0));
-  let at = 0;
-  for (const row of rows) {
-    all.set(row, at);
-    at += row.length;
-  }
-  return all;
-}
-
 export class Store {
   /**
-   * The browser is asked to clear it only when the person does.
+   * The store of a name. The browser is asked to clear it only when the person does.
    *
-   * @param {number} site
+   * @param {string} name
    */
-  static async open(site) {
+  static async open(name) {
     navigator.storage?.persist?.().catch(() => {});
-    const request = indexedDB.open(`roastcliff site ${site}`, VERSION);
+    const request = indexedDB.open(`roastcliff ${name}`, VERSION);
     request.onupgradeneeded = ({ oldVersion }) => {
       if (!oldVersion) request.result.createObjectStore(FRAMES, { autoIncrement: true });
       request.result.createObjectStore(MARKS);
@@ -59,9 +52,19 @@ export class Store {
     return all;
   }
 
-  /** @param {Uint8Array} bytes */
-  append(bytes) {
-    return this.change((frames) => frames.add(bytes));
+  /**
+   * Appends frames, with how far the page is with its host by then, if it has one.
+   *
+   * @param {Uint8Array} bytes
+   * @param {Marks | null} [marks]
+   */
+  append(bytes, marks = null) {
+    return this.change((frames, all) => [bytes.length && frames.add(bytes), marks && all.put(marks, HOST)]);
+  }
+
+  /** @returns {Promise<Marks>} */
+  async marks() {
+    return (await result(this.database.transaction(MARKS).objectStore(MARKS).get(HOST))) ?? { from: 0, back: 0 };
   }
 
   clear() {

@@ -1,6 +1,7 @@
 // What was undone: of requests of one person that were undone for one reason, how many letters they wrote, how many deletions and
-// changes there were, and the first letters.
+// changes there were, and the first letters. The last requests themselves are kept too, for where they stood.
 
+const MOST_REQUESTS = 200;
 const MOST_LETTERS = 61; // one more than is shown, so that it is known whether there are more
 
 /**
@@ -13,14 +14,18 @@ export class Undone {
     this.count = 0;
     /** @type {Row[]} the last last */
     this.rows = [];
+    /** @type {{ request: import('./lines.mjs').EditRequest, denial: Denial }[]} the last last */
+    this.requests = [];
   }
 
   /**
    * @param {import('./lines.mjs').EditRequest} request
    * @param {Denial} denial
    */
-  put({ user, edit }, denial) {
+  put(request, denial) {
+    const { user, edit } = request;
     this.count++;
+    this.requests = [...this.requests.slice(1 - MOST_REQUESTS), { request, denial }];
     const last = this.rows.at(-1);
     const isSame = last && last.user === user && last.denial.version === denial.version && last.denial.by === denial.by;
     const row = isSame ? last : { user, denial, counts: { insert: 0, delete: 0, update: 0 }, letters: [] };

@@ -1,9 +1,14 @@
 // What is told to a person, in words.
-import { Fault, MOST_VERSIONS } from './limits.mjs';
+import { directory } from './directory.mjs';
+import { Fault, MOST_OF_KIND, MOST_REQUESTS, MOST_VERSIONS } from './limits.mjs';
 import { deniedBy } from './lines.mjs';
 import { MOST_TO_CONFIRM } from './policy.mjs';
 
-const RIGHTS = { i: 'insert', d: 'delete', u: 'change' };
+/**
+ * @typedef {import('./policy.mjs').Policy} Policy
+ * @typedef {import('./lines.mjs').Denial} Denial
+ * @typedef {import('./lines.mjs').Entry} Entry
+ */
 
 const FAULTS = {
   [Fault.UserThere]: 'this person is here already',
@@ -12,7 +17,7 @@ const FAULTS = {
   [Fault.ObjectThere]: 'this number is taken',
   [Fault.NoObject]: 'there is no such part',
   [Fault.BadPlace]: 'there is no such place in the list of rules',
-  [Fault.TooMany]: 'there are as many as there may be',
+  [Fault.TooMany]: `there are ${MOST_OF_KIND} of its kind, and no more may be`,
   [Fault.ValidatedAt]: 'it is confirmed already',
   [Fault.GroupThere]: 'this group is here already',
   [Fault.NoGroup]: 'there is no such group',
@@ -20,95 +25,201 @@ const FAULTS = {
   [Fault.NoMember]: 'this person is not in the group',
 };
 
-function listed(words, last = 'and') {
+/** @param {string[]} words */
+export function listed(words, last = 'and') {
   if (words.length < 2) return words.join('');
   return `${words.slice(0, -1).join(', ')} ${last} ${words.at(-1)}`;
 }
 
-export function person(user) {
-  return user === 0 ? 'the administrator' : `user ${user}`;
+/** @param {string} text */
+export function capital(text) {
+  const at = text.startsWith('\u2068') ? 1 : 0; // a name stands behind a sign that isolates it
+  return text.slice(0, at) + text.charAt(at).toUpperCase() + text.slice(at + 1);
 }
 
+/**
+ * Letters that somebody wrote, in a sentence of ours: whichever way they run, and without signs that would turn what follows them.
+ *
+ * @param {string} letters
+ */
+export function isolated(letters) {
+  return `\u2068${letters.replace(/[\u202a-\u202e\u2066-\u2069]/g, '')}\u2069`;
+}
+
+/**
+ * A sentence with its end, if what it cites doesn't end one.
+ *
+ * @param {string} words
+ */
+export function ended(words) {
+  return /[.!?…]\u2069?”$/.test(words) ? words : `${words}.`;
+}
+
+/** @param {string} letters */
+export function cited(letters) {
+  return `“${isolated(letters)}”`;
+}
+
+// ---- people
+
+/**
+ * Who a group of the rules is: a person of the house, where it knows one.
+ *
+ * @param {number} number
+ */
+export function group(number) {
+  const name = directory.nameOf(number);
+  return name === null ? `group ${number}` : isolated(name);
+}
+
+/**
+ * Who a user of the rules is: the person whose device it is, where the house knows him.
+ *
+ * @param {number} user
+ */
+export function person(user) {
+  if (user === 0) return 'the administrator';
+  const of = directory.personOf(user);
+  return of === null ? `user ${user}` : group(of);
+}
+
+/**
+ * Two letters that stand for a person of the house.
+ *
+ * @param {string} name
+ */
+export function initials(name) {
+  const words = name.split(/\s+/).filter(Boolean);
+  const ends = words.length > 1 ? [words[0], words[words.length - 1]] : words;
+  return ends.map((it) => Array.from(it)[0]).join('').toUpperCase();
+}
+
+/** @param {import('./policy.mjs').UserSet} users */
 function people({ kind, numbers }) {
   if (kind === 'all') return 'everybody';
-  if (kind === 'groups') return `the members of ${listed(numbers.map((it) => `group ${it}`))}`;
-  return listed(numbers.map(person));
+  return listed(numbers.map(kind === 'groups' ? group : person));
 }
 
-// Letters that somebody wrote, in a sentence of ours: whichever way they run, and without signs that would turn what follows them.
-function cited(letters) {
-  return `“\u2068${letters.replace(/[\u202a-\u202e\u2066-\u2069]/g, '')}\u2069”`;
-}
+// ---- rules
 
+/**
+ * @param {number} number
+ * @param {Policy} policy
+ */
 export function object(number, policy) {
   const extent = policy.named.get(number);
   if (!extent) return `part ${number}, which is not there`;
   if (extent.kind === 'all') return 'the whole text';
   if (extent.kind === 'by') return `what ${person(Number(extent.words[0]))} wrote`;
   if (extent.kind === 'elems') return `part ${number} (single letters)`;
-  return `paragraph ${number}${extent.said ? ` (${cited(extent.said)})` : ''}`;
+  return extent.said ? `the paragraph ${cited(extent.said)}` : `paragraph ${number}`;
 }
 
-function rights(letters) {
-  return listed([...letters].map((it) => RIGHTS[it]), 'or');
+const DEEDS = { i: 'add words', d: 'delete', u: 'change words' };
+
+/** @param {string} rights */
+function deeds(rights) {
+  return rights.length === 3 ? 'write' : listed([...rights].map((it) => DEEDS[it]), 'or');
 }
 
-function capital(text) {
-  return text.charAt(0).toUpperCase() + text.slice(1);
+/**
+ * Where a rule is about.
+ *
+ * @param {number[]} objects
+ * @param {Policy} policy
+ * @param {boolean} isAllowed
+ */
+function where(objects, policy, isAllowed) {
+  if (objects.includes(0)) return isAllowed ? 'everywhere' : 'anywhere';
+  return `in ${listed(objects.map((it) => object(it, policy)), 'or')}`;
 }
 
-// An authorization as a sentence.
-export function rule({ allows, users, rights: letters, objects }, policy) {
-  const what = listed(objects.map((it) => object(it, policy)));
+/**
+ * An authorization as a sentence.
+ *
+ * @param {import('./policy.mjs').Authorization} authorization
+ * @param {Policy} policy
+ */
+export function rule({ allows, users, rights, objects }, policy) {
   const isNobody = !allows && users.kind === 'all';
   const who = isNobody ? 'nobody' : people(users);
-  return `${capital(who)} ${allows || isNobody ? 'may' : 'may not'} ${rights(letters)} in ${what}.`;
+  return ended(`${capital(who)} ${allows || isNobody ? 'may' : 'may not'} ${deeds(rights)} ${where(objects, policy, allows)}`);
 }
 
-// Why something is denied or undone: by a version, and by an authorization of it or by none.
-export function reason({ version, by }, policy) {
-  if (!by) return `No rule of version ${version} allows it.`;
+/**
+ * Why something is denied or undone.
+ *
+ * @param {Denial} denial
+ * @param {Policy} policy
+ */
+export function reason({ by }, policy) {
   const made = policy.made.get(by);
-  const said = made ? ` “${rule(made, policy)}”` : '';
-  return `Version ${version} of the rules denies it, by the rule that version ${by} made:${said || ' which is not here.'}`;
+  return by && made ? `The rule says: ${rule(made, policy)}` : 'No rule allows it.';
 }
 
-function fault(words) {
-  return FAULTS[words[0]] ?? `fault ${words.join(' ')}`;
+/** @param {string} number */
+export function fault(number) {
+  return FAULTS[number] ?? `fault ${number}`;
 }
 
-// An answer to a step of this person's own, if it isn't that it was made.
+/**
+ * An answer to a step of this person's own, if it isn't that it was made.
+ *
+ * @param {string} answer
+ * @param {Policy} policy
+ */
 export function refusal(answer, policy) {
   const denial = deniedBy(answer);
-  if (denial) return `This is not allowed. ${reason(denial, policy)}`;
-  if (answer === 'history full') return 'This text has had as many edits as it may, and takes no more.';
+  if (denial) return `You may not do this here. ${reason(denial, policy)}`;
+  if (answer === 'history full') return `This text has had ${counted(MOST_REQUESTS, 'edit')}, and takes no more.`;
   if (answer === 'clock end') return 'This text takes no more edits.';
-  if (answer === 'log full') return 'The rules have had as many versions as they may.';
+  if (answer === 'log full') return `The rules were changed ${MOST_VERSIONS.toLocaleString('en')} times, and no more may be.`;
   if (answer === 'not administrator') return 'Only the administrator changes the rules.';
   if (answer === 'nothing tentative') return 'Nothing waits to be confirmed.';
-  const [first, ...words] = answer.split(' ');
-  if (first === 'refused') return `The rules stay as they are: ${fault(words)}.`;
+  const [first, number] = answer.split(' ');
+  if (first === 'refused') return `The rules stay as they are: ${fault(number)}.`;
   if (first === 'no') return 'The text has changed meanwhile.';
-  return `The peer answers “${answer}”.`;
+  return `It was not done: “${answer}”.`;
 }
 
+/** @param {string} user */
+const isDevice = (user) => directory.personOf(Number(user)) !== null;
+
+/**
+ * A member of a group, which is a device of the person where the group is one.
+ *
+ * @param {string} number
+ * @param {string} user
+ */
+function member(number, user) {
+  return directory.personOf(Number(user)) === Number(number) ? 'a device more' : person(Number(user));
+}
+
+/** @type {Record<string, (words: string[], policy: Policy) => string>} */
 const CHANGES = {
-  adduser: ([user]) => `${capital(person(Number(user)))} may take part.`,
-  deluser: ([user]) => `${capital(person(Number(user)))} may take part no more.`,
-  addobj: ([number], policy) => `${capital(object(Number(number), policy))} has a number, so that rules can name it.`,
-  delobj: ([number]) => `Part ${number} has no number any more.`,
-  addgroup: ([group]) => `There is a group ${group}.`,
-  delgroup: ([group]) => `There is no group ${group} any more.`,
-  addmember: ([group, user]) => `${capital(person(Number(user)))} is in group ${group}.`,
-  delmember: ([group, user]) => `${capital(person(Number(user)))} is in group ${group} no more.`,
+  adduser: ([user]) => `${capital(person(Number(user)))} ${isDevice(user) ? 'takes part with one more device' : 'may take part'}.`,
+  deluser: ([user]) => `${capital(person(Number(user)))} ${isDevice(user) ? 'takes part with one device less' : 'may take part no more'}.`,
+  addobj: ([number], policy) => ended(`Rules may be about ${object(Number(number), policy)}`),
+  delobj: ([number]) => `Rules are about part ${number} no more.`,
+  addgroup: ([number]) => (directory.nameOf(Number(number)) === null ? `There is a group ${number}.` : `${capital(group(Number(number)))} takes part.`),
+  delgroup: ([number]) => `There is no ${group(Number(number))} in the rules any more.`,
+  addmember: ([number, user]) => `Rules about ${group(Number(number))} are about ${member(number, user)} too.`,
+  delmember: ([number, user]) => `Rules about ${group(Number(number))} are about ${member(number, user)} no more.`,
   delauth: ([place]) => `Rule ${Number(place) + 1} of the list is gone.`,
   validate: ([name]) => `The edit ${name} is confirmed.`,
 };
 
-const isConfirmation = ({ op: [kind] }) => kind === 'validate';
+/** @param {Entry} entry */
+const isConfirmation = ({ op }) => op[0] === 'validate';
 
-// The last lines of a list of entries, at most so many, each with the version that it begins with: one for each entry, but one alone for
-// edits that were confirmed one after another.
+/**
+ * The last lines of a list of entries, at most so many, each with the version that it begins with: one for each entry, but one alone for
+ * edits that were confirmed one after another.
+ *
+ * @param {Entry[]} entries
+ * @param {Policy} policy
+ * @param {number} most
+ */
 export function versions(entries, policy, most) {
   const lines = [];
   for (let end = entries.length; end > 0 && lines.length < most; ) {
@@ -120,19 +231,34 @@ export function versions(entries, policy, most) {
   return lines;
 }
 
+/**
+ * @param {Entry[]} entries
+ * @param {Policy} policy
+ */
 function changes(entries, policy) {
-  const [first, last] = [entries[0], entries.at(-1)];
-  return first === last ? change(first, policy) : `${edits(entries.length)} are confirmed, up to version ${last.version}.`;
+  const [first, last] = [entries[0], entries[entries.length - 1]];
+  return first === last ? change(first, policy) : `${edits(entries.length)} are confirmed, up to change ${last.version}.`;
 }
 
-// What an entry changes.
+/**
+ * What an entry changes.
+ *
+ * @param {Entry} entry
+ * @param {Policy} policy
+ */
 export function change({ version, op: [kind, ...words] }, policy) {
-  if (kind === 'addauth') return rule(policy.made.get(version), policy);
-  return CHANGES[kind](words, policy);
+  const made = policy.made.get(version);
+  return kind === 'addauth' && made ? rule(made, policy) : CHANGES[kind](words, policy);
 }
 
-function counted(count, one) {
-  return `${count} ${one}${count === 1 ? '' : 's'}`;
+// ---- what was undone
+
+/**
+ * @param {number} count
+ * @param {string} one
+ */
+export function counted(count, one) {
+  return `${count.toLocaleString('en')} ${one}${count === 1 ? '' : 's'}`;
 }
 
 const EDITS = {
@@ -143,29 +269,145 @@ const EDITS = {
 
 const SHOWN_LETTERS = 60;
 
-// Requests of one person that were undone for one reason.
+/** @param {string} letters */
+function excerpt(letters) {
+  const all = Array.from(letters);
+  return cited(all.length > SHOWN_LETTERS ? `${all.slice(0, SHOWN_LETTERS).join('')}…` : letters);
+}
+
+/**
+ * Requests of one person that were undone for one reason.
+ *
+ * @param {import('./undone.mjs').Row} row
+ * @param {Policy} policy
+ */
 export function undone({ user, denial, counts, letters }, policy) {
   const said = Object.entries(counts).filter(([, count]) => count).map(([kind, count]) => EDITS[kind](count));
-  const more = letters.length > SHOWN_LETTERS ? '…' : '';
-  const what = letters.length ? ` (${cited(letters.slice(0, SHOWN_LETTERS).join('') + more)})` : '';
+  const what = letters.length ? ` (${excerpt(letters.join(''))})` : '';
   return `${capital(person(user))}: ${listed(said)}${what}. ${reason(denial, policy)}`;
 }
 
-// How many edits were confirmed or undone.
+/**
+ * How many edits were confirmed or undone.
+ *
+ * @param {number} count
+ */
 export function edits(count) {
   return counted(count, 'edit');
 }
 
-// That so many edits were undone.
+/**
+ * That so many edits were undone.
+ *
+ * @param {number} count
+ */
 export function undoing(count) {
-  return `${edits(count)} ${count === 1 ? 'was' : 'were'} undone. “What was undone, and why” below has more.`;
+  return `${edits(count)} ${count === 1 ? 'was' : 'were'} undone. “Undone, and why” has more.`;
 }
+
+/**
+ * How many edits of whom would be undone, as a question before rules change tells it.
+ *
+ * @param {import('./copy.mjs').Lost[]} requests
+ */
+export function wouldUndo(requests) {
+  if (!requests.length) return 'No edit would be undone.';
+  /** @type {Map<string, number>} */
+  const counts = new Map();
+  for (const { user } of requests) counts.set(person(user), (counts.get(person(user)) ?? 0) + 1);
+  const said = [...counts].map(([name, count]) => `${edits(count)} of ${name}`);
+  const letters = requests.filter(({ edit, isDeleted }) => edit.kind === 'insert' && !isDeleted).map(({ edit }) => edit.piece).join('');
+  return ended(`${capital(listed(said))} would be undone${letters ? `: ${excerpt(letters.trimEnd())}` : ''}`);
+}
+
+export const MEANWHILE = 'It is undone for everybody. What somebody writes before hearing of it is undone too.';
+
+/**
+ * What words are that stand in the text and aren't part of it.
+ *
+ * @param {Pick<import('./ghosts.mjs').Ghost, 'user' | 'isRefused'>} ghost
+ */
+export function ghost({ user, isRefused }) {
+  return isRefused ? 'Your words, which were not let in' : `Undone words of ${person(user)}`;
+}
+
+export const REPLACED = 'Somebody changed the same words at the same time, and that change stands. Yours stand struck through beside it.';
+
+/**
+ * @param {import('./ghosts.mjs').Ghost} it
+ * @param {Policy} policy
+ */
+export function whyGhost(it, policy) {
+  if (it.denial) return `${ghost(it)}. ${reason(it.denial, policy)}`;
+  return it.answer ? refusal(it.answer, policy) : REPLACED;
+}
+
+export const STALE =
+  'This browser wrote in this document before, and has lost what it had of it. So it only shows the text. To write, open an invitation again.';
+
+export const STUCK = 'Your last edit cannot be taken back: somebody changed or deleted what it was about.';
+
+// ---- powers
+
+const POWERS = { i: 'write', d: 'delete', u: 'change' };
+
+/** @param {string[]} powers */
+function powersWords(powers) {
+  if (powers.length === 3) return 'may write';
+  return powers.length ? `may ${listed(powers.map((it) => POWERS[it]))}` : 'may only read';
+}
+
+/**
+ * What somebody may do, as the rules say it of the whole text and then of parts. `allows` tells of a right and of what has the place whether
+ * it is allowed.
+ *
+ * @param {(right: string, covers: (extent: import('./policy.mjs').Extent) => boolean) => boolean} allows
+ * @param {Policy} policy
+ */
+export function powers(allows, policy) {
+  const powersIn = (covers) => Object.keys(POWERS).filter((right) => allows(right, covers));
+  const inAll = powersIn(({ kind }) => kind === 'all');
+  const parts = [...policy.objects].filter(([, { kind }]) => kind === 'span');
+  const told = parts.flatMap(([number, extent]) => {
+    const inPart = powersIn((it) => it.kind === 'all' || it === extent);
+    return inPart.join() === inAll.join() ? [] : [`in ${object(number, policy)} ${powersWords(inPart).replace('may ', '')}`];
+  });
+  return told.length ? `${powersWords(inAll)}, but ${listed(told)}` : powersWords(inAll);
+}
+
+// ---- how much is used
 
 const [SOME, ALL] = [MOST_TO_CONFIRM, MOST_VERSIONS].map((it) => it.toLocaleString('en'));
 const COST = `Each letter that is confirmed takes a version of the rules. There are ${ALL}; behind ${SOME} they are left for rules.`;
 const RESERVED = `${SOME} of the ${ALL} versions of the rules are used, and the others are left for rules. So only “Confirm the next edit” confirms any more.`;
 
-// What confirming costs, or that there is no more of it.
+/**
+ * What confirming costs, or that there is no more of it.
+ *
+ * @param {boolean} isReserved
+ */
 export function confirming(isReserved) {
   return isReserved ? RESERVED : COST;
+}
+
+/**
+ * How much is used of what a text may have.
+ *
+ * @param {number} count of edits
+ * @param {number} version of the rules
+ */
+export function room(count, version) {
+  const [a, b, c, d] = [count, MOST_REQUESTS, version, MOST_VERSIONS].map((it) => it.toLocaleString('en'));
+  return `This text has had ${a} of the ${b} edits that it may have, and its rules ${c} of ${d} changes.`;
+}
+
+/**
+ * Who wrote what stands in front of the caret.
+ *
+ * @param {number} user
+ * @param {number} changer who put in the letter itself
+ */
+export function writer(user, changer) {
+  const more = directory.isSame(user, changer) ? '' : `, in words that ${person(user)} began`;
+  return `At the caret: written by ${person(changer)}${more}.`;
 }

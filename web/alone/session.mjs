@@ -1,7 +1,7 @@
 // The side of a session that dials, as docs/FORMATS.md has it under "Links and sessions": what is sent, and what follows what comes.
 // It knows no socket, so that it can be tried without one.
-import { BadFrame } from './copy.mjs';
-import { END_KIND, PLAIN_VERSION, TURN_KIND } from './limits.mjs';
+import { BadFrame } from '../copy.mjs';
+import { END_KIND, PLAIN_VERSION, TURN_KIND } from '../limits.mjs';
 
 const TURN = Uint8Array.of(0, 0, 0, 2, PLAIN_VERSION, TURN_KIND);
 const END = Uint8Array.of(0, 0, 0, 2, PLAIN_VERSION, END_KIND);

@@ -1,8 +1,8 @@
 // The frames that pages of one browser give each other, by a BroadcastChannel: each page posts what is new and didn't come this way. A
 // page that opens asks, and tells what it has: each other one gives what it lacks, and tells in turn. What comes twice is answered
 // `repeat`.
-import { BadFrame } from './copy.mjs';
-import { split } from './frames.mjs';
+import { BadFrame } from '../copy.mjs';
+import { split } from '../frames.mjs';
 import { having, lacking } from './having.mjs';
 
 const NAME = 'roastcliff';

@@ -1,6 +1,7 @@
 // What a person types becomes steps, and what comes from others goes into the text area.
-import { difference, replacement } from './difference.mjs';
+import { difference } from '../difference.mjs';
 import { caretAt, moved, offsetOf } from './caret.mjs';
+import { replacement } from './replacement.mjs';
 
 const DRAIN_MS = 16; // so that a burst of messages is shown at once
 const BURST_MS = 8; // of a burst at once, so that no key waits for long
@@ -128,7 +129,7 @@ export class Editor {
   // stands there twice; where only a later piece must stay its own part does. One of which the page knows that it must stay is tried
   // before any part.
   takeApart({ at, removed, added, isBackSplit }) {
-    const early = this.copy.mayDelete(at) ? 0 : 1;
+    const early = this.copy.may('d', at) ? 0 : 1;
     if (this.takeOut(at, early) < early) return;
     const put = this.putIn(at, added);
     const out = put === added.length ? early + this.takeOut(at + put, removed - early) : early;

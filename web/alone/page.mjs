@@ -2,11 +2,11 @@
 import { Administration } from './administration.mjs';
 import { Channel } from './channel.mjs';
 import { Editor } from './editor.mjs';
-import { download, of, say } from './elements.mjs';
-import { Keeper } from './keeper.mjs';
+import { download, of, say } from '../elements.mjs';
+import { Keeper } from '../keeper.mjs';
 import { Link } from './link.mjs';
 import { Lists } from './lists.mjs';
-import * as words from './words.mjs';
+import * as words from '../words.mjs';
 
 const STALE =
   'This person wrote before what this browser does not have: from another browser, or from this one before its store was cleared. So this page only shows the text, and sends what it has. Take another number to write.';

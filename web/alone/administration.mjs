@@ -1,7 +1,7 @@
 // The administrator's buttons: each is one operation of the policy, but for the protection of a paragraph, which is two, and for
 // confirming all edits, which is one for each.
-import { of, say, sentBy } from './elements.mjs';
-import * as words from './words.mjs';
+import { of, say, sentBy } from '../elements.mjs';
+import * as words from '../words.mjs';
 
 export class Administration {
   // `refused` is given the answer to an operation that wasn't made.

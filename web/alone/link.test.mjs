@@ -82,9 +82,9 @@ test('a link that dies', async () => {
     assert.deepEqual([wires.length, said.at(-1)], [1, 'Linked. The program has not answered yet.']);
     wires[0].bring(TURN);
     pass(900);
-    assert.equal(wires[0].sent, 1);
+    assert.equal(wires[0].sent.length, 1);
     pass(200);
-    assert.equal(wires[0].sent, 2); // a turn, so that one is due
+    assert.equal(wires[0].sent.length, 2); // a turn, so that one is due
     pass(29000);
     assert.deepEqual([wires.length, said.at(-1)], [1, 'Linked.']);
     wires[0].bring(TURN);
@@ -92,7 +92,7 @@ test('a link that dies', async () => {
     link.copy.kept = 1;
     link.plan();
     pass(30050);
-    assert.equal(wires[0].sent, 4); // an item and a turn
+    assert.equal(wires[0].sent.length, 4); // an item and a turn
     pass(50);
     assert.deepEqual([wires.length, said.at(-1)], [1, 'Linked.']);
     pass(2000);

@@ -1,6 +1,6 @@
 // What a journal has, told in few words, so that a page that knows it gives what is missing there alone: how many entries, and of each
 // site how many requests and the last stamp.
-import { isEntry, requestOf } from './frames.mjs';
+import { isEntry, requestOf } from '../frames.mjs';
 
 const NOTHING = { sites: new Map() };
 

@@ -1,7 +1,7 @@
 import assert from 'node:assert/strict';
 import test from 'node:test';
 import { administratorAndUser, exchange, framesOf, opened, RULES, timed, until } from './testing.mjs';
-import * as words from './words.mjs';
+import * as words from '../words.mjs';
 
 // Where a caret of one goes by what another does: the text, the carets, what is replaced by what, and the carets behind it.
 const CARETS = [
@@ -191,13 +191,13 @@ test('denied', () => {
   assert.deepEqual(user.refusals, ['denied 5 by 5']);
   assert.equal(
     words.refusal(user.refusals[0], user.copy.policy),
-    'This is not allowed. Version 5 of the rules denies it, by the rule that version 5 made: “User 1 may not insert in the whole text.”',
+    'You may not do this here. The rule says: User 1 may not add words anywhere.',
   );
   user.area.type(0, 1, ''); // he may delete
   assert.equal(user.area.value, 'b');
   user.area.type(0, 1, 'x'); // what would be replaced stays
   assert.equal(user.area.value, 'b');
-  assert.equal(words.refusal('denied 0 none', user.copy.policy), 'This is not allowed. No rule of version 0 allows it.');
+  assert.equal(words.refusal('denied 0 none', user.copy.policy), 'You may not do this here. No rule allows it.');
 });
 
 test('denied within a piece', () => {
@@ -278,7 +278,7 @@ test('paragraphs', () => {
   exchange(administrator, user);
   user.area.type(5, 6, '');
   assert.equal(user.area.value, 'one\ntwo\n\nthree');
-  assert.match(words.refusal(user.refusals[0], user.copy.policy), /Nobody may insert, delete or change in paragraph 1 \(“\u2068two\u2069”\)\./);
+  assert.match(words.refusal(user.refusals[0], user.copy.policy), /Nobody may write in the paragraph “\u2068two\u2069”\./);
   user.area.type(0, 1, 'O');
   assert.equal(user.area.value, 'One\ntwo\n\nthree');
 });

@@ -1,6 +1,6 @@
 // The lists of a page: who may do what, what was undone and why, and the versions of the rules.
-import { button, item, of, say } from './elements.mjs';
-import * as words from './words.mjs';
+import { button, item, of, say } from '../elements.mjs';
+import * as words from '../words.mjs';
 
 const MOST_SHOWN = 200;
 

@@ -1,6 +1,6 @@
 // A link to a program that serves: a session over a WebSocket, round by round while it is open, dialled again where it is cut.
 import { addressFault } from './address.mjs';
-import { BadFrame } from './copy.mjs';
+import { BadFrame } from '../copy.mjs';
 import { Session } from './session.mjs';
 
 const ROUND_MS = 1000; // from one round to the next where there is no news

@@ -1,6 +1,6 @@
 import assert from 'node:assert/strict';
 import test from 'node:test';
-import { BadFrame } from './copy.mjs';
+import { BadFrame } from '../copy.mjs';
 import { Session } from './session.mjs';
 import { framesOf, opened, RULES, until } from './testing.mjs';
 

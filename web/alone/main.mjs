@@ -1,11 +1,11 @@
 // One page is one person's peer: `?site=3` is person 3, `?site=0` the administrator, `&link=7000` a port to dial at once.
-import { Module, NoJournal, NoMemory } from './peer.mjs';
-import { Copy } from './copy.mjs';
-import { download, of, say } from './elements.mjs';
-import { MOST_SITES } from './limits.mjs';
+import { Module, NoJournal, NoMemory } from '../peer.mjs';
+import { Copy } from '../copy.mjs';
+import { download, of, say } from '../elements.mjs';
+import { MOST_SITES } from '../limits.mjs';
 import { Page } from './page.mjs';
-import { Store } from './store.mjs';
-import * as words from './words.mjs';
+import { Store } from '../store.mjs';
+import * as words from '../words.mjs';
 
 const LAST_PORT = 65535;
 const OTHER_NAMES = ['127.0.0.1', '[::1]'];
@@ -21,7 +21,7 @@ function numberIn(name, last) {
 }
 
 async function load() {
-  const response = await fetch('editor.wasm');
+  const response = await fetch('../editor.wasm');
   if (!response.ok) throw new Error('There is no editor.wasm here: web/build makes it.');
   try {
     return await Module.load(await response.arrayBuffer());
@@ -54,7 +54,7 @@ function offer(store, bytes, site) {
 // Opens the page, with what this browser kept of it.
 async function open(site) {
   const module = await load();
-  const store = await Store.open(site);
+  const store = await Store.open(`site ${site}`);
   const bytes = await store.read();
   let copy;
   try {

@@ -1,6 +1,6 @@
 import assert from 'node:assert/strict';
 import test from 'node:test';
-import { split } from './frames.mjs';
+import { split } from '../frames.mjs';
 import { having, lacking } from './having.mjs';
 import { administratorAndUser } from './testing.mjs';
 
