@@ -1,0 +1,124 @@
+// Words that aren't part of the text, at the places where they would stand: what was undone, and what this person wasn't let write.
+import { offsetOf } from './caret.mjs';
+
+const MOST_REFUSED = 8;
+const MOST_GONE = 1000; // that were let go
+
+/**
+ * `answer` is why they weren't let in, which is empty where somebody else's stand instead.
+ *
+ * @typedef {import('./lines.mjs').Denial} Denial
+ * @typedef {{ key: string, user: number, text: string, denial: Denial | null, answer: string, caret: import('./caret.mjs').Caret }} Refused
+ * @typedef {{ key: string, keys: string[], offset: number, user: number, text: string, denial: Denial | null, answer: string,
+ *   isRefused: boolean }} Ghost
+ * @typedef {{ key: string, place: number, user: number, text: string, denial: Denial, behind: string | null }} Lost
+ */
+
+export class Ghosts {
+  /**
+   * @param {import('./copy.mjs').Copy} copy
+   * @param {{ getItem(key: string): string | null, setItem(key: string, value: string): void }} storage keeps which were let go
+   * @param {string} key
+   */
+  constructor(copy, storage, key) {
+    this.copy = copy;
+    this.storage = storage;
+    this.key = key;
+    /** @type {Set<string>} the names of those that were let go */
+    this.gone = new Set(JSON.parse(storage.getItem(key) ?? '[]'));
+    /** @type {Refused[]} */
+    this.refused = [];
+    this.count = 0;
+  }
+
+  /**
+   * Words that weren't let in at a place.
+   *
+   * @param {{ at: import('./caret.mjs').Caret, text: string }} what
+   * @param {Denial | null} denial
+   * @param {string} [answer]
+   */
+  refuse({ at: caret, text }, denial, answer = '') {
+    if (!text) return;
+    const last = this.refused.at(-1);
+    if (last && last.answer === answer && last.caret.name === caret.name && last.caret.inside === caret.inside) last.text += text;
+    else this.refused = [...this.refused.slice(1 - MOST_REFUSED), { key: `refused ${this.count++}`, user: this.copy.site, text, denial, answer, caret }];
+  }
+
+  /**
+   * Those that stand in the text, in its order.
+   *
+   * @returns {Ghost[]}
+   */
+  all() {
+    const { pieces } = this.copy;
+    const undone = joined(ordered([...this.lost().values()]));
+    const shown = undone.map(({ place, ...it }) => ({ ...it, answer: '', offset: pieces.startOf(place), isRefused: false }));
+    return [...shown, ...this.standing()].sort((a, b) => a.offset - b.offset);
+  }
+
+  // What was undone and isn't there otherwise, by the names of elements, the last.
+  lost() {
+    const { copy } = this;
+    /** @type {Map<string, Lost>} */
+    const all = new Map();
+    for (const { request, denial } of copy.undone.requests) {
+      const { name, user, edit } = request;
+      const element = edit.kind === 'insert' ? name : edit.name;
+      if (edit.kind === 'delete' || this.gone.has(name) || copy.deleted.has(element)) continue;
+      const place = copy.peer.shownUpTo(element) ?? 0;
+      const isThere = edit.kind === 'update' && (!place || copy.pieces.pieceAt(place - 1) === edit.piece);
+      if (isThere) all.delete(element);
+      else all.set(element, { key: name, place, user, text: edit.piece, denial, behind: edit.kind === 'insert' ? edit.name : null });
+    }
+    return all;
+  }
+
+  // Those that weren't let in.
+  standing() {
+    return this.refused.map((it) => ({ ...it, keys: [it.key], offset: offsetOf(this.copy, it.caret), isRefused: true }));
+  }
+
+  /** @param {Ghost} ghost */
+  letGo({ keys }) {
+    keys.forEach((it) => this.gone.add(it));
+    this.refused = this.refused.filter(({ key }) => !this.gone.has(key));
+    const kept = [...this.gone].filter((it) => !it.startsWith('refused ')).slice(-MOST_GONE);
+    this.storage.setItem(this.key, JSON.stringify(kept));
+  }
+}
+
+const stampOf = ({ key }) => Number(key.split('.')[0]);
+
+/**
+ * In the order in which they would stand: each right behind what it was put behind, the later in front.
+ *
+ * @param {Lost[]} all
+ */
+function ordered(all) {
+  /** @type {Lost[]} */
+  const row = [];
+  for (const it of all.toSorted((a, b) => stampOf(a) - stampOf(b))) {
+    const at = row.findIndex(({ key, place }) => key === it.behind && place === it.place);
+    const front = row.findIndex(({ place }) => place >= it.place);
+    row.splice(at >= 0 ? at + 1 : front >= 0 ? front : row.length, 0, it);
+  }
+  return row;
+}
+
+/**
+ * Those of one user that stand together and were undone for one reason are one.
+ *
+ * @param {Lost[]} row
+ */
+function joined(row) {
+  /** @type {(Lost & { keys: string[] })[]} */
+  const all = [];
+  for (const it of row) {
+    const last = all.at(-1);
+    const isSame = last && last.place === it.place && last.user === it.user && last.denial.version === it.denial.version && last.denial.by === it.denial.by;
+    if (isSame) Object.assign(last, { text: last.text + it.text, keys: [...last.keys, it.key] });
+    else all.push({ ...it, keys: [it.key] });
+  }
+  return all;
+}

@@ -1,0 +1,60 @@
+// The page of a house: its documents and its people.
+import { directory } from './directory.mjs';
+import { Documents } from './documents.mjs';
+import { hide, of, say } from './elements.mjs';
+import { Keys } from './keys.mjs';
+import { Line } from './line.mjs';
+import { People } from './people.mjs';
+import { helloText } from './protocol.mjs';
+
+const LINKED = 'Linked';
+
+export class House {
+  /**
+   * @param {string} base
+   * @param {string} address of its link
+   * @param {import('./device.mjs').Device} device
+   */
+  constructor(base, address, device) {
+    this.line = new Line(address, {
+      hello: () => helloText(device),
+      welcomed: () => {},
+      heard: (it) => this.hear(it),
+      told: () => this.tell(),
+      lost: () => this.showHere([]),
+      takesTurns: true, // a page of a document that looks where it is takes this one's place for a moment
+    });
+    this.people = new People(this.line.orders, device.site);
+    this.keys = new Keys(this.line.orders, device.site);
+    this.documents = new Documents(base, (line) => this.people.order(line));
+    for (const it of ['documents', 'side']) hide(it, false);
+    document.body.classList.add('is-house');
+    for (const it of ['online', 'pageshow']) addEventListener(it, () => this.line.hurry());
+  }
+
+  /** @param {import('./protocol.mjs').Heard} heard */
+  hear(heard) {
+    if (heard.kind === 'people') directory.take(heard);
+    else if (heard.kind === 'documents') this.documents.take(heard.documents);
+    else if (heard.kind === 'here') return this.showHere(heard.sites);
+    this.show();
+  }
+
+  /** @param {number[]} sites */
+  showHere(sites) {
+    this.people.here = new Set(sites);
+    this.people.show();
+  }
+
+  show() {
+    this.people.show();
+    this.documents.show(this.people.isOwner);
+    hide('keys-part', !this.people.isOwner);
+  }
+
+  tell() {
+    const { isWelcome, words, isOver } = this.line;
+    say('standing', isWelcome ? LINKED : words || 'Offline. It is linked again when the host is back.');
+    of('standing').dataset.kind = isWelcome ? 'good' : isOver ? 'bad' : 'off';
+  }
+}

@@ -1,0 +1,244 @@
+// Opens the page: that of a document, or that of the house of documents. Whose it is the browser's device says, which an invitation makes.
+import { Copy } from './copy.mjs';
+import { deviceAt, join, keepDevice } from './device.mjs';
+import { directory } from './directory.mjs';
+import { hide, of, say } from './elements.mjs';
+import { whereIs, wholeDocument } from './first.mjs';
+import { House } from './house.mjs';
+import { damaged, NotOpen, tellNotOpen } from './opening.mjs';
+import { Page } from './page.mjs';
+import { Module, NoJournal, NoMemory } from './peer.mjs';
+import { documentPath, linkAddress, placeOf } from './places.mjs';
+import { Store } from './store.mjs';
+
+/**
+ * @typedef {import('./device.mjs').Device} Device
+ * @typedef {{ base: string, document: string }} Spot a document of a house
+ */
+
+const OTHER_NAMES = ['127.0.0.1', '[::1]'];
+const LOCK_PATIENCE_MS = 4000; // a page that is loaded again waits for itself to be gone
+
+const UNINVITED = 'Open the address of your invitation. An owner of the documents gives it to you.';
+const FRAMED = 'This page is shown within another one, which could have you press what you do not see. Open it by itself.';
+const INSECURE = 'Open this page from localhost or over https: elsewhere it cannot keep what you write, nor tell whether you have another page.';
+const OPEN_ALREADY = 'Another page of this browser has this document open already. Go on there, or close it first.';
+const PUT_AWAY = 'This document was put away by an owner. What this browser has of it stays here: export the text to keep it.';
+
+/** @param {Error} error */
+function tell(error) {
+  say('status', error instanceof NoMemory ? 'Memory is wanting. What was asked for was not done, or it is not told.' : error.message);
+}
+
+// ---- what this browser can
+
+// What the page needs of a browser, besides the module.
+const NEEDS = [
+  { what: 'highlights in a text', isThere: () => 'highlights' in CSS },
+  { what: 'text fields without marks (plaintext-only)', isThere: canBePlain },
+  { what: 'a store of its own (IndexedDB)', isThere: () => 'indexedDB' in globalThis },
+];
+
+function canBePlain() {
+  const it = document.createElement('div');
+  it.setAttribute('contenteditable', 'plaintext-only');
+  return it.contentEditable === 'plaintext-only';
+}
+
+async function load() {
+  const missing = NEEDS.filter(({ isThere }) => !isThere()).map(({ what }) => what);
+  if (missing.length) throw new Error(`This browser cannot show the page: it lacks ${missing.join(' and ')}. A Chromium or Chrome from version 133 can.`);
+  const response = await fetch('editor.wasm');
+  if (!response.ok) throw new Error('There is no editor.wasm at this host: web/build makes it.');
+  try {
+    return await Module.load(await response.arrayBuffer());
+  } catch (error) {
+    throw new Error(`This browser cannot run the editor: it needs WebAssembly with a memory of 64 bits. A Chromium or Chrome from version 133, or a Firefox from 134, has it. (${error.message})`);
+  }
+}
+
+// ---- whose page it is
+
+/**
+ * This browser's device at a house, made of an invitation where it has none.
+ *
+ * @param {import('./places.mjs').Place} place
+ * @returns {Promise<Device>}
+ */
+async function deviceFor({ base, document, secret }) {
+  const known = deviceAt(base);
+  const use = async (/** @type {string} */ secret) => {
+    const device = await join(linkAddress(location, base, document), secret);
+    keepDevice(base, device);
+    return device;
+  };
+  if (!secret && !known) throw new NotOpen(UNINVITED);
+  if (!known) return use(secret ?? '');
+  if (secret) offerInvitation(() => use(secret));
+  return known;
+}
+
+/**
+ * A browser that takes part already goes on as before, unless the person wants to be another device.
+ *
+ * @param {() => Promise<unknown>} use
+ */
+function offerInvitation(use) {
+  hide('invited-here', false);
+  of('leave-invitation').addEventListener('click', () => hide('invited-here', true));
+  of('use-invitation').addEventListener('click', () => use().then(() => location.reload(), tell));
+}
+
+// ---- a document
+
+/** @param {Spot} spot */
+const keyOf = ({ base, document }) => `${base} ${document}`;
+
+/**
+ * @param {string} identity
+ * @param {Device} device
+ */
+const storeOf = (identity, { site }) => Store.open(`document ${identity} device ${site}`);
+
+/**
+ * What this browser has of a document: its identity, its store, and the frames of its journal. Where it has nothing all is asked for of the
+ * host. Where this device wrote before what this browser has lost, that is marked.
+ *
+ * @param {Spot} spot
+ * @param {Device} device
+ */
+async function kept(spot, device) {
+  const known = localStorage.getItem(`roastcliff identity ${keyOf(spot)}`);
+  const store = known ? await storeOf(known, device) : null;
+  const bytes = (await store?.read()) ?? new Uint8Array(0);
+  if (known && store && bytes.length) return { identity: known, store, bytes };
+  const tellCount = (count, saved) => say('standing', saved > 1000 && saved < Infinity ? `Opening… ${Math.floor((100 * count) / saved)} %` : 'Opening…');
+  const whole = await wholeDocument(linkAddress(location, spot.base, spot.document), device, tellCount);
+  localStorage.setItem(`roastcliff identity ${keyOf(spot)}`, whole.identity);
+  const found = await storeOf(whole.identity, device);
+  const old = await found.read();
+  if (old.length) return { identity: whole.identity, store: found, bytes: old }; // it had another name
+  await found.append(whole.bytes, { from: whole.count, back: whole.own });
+  if (whole.own) await found.mark();
+  return { identity: whole.identity, store: found, bytes: whole.bytes };
+}
+
+/**
+ * @param {Module} module
+ * @param {Device} device
+ * @param {{ store: Store, bytes: Uint8Array }} had
+ * @param {string} name
+ */
+async function copyOf(module, device, { store, bytes }, name) {
+  try {
+    const copy = new Copy(module, device.site, bytes);
+    copy.isStale = await store.isMarked();
+    return copy;
+  } catch (error) {
+    throw error instanceof NoJournal ? damaged(store, bytes, name) : error;
+  }
+}
+
+/**
+ * Goes to the document of an identity, where that has another name; else gives words where it is nowhere.
+ *
+ * @param {Spot} spot
+ * @param {Device} device
+ * @param {string} identity
+ */
+async function seek(spot, device, identity) {
+  const name = await whereIs(linkAddress(location, spot.base, null), device, identity);
+  if (name === null || name === spot.document) return '';
+  if (name === '') return PUT_AWAY;
+  localStorage.setItem(`roastcliff identity ${keyOf({ ...spot, document: name })}`, identity);
+  localStorage.removeItem(`roastcliff identity ${keyOf(spot)}`);
+  location.replace(documentPath(spot.base, name));
+  return '';
+}
+
+/**
+ * @param {Spot} spot
+ * @param {Device} device
+ */
+async function openDocument(spot, device) {
+  const module = await load();
+  const had = await kept(spot, device);
+  const copy = await copyOf(module, device, had, spot.document);
+  const key = `${had.identity} ${device.site}`;
+  directory.take({ kind: 'people', ...JSON.parse(localStorage.getItem(`roastcliff people ${key}`) ?? '{"people":[],"devices":[]}') });
+  const address = linkAddress(location, spot.base, spot.document);
+  const at = { document: spot.document, identity: had.identity, address, device, key };
+  const page = new Page(copy, had.store, await had.store.marks(), at, () => seek(spot, device, had.identity));
+  Object.assign(globalThis, { page }); // for who tries it by a script
+}
+
+/**
+ * Runs an action while this browser has no other page of the document.
+ *
+ * @param {Spot} spot
+ * @param {() => Promise<void>} action
+ */
+async function alone(spot, action) {
+  const signal = /** @type {any} */ (AbortSignal).timeout(LOCK_PATIENCE_MS);
+  try {
+    await navigator.locks.request(`roastcliff document ${keyOf(spot)}`, { signal }, async () => {
+      action().catch(tellNotOpen);
+      await new Promise(() => {}); // the lock is held as long as the page is there
+    });
+  } catch (error) {
+    throw error === signal.reason ? new NotOpen(OPEN_ALREADY) : error;
+  }
+}
+
+// ---- the page
+
+// Who tries without a host gets the page for that.
+function goesAlone() {
+  const isAlone = new URLSearchParams(location.search).has('site');
+  if (isAlone) location.replace(`alone/${location.search}`);
+  return isAlone;
+}
+
+// A browser takes other names of this machine for other origins, each with devices and stores of its own. So the page goes to one of them.
+function goesToLocalhost() {
+  if (!OTHER_NAMES.includes(location.hostname)) return false;
+  const address = new URL(location.href);
+  address.hostname = 'localhost';
+  location.replace(address);
+  return true;
+}
+
+/**
+ * Opens the house; who was just invited goes on to its document, where there is one alone.
+ *
+ * @param {string} base
+ * @param {Device} device
+ * @param {boolean} isNew
+ */
+function openHouse(base, device, isNew) {
+  const house = new House(base, linkAddress(location, base, null), device);
+  Object.assign(globalThis, { house });
+  if (isNew) house.documents.goToOnly();
+}
+
+async function start() {
+  if (top !== self) throw new NotOpen(FRAMED);
+  if (goesAlone() || goesToLocalhost()) return;
+  if (!navigator.locks) throw new NotOpen(INSECURE);
+  const place = placeOf(location);
+  const { base, document: name } = place;
+  if (location.hash) history.replaceState(null, '', location.pathname);
+  const home = of('home', HTMLAnchorElement);
+  const isNew = !deviceAt(base);
+  const device = await deviceFor(place);
+  if (name === null) return openHouse(base, device, isNew);
+  home.href = base;
+  home.title = 'All documents';
+  say('title', name);
+  document.title = `${name} – Roastcliff`;
+  await alone({ base, document: name }, () => openDocument({ base, document: name }, device));
+}
+
+addEventListener('error', (event) => tell(event.error ?? new Error(event.message)));
+addEventListener('unhandledrejection', ({ reason }) => tell(reason instanceof Error ? reason : new Error(String(reason))));
+start().catch(tellNotOpen);

@@ -1,0 +1,359 @@
+// The page of a document: a person's copy, with the text, the people, the lists, the line to the host, and the store.
+import { offsetOf } from './caret.mjs';
+import { Carets } from './carets.mjs';
+import { directory } from './directory.mjs';
+import { Editor } from './editor.mjs';
+import { download, hide, made, of, say } from './elements.mjs';
+import { Finder } from './finder.mjs';
+import { Ghosts } from './ghosts.mjs';
+import { Keeper } from './keeper.mjs';
+import { Keys } from './keys.mjs';
+import { deniedBy } from './lines.mjs';
+import { Lists } from './lists.mjs';
+import { Note } from './note.mjs';
+import { People } from './people.mjs';
+import { Presence } from './presence.mjs';
+import { caretText } from './protocol.mjs';
+import { Rules } from './rules.mjs';
+import { Surface } from './surface.mjs';
+import { Sync } from './sync.mjs';
+import { standing } from './told.mjs';
+import * as words from './words.mjs';
+import { Writer } from './writer.mjs';
+
+const NOTICE_MS = 5000; // what was undone is said for so long at least, whatever is typed
+const SETTLED_MS = 5000; // an order waits for what was written for so long at most
+const LOOK_MS = 50;
+
+/**
+ * Where a page is: the document's name, its identity, the address of its link, this browser's device, and what tells keys of the browser's
+ * storage of it from others'.
+ *
+ * @typedef {{ document: string, identity: string, address: string, device: import('./device.mjs').Device, key: string }} At
+ */
+
+export class Page {
+  /**
+   * `seek` looks where the document is, as it isn't here any more; it gives words where it is nowhere.
+   *
+   * @param {import('./copy.mjs').Copy} copy
+   * @param {import('./store.mjs').Store} store
+   * @param {import('./store.mjs').Marks} marks
+   * @param {At} at
+   * @param {() => Promise<string>} seek
+   */
+  constructor(copy, store, marks, at, seek) {
+    this.copy = copy;
+    this.at = at;
+    this.seek = seek;
+    this.undone = copy.undone.count; // so many edits were undone when it was said last
+    this.saidUntil = 0; // what the status says stays until then
+    this.hasRefused = false;
+    this.ending = ''; // why the page isn't linked any more, where the line doesn't say
+    this.ghosts = new Ghosts(copy, localStorage, `roastcliff let go ${at.key}`);
+    this.surface = new Surface(of('text'), (it) => this.ghost(it));
+    this.writer = new Writer(copy, {
+      refused: (...it) => this.refused(...it),
+      replaced: (it) => this.replaced(it),
+      changed: () => this.wrote(),
+      stuck: () => this.notice(words.STUCK),
+    });
+    this.writer.restore(JSON.parse(sessionStorage.getItem(this.undoKey) ?? 'null'));
+    this.note = new Note(this.surface, (ghost) => this.letGo(ghost));
+    this.editor = new Editor({
+      copy,
+      writer: this.writer,
+      ghosts: this.ghosts,
+      surface: this.surface,
+      lock: (hold) => this.locked(hold),
+      changed: () => this.changed(),
+    });
+    this.presence = new Presence(copy, (it) => this.sync.line.say(caretText(it)));
+    this.carets = new Carets(this.presence, this.surface, this.writer);
+    this.finder = new Finder(this.editor);
+    this.sync = this.linked(marks);
+    this.rules = new Rules(copy, this.editor, this.sync.line.orders, () => this.settled());
+    this.people = new People(this.sync.line.orders, copy.site, this.rules);
+    this.keys = new Keys(this.sync.line.orders, copy.site);
+    this.lists = new Lists(copy, `roastcliff seen ${at.key}`, (place) => this.rules.remove(place));
+    this.keeper = new Keeper(copy, store, { marks: () => this.sync.marks, kept: () => this.kept(), failed: (error) => this.stop(error) });
+    this.open();
+  }
+
+  get undoKey() {
+    return `roastcliff undo ${this.at.key}`;
+  }
+
+  /** @param {import('./store.mjs').Marks} marks */
+  linked(marks) {
+    const { address, identity, device } = this.at;
+    return new Sync(this.copy, address, { identity, device, marks }, {
+      run: (action) => this.editor.run(action),
+      told: () => this.tell(),
+      heard: (it) => this.hear(it),
+      cameBack: (name) => this.writer.cameBack(name),
+      lost: (close) => this.lost(close),
+    });
+  }
+
+  open() {
+    of('text').contentEditable = 'plaintext-only';
+    for (const it of ['sheet', 'side', 'tools']) hide(it, false);
+    this.listen();
+    this.changed();
+    this.tell();
+  }
+
+  listen() {
+    of('text').addEventListener('beforeinput', () => Date.now() < this.saidUntil || this.hasRefused || say('status', ''));
+    of('colours').addEventListener('click', () => {
+      const isPlain = document.documentElement.classList.toggle('plain');
+      of('colours').setAttribute('aria-pressed', String(!isPlain));
+    });
+    of('export').addEventListener('click', () => this.export());
+    of('more').addEventListener('click', () => this.turnAside());
+    of('protect-form').addEventListener('submit', (event) => {
+      event.preventDefault();
+      /** @type {NodeListOf<HTMLInputElement>} */
+      const chosen = document.querySelectorAll('#protect-whom input:checked');
+      this.rules.protect([...chosen].map((it) => Number(it.value)));
+    });
+    document.addEventListener('selectionchange', () => this.tellCaret());
+    for (const it of ['online', 'pageshow']) addEventListener(it, () => this.sync.line.hurry());
+    addEventListener('pagehide', () => this.keepUndo());
+    addEventListener('beforeunload', (event) => {
+      this.writer.flush();
+      if (!this.keeper.isDone) event.preventDefault();
+    });
+  }
+
+  // ---- what the host tells
+
+  /** @param {import('./protocol.mjs').Heard} heard */
+  hear(heard) {
+    if (heard.kind === 'people') this.met(heard);
+    else if (heard.kind === 'here') this.showHere(new Set(heard.sites));
+    else if (heard.kind === 'caret') this.presence.hear(heard);
+    else if (heard.kind === 'told') this.notice(words.refusal(heard.answer, this.copy.policy));
+    this.carets.show();
+  }
+
+  /** @param {import('./protocol.mjs').People} heard */
+  met(heard) {
+    directory.take(heard);
+    localStorage.setItem(`roastcliff people ${this.at.key}`, JSON.stringify(directory.kept));
+    this.editor.show();
+    this.changed();
+  }
+
+  /** @param {Set<number>} sites */
+  showHere(sites) {
+    this.people.here = sites;
+    this.people.show();
+    this.presence.keepOnly(sites);
+    this.presence.tellAgain();
+  }
+
+  /** @param {import('./closes.mjs').Close} close */
+  async lost({ then }) {
+    this.people.here = new Set();
+    this.people.show();
+    this.presence.keepOnly(new Set());
+    this.carets.show();
+    if (then !== 'seek' && this.sync.line.failures !== 2) return;
+    this.ending = await this.seek();
+    if (this.ending) this.sync.line.close();
+    else this.sync.line.resume();
+    this.tell();
+  }
+
+  // ---- what shows
+
+  // Shows what changed, and keeps it.
+  changed() {
+    if (!this.keeper) return;
+    this.keeper.keep();
+    this.people.show();
+    this.lists.show(this.people.said, this.people.isOwner);
+    this.showWhom();
+    for (const it of ['protection', 'keys-part']) hide(it, !this.people.isOwner);
+    this.tellUndone();
+    this.tellCaret();
+    this.carets.show();
+    if (this.copy.isStale) say('status', words.STALE);
+  }
+
+  // Who may be chosen to write in a protected paragraph: all who write.
+  showWhom() {
+    const people = [...directory.people.values()].filter(({ role }) => role !== 'reader');
+    const said = JSON.stringify(people);
+    if (of('protect-whom').dataset.said === said) return;
+    of('protect-whom').dataset.said = said;
+    of('protect-whom').replaceChildren(...people.map(({ person, name }) => {
+      const box = document.createElement('input');
+      box.type = 'checkbox';
+      box.value = String(person);
+      box.checked = person === this.people.own;
+      return made('label', 'choice', box, ' ', words.isolated(name));
+    }));
+  }
+
+  // A writer's edit was made, maybe by a timer.
+  wrote() {
+    if (!this.keeper) return;
+    if (!this.writer.isRefused) this.forgetRefusal();
+    this.editor.show();
+    this.changed();
+    this.tell();
+  }
+
+  // How the page stands with its host.
+  tell() {
+    if (!this.keeper) return;
+    const { isWelcome, isCaughtUp, unsaved, isHeldBack, line, role } = this.sync;
+    const isOver = line.isOver || this.ending !== '';
+    const told = standing({ isWelcome, isCaughtUp, unsaved, isHeldBack, words: this.ending || line.words || this.sync.closed, isOver }, this.keeper.isDone && !this.writer.held);
+    say('standing', told.text);
+    of('standing').dataset.kind = told.kind;
+    if (this.editor.isReader !== (role === 'reader')) {
+      this.editor.isReader = role === 'reader';
+      this.editor.show();
+    }
+  }
+
+  // Says where the caret is: to the others, and who wrote there, for who doesn't tell the colours.
+  tellCaret() {
+    const { copy, writer, editor, presence } = this;
+    const { hold } = writer;
+    const [anchor, focus] = [editor.caret.anchor, editor.caret.focus].map((it) => writer.inPeer(it, hold));
+    presence.tell(anchor, focus);
+    const { place, start } = copy.pieces.behind(focus - 1);
+    const isThere = focus > 0 && place < copy.pieces.count;
+    if (!isThere) return say('writer', '');
+    let rest = focus - 1 - start;
+    const changer = (copy.pieces.authors.get(place) ?? []).find(({ length }) => (rest -= length) < 0)?.user ?? copy.pieces.users[place];
+    say('writer', words.writer(copy.pieces.users[place], changer));
+  }
+
+  tellUndone() {
+    const { count } = this.copy.undone;
+    if (count > this.undone) this.notice(words.undoing(count - this.undone));
+    this.undone = count;
+  }
+
+  /** @param {string} text that stays for a while */
+  notice(text) {
+    say('status', text);
+    this.saidUntil = Date.now() + NOTICE_MS;
+  }
+
+  kept() {
+    this.sync.send();
+    this.tell();
+  }
+
+  // Waits until the host has what was written here, if it is linked.
+  async settled() {
+    this.writer.flush();
+    for (let waited = 0; waited < SETTLED_MS && this.sync.isWelcome && this.sync.unsaved; waited += LOOK_MS) {
+      await new Promise((done) => setTimeout(done, LOOK_MS));
+    }
+  }
+
+  // ---- what isn't part of the text
+
+  /**
+   * @param {string} answer to an edit that wasn't made
+   * @param {import('./writer.mjs').Place} what
+   */
+  refused(answer, what) {
+    const why = words.refusal(answer, this.copy.policy);
+    say('status', why);
+    this.hasRefused = true;
+    this.ghosts.refuse(what, deniedBy(answer), answer);
+    const standing = what.text ? this.ghosts.standing().at(-1) ?? null : null;
+    queueMicrotask(() => this.note.tell(this.writer.inView(offsetOf(this.copy, what.at)), why, standing));
+  }
+
+  /**
+   * Somebody else's change of the same words shows, and the words that this person wrote into them don't.
+   *
+   * @param {import('./writer.mjs').Place} what
+   */
+  replaced(what) {
+    this.notice(words.REPLACED);
+    this.ghosts.refuse(what, null);
+  }
+
+  // What was said of an edit that wasn't made is gone when another one was.
+  forgetRefusal() {
+    if (this.hasRefused) say('status', '');
+    this.hasRefused = false;
+  }
+
+  /** @param {import('./ghosts.mjs').Ghost} it */
+  ghost(it) {
+    const element = made('del', it.isRefused ? 'ghost refused' : 'ghost', it.text);
+    element.contentEditable = 'false';
+    element.tabIndex = 0;
+    element.setAttribute('role', 'button');
+    element.setAttribute('aria-label', `${words.ghost(it)}: ${it.text}`);
+    const open = (event) => {
+      event.preventDefault();
+      event.stopPropagation();
+      this.note.tell(it.offset, words.whyGhost(it, this.copy.policy), it, element);
+    };
+    element.addEventListener('mousedown', (event) => event.preventDefault());
+    element.addEventListener('click', open);
+    element.addEventListener('keydown', (event) => (event.key === 'Enter' || event.key === ' ') && open(event));
+    return element;
+  }
+
+  /** @param {import('./ghosts.mjs').Ghost} ghost */
+  letGo(ghost) {
+    this.ghosts.letGo(ghost);
+    this.editor.show();
+  }
+
+  /**
+   * Tells of two places of the text that shows whether this person may do nothing there, though he may elsewhere.
+   *
+   * @param {import('./writer.mjs').Hold | null} hold
+   */
+  locked(hold) {
+    const { copy, writer } = this;
+    const spans = [...copy.policy.objects.values()].filter(({ kind }) => kind === 'span');
+    const isShut = (extent) => ['i', 'd', 'u'].every((right) => !copy.policy.allows(copy.site, right, (it) => it.kind === 'all' || it === extent));
+    const placesOf = (extent) => [copy.firstOf(extent.words[0]), copy.peer.shownUpTo(extent.words[1]) ?? 0].map((it) => writer.inView(copy.pieces.startOf(it), hold));
+    const shut = spans.filter(isShut).map(placesOf);
+    return (start, end) => shut.some(([from, to]) => from < to && start < to && from < Math.max(end, start + 1));
+  }
+
+  // ---- the rest
+
+  turnAside() {
+    const isAside = document.querySelector('main')?.classList.toggle('is-aside') ?? false;
+    of('more').setAttribute('aria-expanded', String(isAside));
+    say('more', isAside ? 'Text' : 'People');
+  }
+
+  // Where the store takes nothing more, nothing more may be written: it would be gone with the page.
+  stop(error) {
+    this.editor.close();
+    this.notice(`This browser keeps nothing more (${error.message}), so nothing more can be written here. Export the text before you close the page.`);
+  }
+
+  export() {
+    this.writer.flush();
+    download(new TextEncoder().encode(this.copy.pieces.text), `${this.at.document}.txt`);
+  }
+
+  // What can be undone outlasts a reload.
+  keepUndo() {
+    try {
+      sessionStorage.setItem(this.undoKey, JSON.stringify(this.writer.kept));
+    } catch {
+      sessionStorage.removeItem(this.undoKey);
+    }
+  }
+}

@@ -1,0 +1,192 @@
+// The people of a house: who is here, who may do what, and what an owner does about it.
+import { colourOfPerson } from './colours.mjs';
+import { directory } from './directory.mjs';
+import { button, hide, made, of, say, staying } from './elements.mjs';
+import { NotDone } from './orders.mjs';
+import { ask, askWords } from './question.mjs';
+import { notDone, role as roleWords } from './told.mjs';
+import * as words from './words.mjs';
+
+/** @typedef {import('./protocol.mjs').Person} Person */
+
+const ROLES = /** @type {const} */ (['owner', 'writer', 'reader']);
+
+/** @param {Person} person */
+function face({ person, name }) {
+  const it = made('span', 'face', words.initials(name));
+  it.dataset.colour = colourOfPerson(person);
+  it.setAttribute('aria-hidden', 'true');
+  return it;
+}
+
+export class People {
+  /**
+   * @param {import('./orders.mjs').Orders} orders
+   * @param {number} site of this browser's device
+   * @param {import('./rules.mjs').Rules | null} rules of the document, if the page is at one
+   */
+  constructor(orders, site, rules = null) {
+    this.orders = orders;
+    this.site = site;
+    this.rules = rules;
+    /** @type {Set<number>} the sites that have a link now */
+    this.here = new Set();
+    this.said = ''; // what the lists were made of
+    of('new-person').addEventListener('submit', (event) => {
+      event.preventDefault();
+      this.inviteNew(of('new-name', HTMLInputElement).value.trim(), of('new-role', HTMLSelectElement).value);
+    });
+    of('copy-address').addEventListener('click', () => copyAddress());
+  }
+
+  get own() {
+    return directory.personOf(this.site);
+  }
+
+  get isOwner() {
+    return directory.people.get(this.own ?? 0)?.role === 'owner';
+  }
+
+  // Which persons have a link now.
+  get present() {
+    return new Set([...this.here].map((site) => directory.personOf(site)));
+  }
+
+  show() {
+    const { present } = this;
+    const people = [...directory.people.values()].sort((a, b) => a.person - b.person);
+    const rows = people.map((it) => ({ it, isHere: present.has(it.person), powers: this.powersOf(it), mayWrite: this.rules?.mayWrite(it.person) ?? true }));
+    const said = JSON.stringify([rows, this.isOwner]);
+    if (said === this.said) return;
+    this.said = said;
+    hide('new-person', !this.isOwner);
+    of('here').replaceChildren(...rows.filter(({ isHere }) => isHere).map(({ it }) => hereItem(it)));
+    staying('people', () => of('people').replaceChildren(...rows.map((row) => this.item(row))));
+  }
+
+  /** @param {Person} person */
+  powersOf({ person, role }) {
+    if (role === 'reader') return 'may only read';
+    const powers = this.rules ? this.rules.powers(person) : roleWords(role);
+    return role === 'owner' && this.rules ? `${powers}; makes the rules` : powers;
+  }
+
+  /** @param {{ it: Person, isHere: boolean, powers: string, mayWrite: boolean }} row */
+  item({ it, isHere, powers, mayWrite }) {
+    const isSelf = it.person === this.own;
+    const where = isSelf ? ' · you' : isHere ? ' · here now' : ' · away';
+    const name = made('p', isHere || isSelf ? '' : 'away', made('strong', '', words.isolated(it.name)), where);
+    const line = made('li', '', face(it), made('div', '', name, made('p', '', words.capital(powers), '.')));
+    if (this.isOwner) line.append(this.acts(it, isSelf, mayWrite));
+    return line;
+  }
+
+  /**
+   * What an owner does about a person.
+   *
+   * @param {Person} it
+   * @param {boolean} isSelf
+   * @param {boolean} mayWrite
+   */
+  acts(it, isSelf, mayWrite) {
+    const { rules } = this;
+    const word = mayWrite ? 'Forbid writing' : 'Allow writing';
+    const row = made('div', 'row');
+    if (rules && it.role !== 'reader' && !(isSelf && mayWrite)) row.append(button(word, `${word}: ${it.name}`, () => rules.allow(it.person, !mayWrite)));
+    row.append(button('Invite again', `Invite again: ${it.name}`, () => this.invite(it.person, it.name)));
+    row.append(button('Rename', `Rename ${it.name}`, () => this.rename(it)));
+    if (!isSelf) row.append(this.roles(it));
+    return row;
+  }
+
+  /** @param {Person} it */
+  roles(it) {
+    const list = document.createElement('select');
+    list.setAttribute('aria-label', `What ${it.name} may do in this house`);
+    list.append(...ROLES.map((role) => new Option(roleWords(role), role, false, role === it.role)));
+    list.addEventListener('change', () => this.setRole(it, list));
+    return list;
+  }
+
+  // ---- orders
+
+  /**
+   * Orders something, and says why where it wasn't done. Gives the lines of the answer, or null.
+   *
+   * @param {string} line
+   */
+  async order(line) {
+    try {
+      return await this.orders.ask(line);
+    } catch (error) {
+      if (!(error instanceof NotDone)) throw error;
+      say('status', notDone(error.words));
+      return null;
+    }
+  }
+
+  /**
+   * @param {string} name
+   * @param {string} role
+   */
+  async inviteNew(name, role) {
+    if (!name) return;
+    const made = await this.order(`person ${role} ${name}`);
+    if (!made) return;
+    of('new-name', HTMLInputElement).value = '';
+    await this.invite(Number(made[0].split(' ')[1]), name);
+  }
+
+  /**
+   * Makes an invitation of a person, and shows its address.
+   *
+   * @param {number} person
+   * @param {string} name
+   */
+  async invite(person, name) {
+    const made = await this.order(`invite ${person}`);
+    if (!made) return;
+    const address = of('invited-address', HTMLInputElement);
+    hide('invited', false);
+    say('invited-label', `Give this address to ${words.isolated(name)}, and to nobody else`);
+    address.value = made[0].split(' ')[2];
+    address.select();
+    say('status', `There is an invitation for ${words.isolated(name)}. Its address is below the list of people.`);
+  }
+
+  /** @param {Person} it */
+  async rename(it) {
+    const name = await askWords(`Name of ${words.isolated(it.name)}`, it.name, 'Rename');
+    if (name && name !== it.name) await this.order(`rename ${it.person} ${name}`);
+  }
+
+  /**
+   * @param {Person} it
+   * @param {HTMLSelectElement} list
+   */
+  async setRole(it, list) {
+    const role = /** @type {Person['role']} */ (list.value);
+    const title = `Have ${words.isolated(it.name)} be one who ${roleWords(role)}?`;
+    const undone = role === 'reader' ? 'No edit is undone. What waits in that person’s browsers isn’t taken any more.' : 'No edit is undone.';
+    if ((await ask({ title, undone, yes: 'Change it' })) === 'yes') await this.order(`role ${it.person} ${role}`);
+    else list.value = it.role;
+  }
+}
+
+/** @param {Person} it */
+function hereItem(it) {
+  const line = made('li', '', face(it), made('span', 'unseen', words.isolated(it.name)));
+  line.title = it.name;
+  return line;
+}
+
+async function copyAddress() {
+  const address = of('invited-address', HTMLInputElement);
+  try {
+    await navigator.clipboard.writeText(address.value);
+    say('status', 'The address is copied.');
+  } catch {
+    address.select();
+    say('status', 'Copy the address that is selected.');
+  }
+}

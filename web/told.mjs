@@ -1,0 +1,84 @@
+// What is told of the host and of what it was asked for, in words.
+import { counted, edits, fault } from './words.mjs';
+
+/**
+ * Where a page stands with its host.
+ *
+ * @param {{ isWelcome: boolean, isCaughtUp: boolean, unsaved: number, isHeldBack: boolean, words: string, isOver: boolean }} sync
+ * @param {boolean} isKept whether all is kept in this browser
+ */
+export function standing({ isWelcome, isCaughtUp, unsaved, isHeldBack, words, isOver }, isKept) {
+  const waiting = `${edits(unsaved)} of yours ${unsaved === 1 ? 'waits' : 'wait'} in this browser.`;
+  if (isOver || isHeldBack) return { kind: 'bad', text: words };
+  if (!isWelcome && words) return { kind: 'off', text: words };
+  if (!isWelcome) return { kind: 'off', text: unsaved ? `Offline. ${waiting}` : 'Offline. You can go on writing.' };
+  if (!isCaughtUp) return { kind: 'busy', text: 'Catching up…' };
+  if (!isKept || unsaved) return { kind: 'busy', text: 'Saving…' };
+  return { kind: 'good', text: 'Saved' };
+}
+
+/** @type {Record<string, string>} */
+const REFUSALS = {
+  '': 'There is no link to the host, or it was lost before the answer came. Look whether it was done.',
+  'log full': 'The rules of this document were changed as often as they may be.',
+  'not an owner': 'Only owners may do this.',
+  'nobody of this number': 'There is nobody of this number any more.',
+  'no such document, or there is one': 'There is a document of this name already, or none any more.',
+  'no such document': 'There is no such document any more.',
+  'all numbers are given': 'The host has given all numbers that there are.',
+  'the folder failed': 'The host could not change its folder. Tell who hosts it.',
+  'the file of people failed': 'The host could not keep it. Tell who hosts it.',
+  'no memory': 'The host has no memory left at the moment.',
+  'too many lines': 'This is too much at once.',
+};
+
+/**
+ * Why an order wasn't done, by the host's words.
+ *
+ * @param {string} words
+ */
+export function notDone(words) {
+  const [kind, number] = words.split(' ');
+  if (kind === 'illegal') return `It was not done: ${fault(number)}.`;
+  if (kind === 'missing') return 'It was not done: the text has changed meanwhile.';
+  if (kind === 'bad') return 'The host did not take it. A name has 1 to 40 letters, and no space at an end.';
+  return Object.hasOwn(REFUSALS, words) ? REFUSALS[words] : `The host did not do it: “${words}”.`;
+}
+
+const ROLES = { owner: 'owns the documents', writer: 'writes', reader: 'reads' };
+
+/** @param {import('./protocol.mjs').Role} role */
+export function role(role) {
+  return ROLES[role] ?? role;
+}
+
+const STATES = { open: '', closed: '', damaged: 'Its file is damaged, so it cannot be opened.', 'disk-fault': 'The disk failed, so it cannot be opened.', 'no-memory': 'The host has no memory to open it.' };
+
+/**
+ * What is to be said of a document's state, or ''.
+ *
+ * @param {string} state
+ */
+export function documentState(state) {
+  return STATES[state] ?? state;
+}
+
+/**
+ * How many places of a text have the words that are looked for, and which of them is shown.
+ *
+ * @param {number} count
+ * @param {number} at
+ */
+export function found(count, at) {
+  return count ? `${at + 1} of ${counted(count, 'place')}` : 'Nowhere';
+}
+
+/**
+ * The name of a document from what a person typed: small letters, digits and dashes.
+ *
+ * @param {string} text
+ */
+export function documentName(text) {
+  const plain = text.normalize('NFKD').replace(/\p{M}/gu, '').toLowerCase();
+  return plain.replace(/[^a-z0-9]+/g, '-').replace(/^-+/, '').slice(0, 40).replace(/-+$/, '');
+}

@@ -1,0 +1,34 @@
+import assert from 'node:assert/strict';
+import test from 'node:test';
+import { documentName, documentState, found, notDone, standing } from './told.mjs';
+
+test('where a page stands', () => {
+  const linked = { isWelcome: true, isCaughtUp: true, unsaved: 0, isHeldBack: false, words: '', isOver: false };
+  const rows = [
+    [{}, true, 'good', 'Saved'],
+    [{}, false, 'busy', 'Saving…'],
+    [{ unsaved: 2 }, true, 'busy', 'Saving…'],
+    [{ isCaughtUp: false }, true, 'busy', 'Catching up…'],
+    [{ isWelcome: false }, true, 'off', 'Offline. You can go on writing.'],
+    [{ isWelcome: false, unsaved: 1 }, true, 'off', 'Offline. 1 edit of yours waits in this browser.'],
+    [{ isWelcome: false, words: 'The host was ended.' }, true, 'off', 'The host was ended.'],
+    [{ isWelcome: false, words: 'No more.', isOver: true }, true, 'bad', 'No more.'],
+    [{ words: 'Nearly full.', isHeldBack: true }, true, 'bad', 'Nearly full.'],
+  ];
+  for (const [more, isKept, kind, text] of rows) assert.deepEqual(standing({ ...linked, ...more }, isKept), { kind, text });
+});
+
+test('what the host did not do', () => {
+  assert.equal(notDone('illegal 11 line 2'), 'It was not done: this person is in the group already.');
+  assert.equal(notDone('not an owner'), 'Only owners may do this.');
+  assert.match(notDone(''), /no link to the host/);
+  assert.match(notDone('toString'), /toString/);
+});
+
+test('documents', () => {
+  const rows = [['Spring fair 2027!', 'spring-fair-2027'], ['  Übersicht ', 'ubersicht'], ['—', ''], ['notes', 'notes'], ['a'.repeat(50), 'a'.repeat(40)]];
+  for (const [typed, name] of rows) assert.equal(documentName(typed), name);
+  assert.equal(documentState('open'), '');
+  assert.match(documentState('damaged'), /damaged/);
+  assert.deepEqual([found(0, 0), found(1, 0), found(1200, 4)], ['Nowhere', '1 of 1 place', '5 of 1,200 places']);
+});
