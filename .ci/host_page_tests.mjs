@@ -1,0 +1,536 @@
+// Tries the page of a team in headless Chromium at a running host: people in profiles of their own, who write by keys.
+//
+//   node .ci/host_page_tests.mjs CHROMIUM HOST [--pictures FOLDER] [--seconds N] [--times]
+//
+// HOST is the built program of a host. With --pictures pages are kept as pictures. All of it has to be done in N seconds. With --times it is
+// told how long each try took.
+import assert from 'node:assert/strict';
+import { spawn } from 'node:child_process';
+import { mkdirSync, mkdtempSync, rmSync, writeFileSync } from 'node:fs';
+import { createServer } from 'node:http';
+import { tmpdir } from 'node:os';
+import { join } from 'node:path';
+import { fileURLToPath } from 'node:url';
+import { Browser, CONTROL, pause } from './devtools.mjs';
+
+const PATIENCE_MS = 40000;
+const USUAL_SECONDS = 110; // for all of it
+const HELD_MS = 700; // by then what was typed is an edit
+const WEB = fileURLToPath(new URL('../web', import.meta.url));
+const DESK = { width: 1180, height: 760 };
+const TELEPHONE = { width: 390, height: 760, isMobile: true };
+const MARKUP = '<img src=x onerror=alert(1)><b>x</b> \u202eabc';
+const START = 'Plan for the spring fair\nThe budget is 900 euros.\nWho brings what:\n';
+const BEAS = 'Bea: tables and tea. ';
+
+function option(name) {
+  const at = process.argv.indexOf(name);
+  return at < 0 ? null : process.argv[at + 1] ?? '';
+}
+
+async function until(what, holds) {
+  const end = Date.now() + PATIENCE_MS;
+  while (!(await holds())) {
+    if (Date.now() > end) assert.fail(`it never came that ${typeof what === 'string' ? what : await what()}`);
+    await pause(40);
+  }
+}
+
+async function freePort() {
+  const server = createServer();
+  await new Promise((done) => server.listen(0, '127.0.0.1', done));
+  const { port } = server.address();
+  await new Promise((done) => server.close(done));
+  return port;
+}
+
+// A running host of a folder of its own.
+class Host {
+  static async start(program) {
+    const host = new Host();
+    host.program = program;
+    host.folder = mkdtempSync(join(tmpdir(), 'page-host-'));
+    host.port = await freePort();
+    host.invitation = await host.run();
+    return host;
+  }
+
+  // Starts it; gives the first line that it prints.
+  async run() {
+    const words = ['host', join(this.folder, 'fair'), '--port', String(this.port), '--web', WEB];
+    this.process = spawn(this.program, words, { stdio: ['ignore', 'pipe', 'ignore'] });
+    this.ended = new Promise((done) => this.process.once('exit', done));
+    const told = new Promise((done) => this.process.stdout.once('data', (data) => done(data.toString().trim())));
+    await until('the host listens', () => fetch(`http://localhost:${this.port}/healthz`).then((it) => it.ok, () => false));
+    return Promise.race([told, pause(100)]);
+  }
+
+  stop() {
+    this.process.kill('SIGKILL');
+    return this.ended;
+  }
+
+  async close() {
+    await this.stop();
+    rmSync(this.folder, { recursive: true, force: true });
+  }
+}
+
+// A person's page.
+class Sheet {
+  static async open(world, address, size = DESK) {
+    const profile = await world.browser.profile();
+    await world.browser.call('Browser.grantPermissions', { permissions: ['clipboardReadWrite', 'clipboardSanitizedWrite'], browserContextId: profile });
+    const sheet = new Sheet();
+    sheet.world = world;
+    sheet.profile = profile;
+    sheet.page = await world.browser.page(address, profile, size);
+    await sheet.isSaved();
+    return sheet;
+  }
+
+  value(expression) {
+    return this.page.value(expression);
+  }
+
+  // The text of an element, but for the signs around what somebody wrote.
+  said(id) {
+    return this.value(`(document.getElementById(${JSON.stringify(id)})?.textContent ?? '').replace(/[\\u2068\\u2069]/g, '')`);
+  }
+
+  async says(id, pattern) {
+    const what = async () => `the page says ${pattern} in ${id}: it says ${JSON.stringify(await this.said(id))}, and ${JSON.stringify(await this.said('status'))} ${this.page.faults}`;
+    await until(what, async () => pattern.test(await this.said(id)));
+  }
+
+  isSaved() {
+    const what = async () => `it is saved: ${await this.said('standing')} ${await this.said('opening-words')} ${await this.said('status')} ${this.page.faults}`;
+    return until(what, async () => (await this.said('standing')) === 'Saved');
+  }
+
+  text() {
+    return this.value('page.surface.read()');
+  }
+
+  async shows(text) {
+    const what = async () => `the page shows ${JSON.stringify(text)}: it shows ${JSON.stringify(await this.text())} ${this.page.faults}`;
+    await until(what, async () => (await this.text()) === text);
+    assert.equal(await this.value('page.writer.view().text'), text);
+  }
+
+  holds(what, expression) {
+    return until(what, () => this.value(`Boolean(${expression})`));
+  }
+
+  focus() {
+    return this.value('document.getElementById("text").focus(), null');
+  }
+
+  async end() {
+    await this.focus();
+    await this.page.key('End', CONTROL, ['moveToEndOfDocument']);
+  }
+
+  async goTo(offset, to = offset) {
+    await this.focus();
+    await this.value(`page.surface.select(${offset}, ${to}), null`);
+    await pause(30);
+  }
+
+  click(selector) {
+    return this.value(`document.querySelector(${JSON.stringify(selector)}).click(), null`);
+  }
+
+  // Presses the button of this name for screen readers, below an element.
+  press(id, label) {
+    return this.value(`[...document.querySelectorAll('#${id} button')].find((it) => it.getAttribute('aria-label').replace(/[\\u2068\\u2069]/g, '') === ${JSON.stringify(label)}).click(), null`);
+  }
+
+  async fill(id, text) {
+    await this.value(`document.getElementById(${JSON.stringify(id)}).select(), null`);
+    await this.page.insert(text);
+  }
+
+  async offline() {
+    await this.value(`page.sync.line.dial = () => new WebSocket('ws://localhost:1/'), page.sync.line.socket.close(), null`);
+    await this.says('standing', /^Offline/);
+  }
+
+  async online() {
+    await this.value('page.sync.line.dial = (it) => new WebSocket(it), page.sync.line.hurry(), null');
+    await this.isSaved();
+  }
+
+  edits() {
+    return this.value('page.copy.journal.count - page.copy.entries.length');
+  }
+
+  ghosts() {
+    return this.value(`[...document.querySelectorAll('.ghost')].map((it) => it.textContent)`);
+  }
+
+  // What the question asks, once it is there.
+  async question() {
+    await this.holds('the question is there', 'document.getElementById("question").open');
+    return `${await this.said('question-title')} | ${await this.said('question-undone')}`;
+  }
+
+  // Keeps the page as a picture, where pictures are wanted.
+  async picture(name) {
+    const folder = option('--pictures');
+    if (!folder) return;
+    mkdirSync(folder, { recursive: true });
+    await pause(200);
+    writeFileSync(join(folder, `${name}.png`), await this.page.picture());
+  }
+
+  async close() {
+    assert.deepEqual(this.page.faults, []);
+    await this.page.close();
+  }
+}
+
+// ---- what is tried, one behind another
+
+const tries = {
+  async an_invitation_makes_a_device(world) {
+    const ada = await Sheet.open(world, world.host.invitation);
+    assert.equal(await ada.value('location.pathname + location.hash'), '/d/fair/');
+    assert.match(await ada.value('localStorage.getItem("roastcliff device /")'), /^\{"site":1,"secret":"[0-9a-f]{32}"\}$/);
+    await ada.says('people', /Owner · you/);
+    await ada.holds('a blank document says what to do', `document.getElementById('text').classList.contains('is-blank')`);
+    await ada.picture('blank');
+    await ada.press('people', 'Rename Owner');
+    await ada.fill('wording-words', 'Ada Lund');
+    await ada.click('#wording-yes');
+    await ada.says('people', /Ada Lund · you/);
+    world.ada = ada;
+  },
+
+  async a_second_person_is_invited(world) {
+    const { ada } = world;
+    await ada.fill('new-name', 'Bea Okafor');
+    await ada.click('#new-person button');
+    await ada.holds('there is an address', `document.getElementById('invited-address').value`);
+    const address = await ada.value(`document.getElementById('invited-address').value`);
+    assert.match(address, /^http:\/\/localhost:[0-9]+\/#[0-9a-f]{32}$/);
+    world.bea = await Sheet.open(world, address);
+    world.address = address;
+    await ada.says('people', /Bea Okafor · here now/);
+    await ada.value(`document.getElementById('invited').hidden = true, null`);
+  },
+
+  async both_write(world) {
+    const { ada, bea } = world;
+    await ada.focus();
+    await ada.page.type(START);
+    await bea.shows(START);
+    await ada.isSaved();
+    assert.ok((await ada.edits()) < 25, 'words go out as edits, not letters');
+    await bea.end();
+    await bea.page.type(BEAS);
+    await ada.shows(START + BEAS);
+    await bea.isSaved();
+    await ada.holds('the other’s caret is there', `[...document.querySelectorAll('.caret-name')].some((it) => it.textContent.includes('Bea Okafor'))`);
+    await ada.goTo((START + BEAS).length);
+    await ada.says('writer', /^At the caret: written by Bea Okafor\.$/);
+  },
+
+  async within_a_word(world) {
+    const { ada, bea } = world;
+    const before = await bea.edits();
+    await bea.goTo('Plan for the spring'.length);
+    for (let i = 0; i < 3; i++) await bea.page.key('Backspace');
+    await bea.page.type('out');
+    await ada.shows((START + BEAS).replace('spring', 'sprout'));
+    assert.equal((await bea.edits()) - before, 1);
+    await ada.goTo('Plan for the sprout'.length);
+    await ada.says('writer', /^At the caret: written by Bea Okafor, in words that Ada Lund began\.$/);
+    await bea.page.key('z', CONTROL);
+    await ada.shows(START + BEAS);
+    await ada.isSaved();
+    await ada.picture('two-people');
+  },
+
+  async two_in_one_line(world) {
+    const { ada, bea } = world;
+    const line = 'The gate opens at nine, and the music begins at noon.';
+    const before = START + BEAS;
+    await ada.end();
+    await ada.page.insert(line);
+    await ada.value('page.writer.flush(), null');
+    await bea.shows(before + line);
+    await bea.offline();
+    await bea.goTo(before.length + 'The gate opens at nine'.length);
+    await bea.page.type(' sharp');
+    await ada.goTo(before.length + 'The '.length);
+    await ada.page.type('south ');
+    await pause(HELD_MS);
+    await bea.online();
+    const both = `${before}The south gate opens at nine sharp, and the music begins at noon.`;
+    for (const it of [bea, ada]) await it.shows(both);
+    await ada.goTo(before.length, both.length);
+    await ada.page.key('Backspace');
+    await bea.shows(before);
+  },
+
+  async two_change_one_word(world) {
+    const { ada, bea } = world;
+    const before = START + BEAS;
+    await ada.end();
+    await ada.page.type('Meet at nine ');
+    const at = before.length + 'Meet at '.length;
+    await bea.shows(`${before}Meet at nine `);
+    await bea.offline();
+    for (const [it, word] of [[ada, 'seven'], [bea, 'eight']]) {
+      await it.goTo(at, at + 4);
+      await it.page.insert(word);
+      await pause(HELD_MS);
+    }
+    await bea.online();
+    await bea.shows(`${before}Meet at seven `);
+    await ada.shows(`${before}Meet at seven `);
+    assert.deepEqual([await ada.ghosts(), await bea.ghosts()], [[], ['eight']]);
+    await bea.says('status', /^Somebody changed the same words/);
+    await bea.click('.ghost');
+    await bea.click('#note-go');
+    await ada.goTo(before.length, `${before}Meet at seven `.length);
+    await ada.page.key('Backspace');
+    await bea.shows(before);
+  },
+
+  async markup_and_turning_signs(world) {
+    const { ada, bea } = world;
+    const before = START + BEAS;
+    await ada.end();
+    await ada.page.insert(MARKUP);
+    await bea.shows(before + MARKUP);
+    await ada.press('people', 'Rename Bea Okafor');
+    await ada.fill('wording-words', '<b>Bea</b>');
+    await ada.click('#wording-yes');
+    await bea.says('people', /<b>Bea<\/b> · you/);
+    for (const it of [ada, bea]) assert.equal(await it.value(`document.querySelectorAll('img, b, script:not([src])').length`), 0);
+    await ada.press('people', 'Rename <b>Bea</b>');
+    await ada.fill('wording-words', 'Bea Okafor');
+    await ada.click('#wording-yes');
+    await bea.says('people', /Bea Okafor · you/);
+    await ada.focus();
+    await ada.page.key('z', CONTROL);
+    await bea.shows(before);
+  },
+
+  async a_paragraph_is_protected(world) {
+    const { ada, bea } = world;
+    await ada.goTo('Plan for the spring fair\nThe bud'.length);
+    await ada.click('#protect');
+    assert.equal(await ada.question(), 'Let nobody but Ada Lund write in the paragraph “The budget is 900 euros.”? | No edit would be undone.');
+    await ada.click('#question-yes');
+    await bea.holds('it is locked', `document.querySelectorAll('.locked').length === 1`);
+    await bea.goTo('Plan for the spring fair\nThe budget is '.length);
+    await bea.page.type('only ');
+    await bea.says('note-text', /^You may not do this here\. The rule says: Nobody may write in the paragraph “The budget is 900 euros\.”$/);
+    await bea.shows(START + BEAS);
+    assert.deepEqual(await bea.ghosts(), ['only ']);
+    await bea.picture('denied-at-its-place');
+    await bea.click('#note-go');
+    assert.deepEqual(await bea.ghosts(), []);
+    assert.equal(await ada.value(`document.querySelectorAll('.locked').length`), 0);
+  },
+
+  async a_right_goes_while_one_is_offline(world) {
+    const { ada, bea } = world;
+    await bea.offline();
+    await bea.end();
+    await bea.page.type('And a brass band. ');
+    await bea.says('standing', /^Offline\. 4 edits of yours wait in this browser\.$/);
+    await bea.picture('offline');
+    await ada.press('people', 'Forbid writing: Bea Okafor');
+    assert.match(await ada.question(), /^Forbid Bea Okafor to write\? \| [0-9]+ edits of Bea Okafor would be undone: “Bea: tables and tea\.”$/);
+    await ada.picture('question');
+    await ada.click('#question-yes');
+    await ada.says('people', /Bea OkaforMay only read|May only read/);
+    await bea.online();
+    for (const it of [ada, bea]) await it.shows(START);
+    await bea.says('status', /^[0-9]+ edits were undone\./);
+    assert.equal((await bea.ghosts()).join(''), `${BEAS}And a brass band. `);
+    await bea.value(`[...document.querySelectorAll('.ghost')].at(-1).click(), null`);
+    await bea.says('note-text', /^Undone words of Bea Okafor\. The rule says: Bea Okafor may not write anywhere\.$/);
+    await bea.picture('undone-at-its-place');
+    await bea.click('#note-copy');
+    await bea.says('status', /copied/);
+    assert.equal(await bea.value('navigator.clipboard.readText()'), (await bea.ghosts()).at(-1));
+    await bea.click('#note-close');
+    await ada.picture('after-a-rule');
+  },
+
+  // A right is given back, and taken again so that what was written stays: it is confirmed first.
+  async what_was_written_is_kept(world) {
+    const { ada, bea } = world;
+    await ada.press('people', 'Allow writing: Bea Okafor');
+    await ada.question();
+    await ada.click('#question-yes');
+    await bea.says('people', /Bea Okafor · youMay write/);
+    await bea.end();
+    await bea.page.type('Cups and plates. ');
+    await ada.shows(`${START}Cups and plates. `);
+    await bea.isSaved();
+    await ada.press('people', 'Forbid writing: Bea Okafor');
+    assert.match(await ada.question(), /3 edits of Bea Okafor would be undone: “Cups and plates\.”$/);
+    await ada.click('#question-keep');
+    await bea.says('people', /Bea Okafor · youMay only read/);
+    await bea.shows(`${START}Cups and plates. `);
+    await bea.isSaved();
+    world.text = `${START}Cups and plates. `;
+  },
+
+  // Who may only read composes a word: it is struck through at its place. His note is reached and left by keys.
+  async the_keyboard_alone(world) {
+    const { bea } = world;
+    await bea.end();
+    await bea.page.call('Input.imeSetComposition', { text: 'ni', selectionStart: 2, selectionEnd: 2 });
+    await bea.page.insert('你好');
+    await bea.holds('the note is there', `!document.getElementById('note').hidden`);
+    await bea.shows(world.text);
+    assert.equal(await bea.value(`[...document.querySelectorAll('.ghost.refused')].map((it) => it.textContent).join()`), '你好');
+    await bea.focus();
+    for (let i = 0; i < 9 && !(await bea.value(`document.activeElement.matches('.ghost.refused')`)); i++) await bea.page.key('Tab');
+    await bea.page.key('Enter');
+    assert.equal(await bea.value('document.activeElement.id'), 'note');
+    assert.notEqual(await bea.value('getComputedStyle(document.activeElement).outlineStyle'), 'none');
+    await bea.page.key('Escape');
+    assert.ok(await bea.value(`document.getElementById('note').hidden && document.activeElement.matches('.ghost.refused')`));
+  },
+
+  async it_comes_back(world) {
+    const { bea, ada } = world;
+    await ada.end();
+    await ada.page.type('Bye. ');
+    await ada.isSaved();
+    for (const it of [ada, bea]) {
+      const before = await it.text();
+      await it.page.reload();
+      await pause(300);
+      await it.isSaved();
+      await it.shows(before);
+    }
+    await ada.focus();
+    await ada.page.key('z', CONTROL); // undo outlasts it
+    for (const it of [ada, bea]) await it.shows(world.text);
+    await bea.says('people', /Ada Lund · here now/);
+    const other = await world.browser.page(`http://localhost:${world.host.port}/d/fair/`, bea.profile, DESK);
+    await until('a second page of one browser is refused', () => other.value(`document.getElementById('opening-words')?.textContent`).then((it) => /^Another page of this browser/.test(it)));
+    await other.close();
+  },
+
+  async a_host_that_is_restarted(world) {
+    const { ada, bea, host } = world;
+    await host.stop();
+    for (const it of [ada, bea]) await it.says('standing', /^Offline/);
+    await ada.end();
+    await ada.page.type('Now. ');
+    await ada.says('standing', /^Offline\. 1 edit of yours waits in this browser\.$/);
+    await host.run();
+    world.text += 'Now. ';
+    for (const it of [ada, bea]) await it.isSaved();
+    await bea.shows(world.text);
+  },
+
+  async documents(world) {
+    const { ada, bea, host } = world;
+    const house = await world.browser.page(`http://localhost:${host.port}/`, ada.profile, DESK);
+    const sheet = Object.assign(new Sheet(), { world, page: house, profile: ada.profile });
+    await sheet.says('document-list', /fair/);
+    await sheet.fill('new-document-name', 'Übung 2');
+    await sheet.says('new-document-told', /^It will be called ubung-2\.$/);
+    await sheet.click('#new-document button');
+    await sheet.says('document-list', /ubung-2/);
+    await sheet.picture('documents');
+    await sheet.press('document-list', 'Put away ubung-2');
+    await sheet.question();
+    await sheet.click('#question-yes');
+    await sheet.says('document-list', /^(?!.*ubung-2)/);
+    // Who has a document open goes along when it is given another name.
+    await sheet.press('document-list', 'Rename fair');
+    await sheet.fill('wording-words', 'spring-fair');
+    await sheet.click('#wording-yes');
+    await sheet.says('document-list', /spring-fair/);
+    for (const it of [ada, bea]) {
+      await it.holds('it goes along', `location.pathname === '/d/spring-fair/'`);
+      await it.isSaved();
+      await it.shows(world.text);
+    }
+    await sheet.close();
+  },
+
+  // What is told on a telephone in the dark: nothing is cut off, and every control has a name.
+  async a_telephone_in_the_dark(world) {
+    const { bea } = world;
+    await bea.page.call('Emulation.setEmulatedMedia', { features: [{ name: 'prefers-color-scheme', value: 'dark' }] });
+    await bea.page.resize(TELEPHONE);
+    await pause(100);
+    await bea.picture('telephone');
+    assert.ok((await bea.value('document.documentElement.scrollWidth')) <= TELEPHONE.width);
+    await bea.click('#more');
+    assert.ok((await bea.value('document.documentElement.scrollWidth')) <= TELEPHONE.width);
+    await bea.picture('telephone-people');
+    await bea.click('#more');
+    await bea.page.resize(DESK);
+    for (const it of [world.ada, bea]) {
+      const { nodes } = await it.page.call('Accessibility.getFullAXTree');
+      const unnamed = nodes.filter(({ ignored, role, name }) => !ignored && ['button', 'textbox', 'combobox', 'checkbox', 'searchbox', 'link'].includes(role?.value) && !name?.value);
+      assert.deepEqual(unnamed.map(({ role }) => role.value), []);
+    }
+  },
+
+  async a_role_and_a_device(world) {
+    const { ada, bea } = world;
+    await ada.value(`{ const list = [...document.querySelectorAll('#people select')].find((it) => it.getAttribute('aria-label').includes('Bea Okafor')); list.value = 'reader', list.dispatchEvent(new Event('change')); null }`);
+    await ada.question();
+    await ada.click('#question-yes');
+    await bea.holds('she may only read', `document.getElementById('text').getAttribute('aria-readonly') === 'true'`);
+    await bea.isSaved();
+    await ada.isSaved();
+    await ada.value(`document.getElementById('keys-part').open = true, null`);
+    await ada.says('keys', /Device 2 of Bea Okafor/);
+    await ada.press('keys', 'Close device 2 of Bea Okafor');
+    await ada.question();
+    await ada.click('#question-yes');
+    await bea.says('standing', /^An owner closed this device\. Ask for a new invitation/);
+    await ada.isSaved();
+  },
+};
+
+// ---- all of it
+
+async function runAll(world) {
+  for (const [name, action] of Object.entries(tries)) {
+    const begun = Date.now();
+    try {
+      await action(world);
+    } catch (error) {
+      console.log(`host_page: ${name}: ${error.stack}`);
+      return 1; // those behind it stand on it
+    }
+    if (process.argv.includes('--times')) console.log(`host_page: ${name}: ${Date.now() - begun} ms`);
+  }
+  for (const it of [world.ada, world.bea]) await it.close();
+  console.log(`host_page: ${Object.keys(tries).length} tries of two people at a running host, in Chromium`);
+  return 0;
+}
+
+async function main() {
+  const [chromium, program] = process.argv.slice(2);
+  const world = { browser: new Browser(chromium), host: await Host.start(program) };
+  const seconds = Number(option('--seconds') ?? USUAL_SECONDS);
+  let status = 1;
+  try {
+    status = await Promise.race([runAll(world), pause(1000 * seconds).then(() => null)]);
+    if (status === null) console.log(`host_page: it takes more than ${seconds} s`);
+  } finally {
+    await world.browser.close();
+    await world.host.close();
+  }
+  process.exit(status ?? 1);
+}
+
+await main();
