@@ -1,5 +1,6 @@
 // Words that aren't part of the text, at the places where they would stand: what was undone, and what this person wasn't let write.
 import { offsetOf } from './caret.mjs';
+import { difference } from './difference.mjs';
 
 const MOST_REFUSED = 8;
 const MOST_GONE = 1000; // that were let go
@@ -11,7 +12,7 @@ const MOST_GONE = 1000; // that were let go
  * @typedef {{ key: string, user: number, text: string, denial: Denial | null, answer: string, caret: import('./caret.mjs').Caret }} Refused
  * @typedef {{ key: string, keys: string[], offset: number, user: number, text: string, denial: Denial | null, answer: string,
  *   isRefused: boolean }} Ghost
- * @typedef {{ key: string, place: number, user: number, text: string, denial: Denial, behind: string | null }} Lost
+ * @typedef {{ key: string, offset: number, user: number, text: string, denial: Denial, behind: string | null }} Lost
  */
 
 export class Ghosts {
@@ -51,9 +52,8 @@ export class Ghosts {
    * @returns {Ghost[]}
    */
   all() {
-    const { pieces } = this.copy;
     const undone = joined(ordered([...this.lost().values()]));
-    const shown = undone.map(({ place, ...it }) => ({ ...it, answer: '', offset: pieces.startOf(place), isRefused: false }));
+    const shown = undone.map((it) => ({ ...it, answer: '', isRefused: false }));
     return [...shown, ...this.standing()].sort((a, b) => a.offset - b.offset);
   }
 
@@ -66,12 +66,36 @@ export class Ghosts {
       const { name, user, edit } = request;
       const element = edit.kind === 'insert' ? name : edit.name;
       if (edit.kind === 'delete' || this.gone.has(name) || copy.deleted.has(element)) continue;
-      const place = copy.peer.shownUpTo(element) ?? 0;
-      const isThere = edit.kind === 'update' && (!place || copy.pieces.pieceAt(place - 1) === edit.piece);
-      if (isThere) all.delete(element);
-      else all.set(element, { key: name, place, user, text: edit.piece, denial, behind: edit.kind === 'insert' ? edit.name : null });
+      const { offset, text } = edit.kind === 'insert' ? this.lostPiece(name, edit.piece) : this.lostChange(element, edit.piece);
+      if (text) all.set(element, { key: name, offset, user, text, denial, behind: edit.kind === 'insert' ? edit.name : null });
+      else all.delete(element);
     }
     return all;
+  }
+
+  /**
+   * A piece that was put in and isn't there: it would stand behind what shows in front of it.
+   *
+   * @param {string} name
+   * @param {string} text
+   */
+  lostPiece(name, text) {
+    const { peer, pieces } = this.copy;
+    return { offset: pieces.startOf(peer.shownUpTo(name) ?? 0), text };
+  }
+
+  /**
+   * Of a change that doesn't show, the words that it put into its piece, behind those that stand there instead.
+   *
+   * @param {string} name
+   * @param {string} piece
+   */
+  lostChange(name, piece) {
+    const { copy } = this;
+    const place = copy.placeOf(name);
+    if (place === null) return { offset: 0, text: '' };
+    const { end, text } = difference(copy.pieces.pieceAt(place), piece);
+    return { offset: copy.pieces.startOf(place) + end, text };
   }
 
   // Those that weren't let in.
@@ -99,8 +123,8 @@ function ordered(all) {
   /** @type {Lost[]} */
   const row = [];
   for (const it of all.toSorted((a, b) => stampOf(a) - stampOf(b))) {
-    const at = row.findIndex(({ key, place }) => key === it.behind && place === it.place);
-    const front = row.findIndex(({ place }) => place >= it.place);
+    const at = row.findIndex(({ key, offset }) => key === it.behind && offset === it.offset);
+    const front = row.findIndex(({ offset }) => offset >= it.offset);
     row.splice(at >= 0 ? at + 1 : front >= 0 ? front : row.length, 0, it);
   }
   return row;
@@ -116,7 +140,7 @@ function joined(row) {
   const all = [];
   for (const it of row) {
     const last = all.at(-1);
-    const isSame = last && last.place === it.place && last.user === it.user && last.denial.version === it.denial.version && last.denial.by === it.denial.by;
+    const isSame = last && last.offset === it.offset && last.user === it.user && last.denial.version === it.denial.version && last.denial.by === it.denial.by;
     if (isSame) Object.assign(last, { text: last.text + it.text, keys: [...last.keys, it.key] });
     else all.push({ ...it, keys: [it.key] });
   }
