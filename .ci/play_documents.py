@@ -8,7 +8,7 @@ behind a line is a remark. There are three kinds:
 - Commands: the first begins with a path. Those of the program and of the examples run as they stand, in a folder that has the program
   as `./roastcliff` and a copy of `examples/`; a `serve` runs beside those that dial it, on a free port. Each has to end with 0, and to
   write what stands behind its `->`, or in the file `.out` beside its input. The others are told by name: commands of other programs,
-  and a `serve` that nobody in its block dials.
+  a host and who follows it, and a `serve` that nobody in its block dials.
 - A dialogue, `LINE -> ANSWER`: its lines stand in this order, with these answers, in the run of the script or of the frames that the
   section is about. This is the last one that a command of the section ran, or else the script that its text names. Where there is
   neither, the block is the script itself.
@@ -27,7 +27,7 @@ from link_peer import END, TURN, Broken, free_port, reach, text_of
 from row import SECONDS, difference
 
 TOP = os.path.join(os.path.dirname(os.path.abspath(__file__)), "..")
-CAN_RUN = re.compile(r"\./roastcliff |examples/\w+/run\b")
+CAN_RUN = re.compile(r"\./roastcliff (?!host |verify |follow )|examples/\w+/run\b")
 HAS_DIALOGUE = re.compile(r"\./roastcliff (replay|feed) ")
 # A command that serves or dials: what stands before its port, and the number behind it.
 CALLS = re.compile(r"(\./roastcliff (?:serve|dial) \d+) \w+ (\d+)")
