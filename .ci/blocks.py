@@ -18,8 +18,9 @@ class Block(NamedTuple):
         return [line for line in self.lines if line != LEFT_OUT]
 
     def is_of_commands(self):
-        """Whether its lines are commands: the first word of the first is a path."""
-        return "/" in self.lines[0].split(" ")[0]
+        """Whether its lines are commands: the first word of the first is a path and no address, or it copies."""
+        first = self.lines[0].split(" ")[0]
+        return first == "cp" or ("/" in first and "://" not in first)
 
     def is_dialogue(self):
         """Whether its lines are answered."""

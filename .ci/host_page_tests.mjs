@@ -6,7 +6,7 @@
 // told how long each try took.
 import assert from 'node:assert/strict';
 import { spawn } from 'node:child_process';
-import { mkdirSync, mkdtempSync, rmSync, writeFileSync } from 'node:fs';
+import { mkdirSync, mkdtempSync, readFileSync, rmSync, writeFileSync } from 'node:fs';
 import { createServer } from 'node:http';
 import { tmpdir } from 'node:os';
 import { join } from 'node:path';
@@ -22,6 +22,16 @@ const TELEPHONE = { width: 390, height: 760, isMobile: true };
 const MARKUP = '<img src=x onerror=alert(1)><b>x</b> \u202eabc';
 const START = 'Plan for the spring fair\nThe budget is 900 euros.\nWho brings what:\n';
 const BEAS = 'Bea: tables and tea. ';
+const TUTORIAL = fileURLToPath(new URL('../docs/TUTORIAL.md', import.meta.url));
+
+/** @type {Set<string>} what the tries saw of the pages: words that they said, and controls that were pressed */
+const seen = new Set();
+
+// Notes what a page said.
+function noted(text) {
+  seen.add(text);
+  return text;
+}
 
 function option(name) {
   const at = process.argv.indexOf(name);
@@ -94,8 +104,8 @@ class Sheet {
   }
 
   // The text of an element, but for the signs around what somebody wrote.
-  said(id) {
-    return this.value(`(document.getElementById(${JSON.stringify(id)})?.textContent ?? '').replace(/[\\u2068\\u2069]/g, '')`);
+  async said(id) {
+    return noted(await this.value(`(document.getElementById(${JSON.stringify(id)})?.textContent ?? '').replace(/[\\u2068\\u2069]/g, '')`));
   }
 
   async says(id, pattern) {
@@ -108,8 +118,8 @@ class Sheet {
     return until(what, async () => (await this.said('standing')) === 'Saved');
   }
 
-  text() {
-    return this.value('page.surface.read()');
+  async text() {
+    return noted(await this.value('page.surface.read()'));
   }
 
   async shows(text) {
@@ -137,13 +147,14 @@ class Sheet {
     await pause(30);
   }
 
-  click(selector) {
-    return this.value(`document.querySelector(${JSON.stringify(selector)}).click(), null`);
+  async click(selector) {
+    noted(await this.value(`{ const it = document.querySelector(${JSON.stringify(selector)}); it.click(), it.textContent }`));
   }
 
   // Presses the button of this name for screen readers, below an element.
-  press(id, label) {
-    return this.value(`[...document.querySelectorAll('#${id} button')].find((it) => it.getAttribute('aria-label').replace(/[\\u2068\\u2069]/g, '') === ${JSON.stringify(label)}).click(), null`);
+  async press(id, label) {
+    const sought = `[...document.querySelectorAll('#${id} button')].find((it) => it.getAttribute('aria-label').replace(/[\\u2068\\u2069]/g, '') === ${JSON.stringify(label)})`;
+    noted(await this.value(`{ const it = ${sought}, word = it.textContent; it.click(), word }`));
   }
 
   async fill(id, text) {
@@ -165,8 +176,10 @@ class Sheet {
     return this.value('page.copy.journal.count - page.copy.entries.length');
   }
 
-  ghosts() {
-    return this.value(`[...document.querySelectorAll('.ghost')].map((it) => it.textContent)`);
+  async ghosts() {
+    const words = await this.value(`[...document.querySelectorAll('.ghost')].map((it) => it.textContent)`);
+    noted(words.join(''));
+    return words;
   }
 
   // What the question asks, once it is there.
@@ -199,6 +212,7 @@ const tries = {
     assert.match(await ada.value('localStorage.getItem("roastcliff device /")'), /^\{"site":1,"secret":"[0-9a-f]{32}"\}$/);
     await ada.says('people', /Owner · you/);
     await ada.holds('a blank document says what to do', `document.getElementById('text').classList.contains('is-blank')`);
+    noted(await ada.value(`document.getElementById('text').dataset.blank`));
     await ada.picture('blank');
     await ada.press('people', 'Rename Owner');
     await ada.fill('wording-words', 'Ada Lund');
@@ -212,6 +226,7 @@ const tries = {
     await ada.fill('new-name', 'Bea Okafor');
     await ada.click('#new-person button');
     await ada.holds('there is an address', `document.getElementById('invited-address').value`);
+    await ada.says('invited-label', /^Give this address to Bea Okafor, and to nobody else$/);
     const address = await ada.value(`document.getElementById('invited-address').value`);
     assert.match(address, /^http:\/\/localhost:[0-9]+\/#[0-9a-f]{32}$/);
     world.bea = await Sheet.open(world, address);
@@ -497,6 +512,16 @@ const tries = {
     await ada.click('#question-yes');
     await bea.says('standing', /^An owner closed this device\. Ask for a new invitation/);
     await ada.isSaved();
+  },
+
+  // Whatever the tutorial has in quotation marks, of two people in a browser, a page has said, and it has what is to be pressed.
+  async what_the_tutorial_says() {
+    const section = readFileSync(TUTORIAL, 'utf8').split('\n## ')[1].replace(/<[^>]*>/g, '');
+    const told = [/"([^"]+)"/g, /presses \*\*([^*]+)\*\*/g].flatMap((it) => [...section.matchAll(it)].map(([, words]) => words));
+    const plain = (/** @type {string} */ it) => it.replace(/[0-9]+/g, 'N');
+    const all = plain([...seen].join('\n'));
+    assert.ok(told.length > 15);
+    assert.deepEqual(told.filter((it) => !all.includes(plain(it))), []);
   },
 };
 

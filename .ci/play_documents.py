@@ -7,8 +7,9 @@ behind a line is a remark. There are three kinds:
 
 - Commands: the first begins with a path. Those of the program and of the examples run as they stand, in a folder that has the program
   as `./roastcliff` and a copy of `examples/`; a `serve` runs beside those that dial it, on a free port. Each has to end with 0, and to
-  write what stands behind its `->`, or in the file `.out` beside its input. The others are told by name: commands of other programs,
-  a host and who follows it, and a `serve` that nobody in its block dials.
+  write what stands behind its `->`, or in the file `.out` beside its input. A host runs until the document ends, with what else is
+  started on its folder, where these are built; the lines behind it are what it printed, whatever its port and its secrets are. The others
+  are told by name: commands of other programs, and a `serve` that nobody in its block dials.
 - A dialogue, `LINE -> ANSWER`: its lines stand in this order, with these answers, in the run of the script or of the frames that the
   section is about. This is the last one that a command of the section ran, or else the script that its text names. Where there is
   neither, the block is the script itself.
@@ -24,9 +25,11 @@ from typing import NamedTuple
 
 from blocks import sections, with_answer, without_remark
 from link_peer import END, TURN, Broken, free_port, reach, text_of
+from played_host import NotRight, PlayedHost, alike
 from row import SECONDS, difference
 
 TOP = os.path.join(os.path.dirname(os.path.abspath(__file__)), "..")
+IS_HOSTED = re.compile(r"\./roastcliff (?:host|verify|follow) ")
 CAN_RUN = re.compile(r"\./roastcliff (?!host |verify |follow )|examples/\w+/run\b")
 HAS_DIALOGUE = re.compile(r"\./roastcliff (replay|feed) ")
 # A command that serves or dials: what stands before its port, and the number behind it.
@@ -181,9 +184,11 @@ class Document:
         self.played = 0
         self.wrong = []
         self.not_run = []
-        # Of the section that is played: the commands that ran, and its dialogue.
+        self.host = PlayedHost(folder)
+        # Of the section that is played: the commands that ran, those of a host that didn't, and its dialogue.
         self.section = None
         self.ran = []
+        self.is_without_host = False
         self.dialogue = None
 
     def run(self, commands):
@@ -193,12 +198,24 @@ class Document:
             self.dialogue = Dialogue(ran[-1])
         return ran
 
+    def play_host(self, command, answer):
+        """Plays a command of a host, and compares what it wrote with what stands behind its `->`."""
+        written = self.host.run(command)
+        self.ran.append(Ran(command, file_behind("<", command, self.folder) or b"", written))
+        if answer is not None and written != f"{answer}\n".encode():
+            raise Wrong(f"'{command}' writes {written!r}")
+
     def play_commands(self, block):
         commands = [with_answer(line)[0] for line in block.lines]
         answers = dict(map(with_answer, block.lines))
+        hosted = list(filter(self.host.can_run, commands))
         groups = groups_of(commands)
-        self.not_run += [it for it in commands if not any(it in group for group in groups)]
-        self.played += bool(groups)
+        not_run = [it for it in commands if it not in hosted and not any(it in group for group in groups)]
+        self.not_run += not_run
+        self.is_without_host |= any(map(IS_HOSTED.match, not_run))
+        self.played += bool(groups or hosted)
+        for command in hosted:
+            self.play_host(command, answers[command])
         for group in groups:
             for command, ran in zip(group, self.run(on_a_free_port(group))):
                 compare(ran, answers[command], self.folder)
@@ -220,9 +237,11 @@ class Document:
             self.dialogue.go_behind(*with_answer(line))
 
     def play_lines(self, block):
+        if self.is_without_host:
+            return
         self.played += 1
-        lines = list(map(without_remark, block.told()))
-        sources = [map(str.strip, lines_of(some)) for ran in self.ran for some in (ran.given, ran.written)]
+        lines = [alike(without_remark(line)) for line in block.told()]
+        sources = [map(alike, map(str.strip, lines_of(some))) for ran in self.ran for some in (ran.given, ran.written)]
         if not any(stand_in(lines, source) for source in sources):
             raise Wrong(f"no command of the section is given or writes these lines in this order: {lines}")
 
@@ -230,12 +249,12 @@ class Document:
         play = self.play_commands if block.is_of_commands() else self.play_dialogue if block.is_dialogue() else self.play_lines
         try:
             play(block)
-        except Wrong as wrong:
+        except (Wrong, NotRight) as wrong:
             self.wrong.append(f"{self.path}:{block.number}: {wrong}")
 
     def play(self):
         for self.section in sections(self.path):
-            self.ran, self.dialogue = [], None
+            self.ran, self.is_without_host, self.dialogue = [], False, None
             for block in self.section.blocks:
                 self.play_block(block)
 
@@ -261,6 +280,8 @@ def play(program, path):
         except ValueError as unread:
             print(f"tutorial: {path} can't be read: {unread}")
             return False
+        finally:
+            document.host.stop()
         return document.tell()
 
 
