@@ -432,9 +432,32 @@ const tries = {
     await ada.page.key('z', CONTROL); // undo outlasts it
     for (const it of [ada, bea]) await it.shows(world.text);
     await bea.says('people', /Ada Lund · here now/);
-    const other = await world.browser.page(`http://localhost:${world.host.port}/d/fair/`, bea.profile, DESK);
-    await until('a second page of one browser is refused', () => other.value(`document.getElementById('opening-words')?.textContent`).then((it) => /^Another page of this browser/.test(it)));
-    await other.close();
+  },
+
+  // The newest page of a browser has the document, with all that was written in the one before, and that one can have it back.
+  async two_pages_of_one_browser(world) {
+    const { bea, ada } = world;
+    await ada.press('people', 'Allow writing: Bea Okafor');
+    await ada.question();
+    await ada.click('#question-yes');
+    await bea.says('people', /Bea Okafor · youMay write/);
+    await bea.end();
+    await bea.page.type('Two');
+    const page = await world.browser.page(`http://localhost:${world.host.port}/d/fair/`, bea.profile, DESK);
+    const newer = Object.assign(new Sheet(), { world, page, profile: bea.profile });
+    await newer.isSaved();
+    for (const it of [newer, ada]) await it.shows(`${world.text}Two`);
+    await bea.says('opening-words', /^You opened this document in another page of this browser, and it goes on there\./);
+    await newer.end();
+    await newer.page.type(' pages. ');
+    await newer.isSaved();
+    await bea.click('#opening-acts button');
+    await pause(300);
+    await bea.isSaved();
+    for (const it of [bea, ada]) await it.shows(`${world.text}Two pages. `);
+    await newer.says('opening-words', /^You opened this document in another page/);
+    await newer.close();
+    world.text += 'Two pages. ';
   },
 
   async a_host_that_is_restarted(world) {

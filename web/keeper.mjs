@@ -43,6 +43,12 @@ export class Keeper {
     }
   }
 
+  // Waits until all is kept; gives whether it is.
+  async finish() {
+    while (!this.isDone && !this.hasFailed) await Promise.all([this.keep(), soon()]);
+    return this.isDone;
+  }
+
   async write() {
     const { copy } = this;
     if (copy.isStale && !this.isMarked) {

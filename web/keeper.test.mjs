@@ -26,6 +26,16 @@ test('coming back', async () => {
   }
 });
 
+test('all is kept before a page goes', async () => {
+  const [, user] = administratorAndUser('Tea at four.');
+  user.keeper.keep();
+  user.type(12, 12, ' Milk?');
+  user.writer.flush();
+  assert.ok(!user.keeper.isDone);
+  assert.equal(await user.keeper.finish(), true);
+  assert.equal(new Side(1, user.store.bytes).text, 'Tea at four. Milk?');
+});
+
 test('a store that fails', async () => {
   const copy = new Copy(module, 0);
   const failures = [];
@@ -34,6 +44,7 @@ test('a store that fails', async () => {
   copy.step('edit insert 0 a');
   await keeper.keep();
   await keeper.keep();
+  assert.equal(await keeper.finish(), false);
   assert.deepEqual(failures, ['no room']);
   assert.ok(!keeper.isDone && !new Session(copy).hasNews); // what isn't kept isn't sent
 });

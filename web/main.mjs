@@ -4,6 +4,7 @@ import { deviceAt, join, keepDevice } from './device.mjs';
 import { directory } from './directory.mjs';
 import { hide, of, say } from './elements.mjs';
 import { whereIs, wholeDocument } from './first.mjs';
+import { Held, hold } from './holding.mjs';
 import { House } from './house.mjs';
 import { damaged, NotOpen, tellNotOpen } from './opening.mjs';
 import { Page } from './page.mjs';
@@ -17,12 +18,13 @@ import { Store } from './store.mjs';
  */
 
 const OTHER_NAMES = ['127.0.0.1', '[::1]'];
-const LOCK_PATIENCE_MS = 4000; // a page that is loaded again waits for itself to be gone
+const ELSEWHERE = 'roastcliff elsewhere'; // by which a page that is loaded again knows that another one goes on
 
 const UNINVITED = 'Open the address of your invitation. An owner of the documents gives it to you.';
 const FRAMED = 'This page is shown within another one, which could have you press what you do not see. Open it by itself.';
 const INSECURE = 'Open this page from localhost or over https: elsewhere it cannot keep what you write, nor tell whether you have another page.';
-const OPEN_ALREADY = 'Another page of this browser has this document open already. Go on there, or close it first.';
+const GOES_ON = 'You opened this document in another page of this browser, and it goes on there. All that you wrote here is kept.';
+const OPEN_ALREADY = 'Another page of this browser has this document open, and does not let it go. Go on there, or close it first.';
 const PUT_AWAY = 'This document was put away by an owner. What this browser has of it stays here: export the text to keep it.';
 
 /** @param {Error} error */
@@ -172,21 +174,32 @@ async function openDocument(spot, device) {
   Object.assign(globalThis, { page }); // for who tries it by a script
 }
 
+// Opens this page anew.
+const again = () => ({ word: 'Go on here', act: () => location.reload() });
+
+// This page gives the document to a newer one: it keeps all that it has, and begins anew as one that knows of the other.
+async function letGo() {
+  /** @type {Page | undefined} */
+  const page = Reflect.get(globalThis, 'page');
+  if (page && !(await page.leave())) return;
+  sessionStorage.setItem(ELSEWHERE, 'yes');
+  location.reload();
+}
+
 /**
- * Runs an action while this browser has no other page of the document.
+ * Opens a document, which other pages of this browser let go then.
  *
  * @param {Spot} spot
- * @param {() => Promise<void>} action
+ * @param {Device} device
  */
-async function alone(spot, action) {
-  const signal = /** @type {any} */ (AbortSignal).timeout(LOCK_PATIENCE_MS);
+async function openAlone(spot, device) {
+  const isElsewhere = sessionStorage.getItem(ELSEWHERE) !== null;
+  sessionStorage.removeItem(ELSEWHERE);
+  if (isElsewhere) throw new NotOpen(GOES_ON, [again()]);
   try {
-    await navigator.locks.request(`roastcliff document ${keyOf(spot)}`, { signal }, async () => {
-      action().catch(tellNotOpen);
-      await new Promise(() => {}); // the lock is held as long as the page is there
-    });
+    await hold(`roastcliff document ${keyOf(spot)}`, () => openDocument(spot, device).catch(tellNotOpen), letGo);
   } catch (error) {
-    throw error === signal.reason ? new NotOpen(OPEN_ALREADY) : error;
+    throw error instanceof Held ? new NotOpen(OPEN_ALREADY, [again()]) : error;
   }
 }
 
@@ -236,7 +249,7 @@ async function start() {
   home.title = 'All documents';
   say('title', name);
   document.title = `${name} – Roastcliff`;
-  await alone({ base, document: name }, () => openDocument({ base, document: name }, device));
+  await openAlone({ base, document: name }, device);
 }
 
 addEventListener('error', (event) => tell(event.error ?? new Error(event.message)));

@@ -343,6 +343,15 @@ export class Page {
     this.notice(`This browser keeps nothing more (${error.message}), so nothing more can be written here. Export the text before you close the page.`);
   }
 
+  // Ends writing, and gives whether all that was written is kept. Where the store takes nothing the page goes on as it was.
+  async leave() {
+    this.writer.flush();
+    if (!(await this.keeper.finish())) return false;
+    this.editor.close();
+    this.sync.line.close();
+    return this.keeper.finish();
+  }
+
   export() {
     this.writer.flush();
     download(new TextEncoder().encode(this.copy.pieces.text), `${this.at.document}.txt`);
