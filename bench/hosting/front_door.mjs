@@ -16,7 +16,7 @@ import { Browser, pause } from '../../.ci/devtools.mjs';
 const [chromium, folder = join(mkdtempSync(join(tmpdir(), 'front-door-')), 'clone')] = process.argv.slice(2);
 const TOP = fileURLToPath(new URL('../..', import.meta.url));
 const SIZE = { width: 1180, height: 760 };
-const LOOK_MS = 20;
+const LOOK_MS = 50;
 const PATIENCE_MS = 1800000; // for a build beside other work
 
 let begun = performance.now();
@@ -87,10 +87,8 @@ async function measure(port) {
   execFileSync('git', ['clone', '--quiet', TOP, folder]);
   tell('git clone');
   let host = front(port);
-  await until('the program is built', () => host.errors.includes('quick: ') || host.run.exitCode !== null);
-  tell('./roastcliff host: the page’s module is made');
   await until('the host answers', () => answers(port) || host.run.exitCode !== null);
-  tell('the host is built, and answers');
+  tell('./roastcliff host: the host and the page’s module are made, and it answers');
   const browser = new Browser(chromium);
   try {
     await write(browser, host.printed.trim());
