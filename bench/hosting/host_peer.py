@@ -53,14 +53,24 @@ class Host:
         self.process.kill()
         self.process.wait()
 
+    @property
+    def name(self):
+        """By what name it is reached."""
+        return f"localhost:{self.port}"
+
     def ask(self, path, *fields, method="GET"):
         """The status, the fields and the body of what stands at a path."""
-        lines = [f"{method} {path} HTTP/1.1", f"Host: localhost:{self.port}", *fields, "", ""]
+        lines = [f"{method} {path} HTTP/1.1", f"Host: {self.name}", "Connection: close", *fields, "", ""]
         return self.ask_bytes("\r\n".join(lines).encode())
 
+    def connect(self):
+        """A connection to it."""
+        connection = reach(self.port)
+        connection.settimeout(SECONDS)
+        return connection
+
     def ask_bytes(self, some):
-        with reach(self.port) as connection:
-            connection.settimeout(SECONDS)
+        with self.connect() as connection:
             connection.sendall(some)
             answer = b""
             while more := connection.recv(65536):
@@ -72,10 +82,9 @@ class Host:
 
     def dial(self, path, *fields):
         """A link to a path; the status where it is refused."""
-        link = HostLink(reach(self.port), True)
-        link.connection.settimeout(SECONDS)
+        link = HostLink(self.connect(), True)
         key = base64.b64encode(os.urandom(16))
-        lines = [f"GET {path} HTTP/1.1", f"Host: localhost:{self.port}", "Upgrade: websocket", "Connection: Upgrade"]
+        lines = [f"GET {path} HTTP/1.1", f"Host: {self.name}", "Upgrade: websocket", "Connection: Upgrade"]
         lines += [*fields, f"Sec-WebSocket-Key: {key.decode()}", "Sec-WebSocket-Version: 13", "", ""]
         link.put("\r\n".join(lines).encode())
         first, found = link.head()
