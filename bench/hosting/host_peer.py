@@ -5,6 +5,7 @@ A link is no peer. It needs nothing but Python.
 import base64
 import os
 import queue
+import signal
 import socket
 import subprocess
 import threading
@@ -21,6 +22,11 @@ class Ended(Exception):
         self.words = words
 
 
+def fail_at_the_limit():
+    """A file that may not grow is then a fault of a write, as on a full disk, and no signal."""
+    signal.signal(signal.SIGXFSZ, signal.SIG_IGN)
+
+
 class Host:
     """The program that hosts a folder."""
 
@@ -33,7 +39,7 @@ class Host:
     def start(self, *words):
         said = [self.program, "host", self.folder, "--port", str(self.port), "--web", self.web, *words]
         pipes = {"stdin": subprocess.DEVNULL, "stdout": subprocess.PIPE, "stderr": subprocess.PIPE}
-        self.process = subprocess.Popen(said, text=True, **pipes)
+        self.process = subprocess.Popen(said, text=True, preexec_fn=fail_at_the_limit, **pipes)
         self.told = queue.Queue()
         self.log = []
         threading.Thread(target=self.listen, args=(self.process.stdout, self.told.put), daemon=True).start()
@@ -80,9 +86,9 @@ class Host:
         pairs = (line.partition(": ") for line in rest)
         return int(first.split(" ")[1]), {name.lower(): value for name, _, value in pairs}, body
 
-    def dial(self, path, *fields):
-        """A link to a path; the status where it is refused."""
-        link = HostLink(self.connect(), True)
+    def dial(self, path, *fields, connection=None):
+        """A link to a path, over a connection where one is given; the status where it is refused."""
+        link = HostLink(connection or self.connect(), True)
         key = base64.b64encode(os.urandom(16))
         lines = [f"GET {path} HTTP/1.1", f"Host: {self.name}", "Upgrade: websocket", "Connection: Upgrade"]
         lines += [*fields, f"Sec-WebSocket-Key: {key.decode()}", "Sec-WebSocket-Version: 13", "", ""]
