@@ -22,6 +22,9 @@ const TELEPHONE = { width: 390, height: 760, isMobile: true };
 const MARKUP = '<img src=x onerror=alert(1)><b>x</b> \u202eabc';
 const START = 'Plan for the spring fair\nThe budget is 900 euros.\nWho brings what:\n';
 const BEAS = 'Bea: tables and tea. ';
+const TURNING = '\u202eaeB'; // a name that would turn what stands behind it
+const HEBREW = 'דנה <i>';
+const LEAST_FINGER = 43; // pixels
 const TUTORIAL = fileURLToPath(new URL('../docs/TUTORIAL.md', import.meta.url));
 
 /** @type {Set<string>} what the tries saw of the pages: words that they said, and controls that were pressed */
@@ -151,6 +154,18 @@ class Sheet {
     noted(await this.value(`{ const it = document.querySelector(${JSON.stringify(selector)}); it.click(), it.textContent }`));
   }
 
+  // Taps the middle of the first element of a selector.
+  async tap(selector) {
+    await this.page.tap(await this.value(`{ const it = document.querySelector(${JSON.stringify(selector)}).getBoundingClientRect(); ({ x: it.x + it.width / 2, y: it.y + it.height / 2 }) }`));
+  }
+
+  // Gives another name to who has this one.
+  async rename(from, to) {
+    await this.press('people', `Rename ${from}`);
+    await this.fill('wording-words', to);
+    await this.click('#wording-yes');
+  }
+
   // Presses the button of this name for screen readers, below an element.
   async press(id, label) {
     const sought = `[...document.querySelectorAll('#${id} button')].find((it) => it.getAttribute('aria-label').replace(/[\\u2068\\u2069]/g, '') === ${JSON.stringify(label)})`;
@@ -214,9 +229,7 @@ const tries = {
     await ada.holds('a blank document says what to do', `document.getElementById('text').classList.contains('is-blank')`);
     noted(await ada.value(`document.getElementById('text').dataset.blank`));
     await ada.picture('blank');
-    await ada.press('people', 'Rename Owner');
-    await ada.fill('wording-words', 'Ada Lund');
-    await ada.click('#wording-yes');
+    await ada.rename('Owner', 'Ada Lund');
     await ada.says('people', /Ada Lund · you/);
     world.ada = ada;
   },
@@ -255,8 +268,8 @@ const tries = {
     const { ada, bea } = world;
     const before = await bea.edits();
     await bea.goTo('Plan for the spring'.length);
-    for (let i = 0; i < 3; i++) await bea.page.key('Backspace');
-    await bea.page.type('out');
+    const back = Array.from({ length: 3 }, () => bea.page.key('Backspace'));
+    await Promise.all([...back, bea.page.type('out')]);
     await ada.shows((START + BEAS).replace('spring', 'sprout'));
     assert.equal((await bea.edits()) - before, 1);
     await ada.goTo('Plan for the sprout'.length);
@@ -320,14 +333,17 @@ const tries = {
     await ada.end();
     await ada.page.insert(MARKUP);
     await bea.shows(before + MARKUP);
-    await ada.press('people', 'Rename Bea Okafor');
-    await ada.fill('wording-words', '<b>Bea</b>');
-    await ada.click('#wording-yes');
+    await ada.rename('Bea Okafor', '<b>Bea</b>');
     await bea.says('people', /<b>Bea<\/b> · you/);
-    for (const it of [ada, bea]) assert.equal(await it.value(`document.querySelectorAll('img, b, script:not([src])').length`), 0);
-    await ada.press('people', 'Rename <b>Bea</b>');
-    await ada.fill('wording-words', 'Bea Okafor');
-    await ada.click('#wording-yes');
+    await ada.rename('<b>Bea</b>', TURNING);
+    await ada.says('status', /^The host did not take it\. A name has /);
+    await ada.rename('<b>Bea</b>', HEBREW);
+    await bea.says('people', /דנה <i> · you/);
+    await ada.press('people', `Invite again: ${HEBREW}`);
+    await ada.says('status', /^There is an invitation for דנה <i>\./);
+    assert.ok((await ada.value(`document.getElementById('status').textContent`)).includes(`\u2068${HEBREW}\u2069`), 'what runs the other way is isolated');
+    for (const it of [ada, bea]) assert.equal(await it.value(`document.querySelectorAll('img, b, i, script:not([src])').length`), 0);
+    await ada.rename(HEBREW, 'Bea Okafor');
     await bea.says('people', /Bea Okafor · you/);
     await ada.focus();
     await ada.page.key('z', CONTROL);
@@ -518,6 +534,59 @@ const tries = {
       const unnamed = nodes.filter(({ ignored, role, name }) => !ignored && ['button', 'textbox', 'combobox', 'checkbox', 'searchbox', 'link'].includes(role?.value) && !name?.value);
       assert.deepEqual(unnamed.map(({ role }) => role.value), []);
     }
+  },
+
+  // On a telephone by fingers alone: a tap sets the caret, a keyboard on the screen writes, and what is tapped is large enough.
+  async by_touch(world) {
+    const { bea, ada } = world;
+    await bea.page.resize(TELEPHONE);
+    await bea.page.fingers(true);
+    const offset = 'Plan for the spring'.length;
+    await bea.value(`page.surface.select(0), document.activeElement.blur(), null`);
+    await bea.page.tap(await bea.value(`{ const it = page.surface.rectOf(${offset}); ({ x: it.x, y: it.y + it.height / 2 }) }`));
+    await bea.holds('the caret is there', `document.activeElement.id === 'text' && page.surface.selection()?.focus === ${offset}`);
+    await bea.page.call('Input.imeSetComposition', { text: ' fe', selectionStart: 3, selectionEnd: 3 });
+    await bea.page.insert(' fest');
+    const changed = world.text.replace('spring', 'spring fest');
+    for (const it of [bea, ada]) await it.shows(changed);
+    await bea.page.key('z', CONTROL);
+    for (const it of [bea, ada]) await it.shows(world.text);
+    await bea.tap('#more');
+    await bea.holds('people show', `document.querySelector('main').classList.contains('is-aside') && document.getElementById('people').getClientRects().length`);
+    const small = await bea.value(`[...document.querySelectorAll('button, select, input:not([type=checkbox])')].filter((it) => it.checkVisibility() && it.getBoundingClientRect().height < ${LEAST_FINGER}).map((it) => it.textContent)`);
+    assert.deepEqual(small, []);
+    assert.ok((await bea.value('document.documentElement.scrollWidth')) <= TELEPHONE.width);
+    await bea.tap('#more');
+    await bea.page.fingers(false);
+    await bea.page.resize(DESK);
+  },
+
+  // By the tabulator all controls are reached, in the order in which they stand, each with a name and a mark that shows: that of the text is the
+  // caret.
+  async the_order_of_focus(world) {
+    const { ada } = world;
+    await ada.value(`document.getElementById('home').focus(), null`);
+    const stops = [];
+    for (let i = 0; i < 120; i++) {
+      const [isBack, stop] = await ada.value(`{ const it = document.activeElement; if (it !== document.body) it.dataset.stop ??= ${i}; [it.dataset.stop !== '${i}', { name: (it.getAttribute('aria-label') ?? it.labels?.[0]?.textContent ?? it.textContent).trim(), isMarked: it.isContentEditable || getComputedStyle(it).outlineStyle !== 'none', isSeen: it.getClientRects().length > 0, top: it === document.body }] }`);
+      if (isBack || stop.top) break;
+      stops.push(stop);
+      await ada.page.key('Tab');
+    }
+    assert.ok(stops.length > 12);
+    assert.deepEqual(stops.slice(1).filter((it) => !it.name || !it.isMarked || !it.isSeen), []); // the first was set by a script
+    const order = await ada.value(`[...document.querySelectorAll('[data-stop]')].map((it) => Number(it.dataset.stop))`);
+    assert.deepEqual(order, order.toSorted((a, b) => a - b), stops.map(({ name }) => name).join(' | '));
+    const missed = await ada.value(`[...document.querySelectorAll('a[href], button, input, select, summary, [contenteditable]:not([contenteditable=false])')].filter((it) => it.checkVisibility() && !it.dataset.stop && !(it.type === 'radio')).map((it) => it.outerHTML.slice(0, 90))`);
+    assert.deepEqual(missed, []);
+  },
+
+  // Paper has the text and nothing else.
+  async what_is_printed(world) {
+    const { bea } = world;
+    await bea.page.call('Emulation.setEmulatedMedia', { media: 'print' });
+    assert.equal((await bea.value('document.body.innerText')).trim(), world.text.trim());
+    await bea.page.call('Emulation.setEmulatedMedia', { media: '' });
   },
 
   async a_role_and_a_device(world) {

@@ -41,7 +41,7 @@ export function notDone(words) {
   const [kind, number] = words.split(' ');
   if (kind === 'illegal') return `It was not done: ${fault(number)}.`;
   if (kind === 'missing') return 'It was not done: the text has changed meanwhile.';
-  if (kind === 'bad') return 'The host did not take it. A name has 1 to 40 letters, and no space at an end.';
+  if (kind === 'bad') return 'The host did not take it. A name has 1 to 40 letters, no space at an end, and no sign that turns other letters round.';
   return Object.hasOwn(REFUSALS, words) ? REFUSALS[words] : `The host did not do it: “${words}”.`;
 }
 
