@@ -1,3 +1,4 @@
+mod Again
 pub mod Ahead
 mod Changes
 mod Opening
@@ -5,3 +6,5 @@ mod Putting
 mod Readings
 mod Replays
 mod Saving
+mod Short
+mod Taken

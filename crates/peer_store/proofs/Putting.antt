@@ -13,7 +13,7 @@ use Rattle.record_file.proofs.Bodies.{none_in_four}
 use Rattle.peer_step.specs.declared.step.Step.{Step}
 use Rattle.peer_step.specs.declared.answer.Answer.{Answer}
 use Rattle.peer_core.specs.Peer.{Peer, front}
-use Rattle.record_step.specs.Body.{IsBody}
+use Rattle.peer_store.specs.Body.{IsBody}
 use Rattle.peer_core.specs.After.{peer_after}
 use Rattle.peer_store.specs.declared.limits.TheConstants.{MAX_GATE}
 use Rattle.peer_store.specs.declared.fault.StoreFault.{StoreFault}

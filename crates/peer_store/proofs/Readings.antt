@@ -6,7 +6,7 @@ use Rattle.std.proofs.lemmas.List.Elements.{All-push}
 use Rattle.record_file.specs.declared.layout.TheConstants.{FIRST_GATE}
 use Rattle.record_file.specs.Records.{file_head, HasHead, records, FitsRecord, HasBodies, BreaksAfter, IsNoRecord}
 use Rattle.record_file.proofs.Readings.{continues}
-use Rattle.record_step.specs.Body.{IsBody}
+use Rattle.peer_store.specs.Body.{IsBody}
 use Rattle.peer_step.specs.declared.step.Step.{Step}
 use Rattle.peer_core.specs.Peer.{Peer, fresh_peer, front}
 use Rattle.peer_core.specs.After.{peer_after}

@@ -1,3 +1,5 @@
+pub mod Body
+pub mod Reading
 pub mod Steps
 pub mod Store
 pub mod Replay

@@ -5,7 +5,7 @@ use Rattle.peer_step.specs.declared.step.Step.{Step}
 use Rattle.peer_core.specs.Peer.{Peer, fresh_peer, front}
 use Rattle.peer_core.specs.After.{peer_after}
 use Rattle.record_file.specs.Records.{file_head, HasHead, record_of, records, gate_place, FitsRecord, HasBodies, IsNoRecord, Keeps}
-use Rattle.record_step.specs.Body.{IsBody}
+use Rattle.peer_store.specs.Body.{IsBody}
 use Rattle.peer_store.specs.declared.limits.TheConstants.{MAX_GATE}
 use Rattle.peer_store.specs.Steps.{replay_of, changes, is_look}
 

@@ -6,13 +6,13 @@ ghost use Rattle.peer_core.specs.Peer.{fresh_peer};
 ghost use Rattle.peer_store.specs.Store.{IsNoStep};
 ghost use Rattle.peer_store.specs.Replay.{MakesBody, IsReplay, IsStoppedBy, IsRefusedBy};
 
+use crate::body::read_body;
 use crate::fault::StoreFault;
 use crate::spelled::next_version;
 use crate::stepped::make_step;
 use element_name::NoMemory;
 use peer_core::Peer;
 use record_file::{BESIDE_BODY, Ending, FIRST_GATE, Loaded};
-use record_step::read_body;
 use std::alloc::Global;
 
 // Makes the step of a body, and says whether it is one that changes the peer.

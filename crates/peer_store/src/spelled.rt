@@ -4,11 +4,11 @@ ghost use Rattle.peer_core.specs.Peer.{front};
 ghost use Rattle.peer_store.specs.Steps.{changes};
 ghost use Rattle.peer_store.specs.Store.{IsBodyFor};
 
+use crate::body::body_of;
 use element_name::NoMemory;
 use peer_core::Peer;
 use peer_step::Step;
 use record_file::Record;
-use record_step::body_of;
 use std::alloc::Global;
 
 /// The version that an operation of this peer would make.
@@ -29,7 +29,7 @@ pub(crate) fn step_record(
     ensures some { IfOk result (λ found. IfSome found (λ body. IsBodyFor peer.now step.now body)) }
     ensures none { IfOk result (λ found. IsNone found → changes peer.now step.now ≡ false) }
 {
-    record_step::laws::short_bodies();
+    crate::laws::short_bodies();
     let Some(body) = body_of(alloc, next_version(peer), step)? else {
         return Ok(None);
     };

@@ -186,7 +186,7 @@ impl Store {
         if let Some(fault) = self.refusal(&step) {
             return Err(fault);
         }
-        record_step::laws::short_bodies();
+        crate::laws::short_bodies();
         let answer = keep_step(self.alloc, &mut self.peer, &mut self.unsaved, step)?;
         Ok(answer)
     }

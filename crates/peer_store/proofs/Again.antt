@@ -14,8 +14,8 @@ use Rattle.edit_frame.proofs.Frames.{decoded_again}
 use Rattle.peer_step.specs.declared.step.LocalEdit.TheVariants.{Insert, Delete, Update}
 use Rattle.peer_step.specs.declared.step.Step.{Step}
 use Rattle.peer_step.specs.declared.step.Step.TheVariants.{Edit, Administer, Receive, Settle, ValidateNext, Look, Show}
-use Rattle.record_step.specs.Body.{IsBody, made_entry}
-use Rattle.record_step.specs.Reading.{whole_place, placed_piece_in, operation_of_entry, receive_by, step_in_body}
+use Rattle.peer_store.specs.Body.{IsBody, made_entry}
+use Rattle.peer_store.specs.Reading.{whole_place, placed_piece_in, operation_of_entry, receive_by, step_in_body}
 
 placed_again : (at : ℕ) (piece : List ℕ) → at < 2 ^ 32 → IsTrue (is_piece piece) → placed_piece_in (to_be_bytes w32 at ++ length piece ∷ piece) ≡ Some (at, piece)
 placed_again at piece small is =

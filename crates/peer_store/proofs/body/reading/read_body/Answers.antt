@@ -1,8 +1,8 @@
 use Rattle.std.proofs.Common.{◌∙◌, arith}
 use Rattle.std.proofs.lemmas.Result.{IfOk-weaker}
-use Rattle.record_step.proofs.Again.{read_again}
-use Rattle.record_step.proofs.Taken.{read_found}
-use Rattle.record_step.proofs.reading.read_body.Goals as goal
+use Rattle.peer_store.proofs.Again.{read_again}
+use Rattle.peer_store.proofs.Taken.{read_found}
+use Rattle.peer_store.proofs.body.reading.read_body.Goals as goal
 
 pub returns-clause-found : goal.returns-clause-found
 returns-clause-found c =

@@ -12,7 +12,7 @@ use Rattle.edit_frame.specs.Spelling.{spelling}
 use Rattle.peer_step.specs.declared.step.LocalEdit.TheVariants.{Insert, Delete, Update}
 use Rattle.peer_step.specs.declared.step.Step.{Step}
 use Rattle.peer_step.specs.declared.step.Step.TheVariants.{Edit, Administer, Receive, Settle, ValidateNext, Look, Show}
-use Rattle.record_step.specs.declared.kinds.TheConstants.{INSERT, DELETE, UPDATE, ADMINISTER, RECEIVE, SETTLE, VALIDATE_NEXT}
+use Rattle.peer_store.specs.declared.body.kinds.TheConstants.{INSERT, DELETE, UPDATE, ADMINISTER, RECEIVE, SETTLE, VALIDATE_NEXT}
 
 -- the entry by which an operation makes a version
 abbrev pub made_entry : ℕ → AdminOp → Message

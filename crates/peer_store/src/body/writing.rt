@@ -5,9 +5,9 @@ ghost use Rattle.coop_request.specs.Piece.{is_piece};
 ghost use Rattle.peer_step.specs.declared.step.Step.{Step};
 ghost use Rattle.edit_frame.specs.Spelling.{spelling};
 ghost use Rattle.edit_frame.specs.Spells.{is_frame};
-ghost use Rattle.record_step.specs.Body.{IsBody, has_no_body};
+ghost use Rattle.peer_store.specs.Body.{IsBody, has_no_body};
 
-use crate::kinds::{ADMINISTER, DELETE, INSERT, RECEIVE, SETTLE, UPDATE, VALIDATE_NEXT};
+use super::kinds::{ADMINISTER, DELETE, INSERT, RECEIVE, SETTLE, UPDATE, VALIDATE_NEXT};
 use coop_request::Piece;
 use edit_frame::{Frame, encode};
 use edit_message::Message;
@@ -91,7 +91,7 @@ fn message_body(alloc: Global, message: &Message) -> Result<Vec<u8>, NoMemory>
 /// version that no entry can make. It has at most 281 bytes.
 ///
 /// It takes time and memory in the length of the body.
-pub fn body_of(alloc: Global, version: u32, step: &Step) -> Result<Option<Vec<u8>>, NoMemory>
+pub(crate) fn body_of(alloc: Global, version: u32, step: &Step) -> Result<Option<Vec<u8>>, NoMemory>
     ensures some { IfOk result (λ body. IfSome body (λ b. IsBody version step.now b.items)) }
     ensures none { IfOk result (λ body. is_none body ≡ has_no_body version step.now) }
 {

@@ -9,7 +9,7 @@ use Rattle.edit_frame.specs.Reading.{framed_message}
 use Rattle.peer_step.specs.declared.step.LocalEdit.TheVariants.{Insert, Delete, Update}
 use Rattle.peer_step.specs.declared.step.Step.{Step}
 use Rattle.peer_step.specs.declared.step.Step.TheVariants.{Edit, Administer, Receive, Settle, ValidateNext}
-use Rattle.record_step.specs.declared.kinds.TheConstants.{INSERT, DELETE, UPDATE, ADMINISTER, RECEIVE, SETTLE, VALIDATE_NEXT}
+use Rattle.peer_store.specs.declared.body.kinds.TheConstants.{INSERT, DELETE, UPDATE, ADMINISTER, RECEIVE, SETTLE, VALIDATE_NEXT}
 
 -- the place that is all of the fields
 abbrev pub whole_place : List ℕ → Option ℕ

@@ -18,8 +18,8 @@ use Rattle.edit_frame.proofs.Readers.{wide32}
 use Rattle.peer_step.specs.declared.step.LocalEdit.TheVariants.{Insert, Delete, Update}
 use Rattle.peer_step.specs.declared.step.Step.{Step}
 use Rattle.peer_step.specs.declared.step.Step.TheVariants.{Edit, Administer, Receive, Settle, ValidateNext}
-use Rattle.record_step.specs.Body.{IsBody, made_entry}
-use Rattle.record_step.specs.Reading.{whole_place, placed_piece_in, insert_in, delete_in, update_in, operation_of_entry, receive_by, alone_in, step_of_kind, step_in_body}
+use Rattle.peer_store.specs.Body.{IsBody, made_entry}
+use Rattle.peer_store.specs.Reading.{whole_place, placed_piece_in, insert_in, delete_in, update_in, operation_of_entry, receive_by, alone_in, step_of_kind, step_in_body}
 
 -- the branch that gave it
 chosen : {A : Type 0} (test : Bool) (x y z : A) → cond test x y ≡ z → ((test ≡ true) × (x ≡ z)) ⊎ (y ≡ z)

@@ -1,7 +1,7 @@
 use Rattle.std.proofs.Common.{ap, sym, ◌∙◌}
 use Rattle.std.specs.Prelude.{unwrap_or}
-use Rattle.record_step.proofs.Again.{read_again}
-use Rattle.record_step.proofs.laws.one_step.Goals as goal
+use Rattle.peer_store.proofs.Again.{read_again}
+use Rattle.peer_store.proofs.laws.one_step.Goals as goal
 
 pub returns : goal.returns
 returns c version bytes first second is also =

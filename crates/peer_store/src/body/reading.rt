@@ -2,10 +2,10 @@
 ghost use Rattle.std.specs.Prelude.{◌≡◌, Some, IfOk, IfSome};
 ghost use Rattle.edit_frame.specs.Reading.{framed_message};
 ghost use Rattle.peer_step.specs.declared.step.Step.{Step};
-ghost use Rattle.record_step.specs.Body.{IsBody};
-ghost use Rattle.record_step.specs.Reading.{whole_place, placed_piece_in, insert_in, delete_in, update_in, operation_of_entry, receive_by, alone_in, step_of_kind, step_in_body};
+ghost use Rattle.peer_store.specs.Body.{IsBody};
+ghost use Rattle.peer_store.specs.Reading.{whole_place, placed_piece_in, insert_in, delete_in, update_in, operation_of_entry, receive_by, alone_in, step_of_kind, step_in_body};
 
-use crate::kinds::{ADMINISTER, DELETE, INSERT, RECEIVE, SETTLE, UPDATE, VALIDATE_NEXT};
+use super::kinds::{ADMINISTER, DELETE, INSERT, RECEIVE, SETTLE, UPDATE, VALIDATE_NEXT};
 use coop_request::Piece;
 use edit_frame::{DecodeFail, Frame, decode};
 use edit_message::Message;
@@ -127,7 +127,7 @@ fn step_in(alloc: Global, version: u32, body: &[u8]) -> Result<Option<Step>, NoM
 /// The step that has this body at the version that an operation would make; none where no step has it.
 ///
 /// It takes time in the length of the body. Only an operation with lists takes memory.
-pub fn read_body(alloc: Global, version: u32, body: &[u8]) -> Result<Option<Step>, NoMemory>
+pub(crate) fn read_body(alloc: Global, version: u32, body: &[u8]) -> Result<Option<Step>, NoMemory>
     ensures found { IfOk result (λ step. IfSome step (λ s. IsBody version s body.now)) }
     ensures only { IfOk result (λ step. (s : Step) → IsBody version s body.now → step ≡ Some s) }
 {

@@ -1,7 +1,7 @@
 use Rattle.std.proofs.Common.{sym, subst}
 use Rattle.peer_step.specs.declared.step.Step.{Step}
-use Rattle.record_step.specs.Body.{IsBody}
-use Rattle.record_step.proofs.writing.body_of.Goals as goal
+use Rattle.peer_store.specs.Body.{IsBody}
+use Rattle.peer_store.proofs.body.writing.body_of.Goals as goal
 
 pub returns-in_ok-edit_body-in-Edit-clause-some : goal.returns-in_ok-edit_body-in-Edit-clause-some
 returns-in_ok-edit_body-in-Edit-clause-some c =

@@ -13,7 +13,7 @@ use Rattle.edit_frame.proofs.Lengths.{short_body}
 use Rattle.peer_step.specs.declared.step.LocalEdit.TheVariants.{Insert, Delete, Update}
 use Rattle.peer_step.specs.declared.step.Step.{Step}
 use Rattle.peer_step.specs.declared.step.Step.TheVariants.{Edit, Administer, Receive, Settle, ValidateNext, Look, Show}
-use Rattle.record_step.specs.Body.{IsBody, made_entry}
+use Rattle.peer_store.specs.Body.{IsBody, made_entry}
 
 piece_short : (piece : List ℕ) → IsTrue (is_piece piece) → length piece ≤ 255
 piece_short piece is =

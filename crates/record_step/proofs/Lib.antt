@@ -1,3 +1,0 @@
-mod Again
-mod Short
-mod Taken
