@@ -7,14 +7,11 @@ use Rattle.peer_disk.specs.Disk.{LeavesOnly}
 use Rattle.peer_disk.proofs.Moments.{started, weakened}
 use Rattle.record_file.specs.Records.{records, gate_place, HasBodies, Keeps, IsBeforeOrAll}
 use Rattle.edit_message.specs.declared.message.Message.{Message}
-use Rattle.edit_message.specs.declared.message.Message.TheVariants.{Coop, Admin}
 use Rattle.peer_step.specs.declared.step.Step.{Step}
-use Rattle.peer_step.specs.declared.step.Step.TheVariants.{Receive}
-use Rattle.peer_step.specs.declared.answer.Answer.{Answer}
-use Rattle.peer_step.specs.declared.answer.Answer.TheVariants.{Done, Issued, Held, Taken, Advanced, Dropped, Settled}
 use Rattle.peer_core.specs.Peer.{Peer, fresh_peer}
 use Rattle.peer_core.specs.Answers.{answer_of}
-use Rattle.peer_core.specs.After.{changed_by, peer_after}
+use Rattle.peer_core.specs.After.{peer_after}
+use Rattle.peer_core.proofs.AfterLemmas.{journal_grows}
 use Rattle.peer_store.specs.Steps.{replay_of, changes, if_changing}
 use Rattle.peer_store.specs.Store.{IsBodyFor, KeptAs, StandsFor, StandsWithOrWithout, Saved, IsSaved, IsOnDisk, IsAhead, HasMessages, safe_messages, IsKeptIn}
 use Rattle.peer_store.proofs.Changes.{unchanged}
@@ -25,20 +22,10 @@ use Rattle.peer_store.proofs.Saving.{kept_append, kept_push, if_it_changes, if_i
 abbrev Grows : List Message → List Message → Type 0
 Grows old new = (others : List Message) × (new ≡ old ++ others)
 
-grows_by : (p : Peer) (step : Step) (a : Answer) → Grows p.journal (changed_by p step a).journal
-grows_by p step (Done q) = (Coop q ∷ [], refl)
-grows_by p step (Issued e undone) = (Admin e ∷ [], refl)
-grows_by p (Receive m) (Held what) = ([], sym (append-nil p.journal))
-grows_by p (Receive m) (Taken state) = (m ∷ [], refl)
-grows_by p (Receive m) (Advanced e undone) = (m ∷ [], refl)
-grows_by p step (Dropped e fault) = ([], sym (append-nil p.journal))
-grows_by p step (Settled m outcome) = (m ∷ [], refl)
-grows_by p step _ = ([], sym (append-nil p.journal))
-
 grows : (p : Peer) (steps : List Step) → Grows p.journal (fold peer_after p steps).journal
 grows p [] = ([], sym (append-nil p.journal))
 grows p (step ∷ steps) =
-    let one = grows_by p step (answer_of p step) in
+    let one = journal_grows p step (answer_of p step) in
     let more = grows (peer_after p step) steps in
     (one.0 ++ more.0, more.1 ∙ ap (λ (l : List Message). l ++ more.0) one.1 ∙ append_assoc p.journal one.0 more.0)
 
