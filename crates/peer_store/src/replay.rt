@@ -9,7 +9,7 @@ ghost use Rattle.peer_store.specs.Replay.{MakesBody, IsReplay, IsStoppedBy, IsRe
 use crate::body::read_body;
 use crate::fault::StoreFault;
 use crate::spelled::next_version;
-use crate::stepped::make_step;
+use crate::stepped::{Stepped, make_step};
 use element_name::NoMemory;
 use peer_core::Peer;
 use record_file::{BESIDE_BODY, Ending, FIRST_GATE, Loaded};
@@ -23,8 +23,9 @@ fn make_body(alloc: Global, peer: &mut Peer, body: &[u8]) -> Result<bool, NoMemo
     let Some(step) = read_body(alloc, next_version(peer), body)? else {
         return Ok(false);
     };
-    let stepped = make_step(peer, step)?;
-    Ok(stepped.changed)
+    let Stepped { answer, changed } = make_step(peer, step)?;
+    drop(answer);
+    Ok(changed)
 }
 
 // Makes the steps of these bodies, and gives the place of the gate behind their records.
@@ -60,9 +61,17 @@ pub(crate) fn replay_file(alloc: Global, site: u16, loaded: &Loaded) -> Result<R
     ensures refused { IfErr result (λ fault. IsRefusedBy fault site loaded.now) }
 {
     let mut peer = Peer::new(alloc, site)?;
-    let place = replay(alloc, &mut peer, &loaded.bodies)?;
-    match loaded.ending {
-        Ending::Closed => Ok(Replayed { peer, place }),
-        Ending::Broken => Err(StoreFault::NotAStore(place)),
+    match replay(alloc, &mut peer, &loaded.bodies) {
+        Ok(place) => match loaded.ending {
+            Ending::Closed => Ok(Replayed { peer, place }),
+            Ending::Broken => {
+                drop(peer);
+                Err(StoreFault::NotAStore(place))
+            }
+        },
+        Err(fault) => {
+            drop(peer);
+            Err(fault)
+        }
     }
 }

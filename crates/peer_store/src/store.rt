@@ -16,6 +16,7 @@ use crate::fault::StoreFault;
 use crate::limits::MAX_GATE;
 use crate::replay::{Replayed, replay_file};
 use crate::stepped::keep_step;
+use edit_io::Failed;
 use element_name::NoMemory;
 use peer_core::Peer;
 use peer_disk::Disk;
@@ -85,14 +86,6 @@ fn no_records(alloc: Global) -> Result<Records, NoMemory>
     Ok(Records::new(alloc)?)
 }
 
-// The same store, which takes the memory for that room.
-fn store_of(alloc: Global, peer: Peer, place: u64) -> Result<Store, NoMemory>
-    ensures { IfOk result (λ store. store ≡ record { peer = peer; place = place; spent = false; unsaved = []; safe = length peer.journal }) }
-{
-    let unsaved = no_records(alloc)?;
-    Ok(store_over(alloc, peer, place, unsaved))
-}
-
 impl Store {
     /// Makes a store of the site's fresh peer on an empty disk.
     ///
@@ -115,10 +108,15 @@ impl Store {
         ensures unchanged { IsErrOf result StoreFault.NoMemory → disk.new ≡ disk.old }
         ensures faults { D.faults disk.old ≤ D.faults disk.new }
     {
-        let peer = Peer::new(alloc, site)?;
         let unsaved = no_records(alloc)?;
-        let place = record_file::create(disk, site)?;
-        Ok(store_over(alloc, peer, place, unsaved))
+        let peer = Peer::new(alloc, site)?;
+        match record_file::create(disk, site) {
+            Ok(place) => Ok(store_over(alloc, peer, place, unsaved)),
+            Err(Failed) => {
+                drop(peer);
+                Err(StoreFault::DiskFault)
+            }
+        }
     }
 
     /// Opens the store of a site that a crash may have left, and gives its peer. It writes nothing.
@@ -138,8 +136,9 @@ impl Store {
         ensures faults { D.faults disk.old ≤ D.faults disk.new }
     {
         let loaded = record_file::load(alloc, disk, site)?;
+        let unsaved = no_records(alloc)?;
         let Replayed { peer, place } = replay_file(alloc, site, &loaded)?;
-        Ok(store_of(alloc, peer, place)?)
+        Ok(store_over(alloc, peer, place, unsaved))
     }
 
     /// The peer, after all steps that were put.
@@ -289,7 +288,12 @@ impl Store {
         if self.unsaved_len() == unsaved {
             return Ok(answer);
         }
-        self.save(disk)?;
-        Ok(answer)
+        match self.save(disk) {
+            Ok(()) => Ok(answer),
+            Err(fault) => {
+                drop(answer);
+                Err(fault)
+            }
+        }
     }
 }
