@@ -18,7 +18,7 @@ use Rattle.peer_core.specs.After.{peer_after}
 use Rattle.peer_lock.specs.declared.call.Call.{Call}
 use Rattle.peer_lock.specs.Run.{call, caller_at, StepAt, peer_after_run}
 use Rattle.report_text.specs.Closing.{closing_lines}
-use Rattle.report_run.specs.Report.{run_line, call_line, call_lines, report}
+use Rattle.report_run.specs.Report.{run_line, call_line, call_lines, report_from, report}
 use Rattle.report_run.specs.Telling.{Tells}
 
 -- a report that was begun
@@ -131,26 +131,30 @@ pub only_line : (old out line : List ℕ) → old ≡ [] → out ≡ old ++ line
 only_line old out line none grown = grown ∙ ap (λ (l : List ℕ). l ++ line) none
 
 -- the parts of a report, by what they are told of
-module _ (site n : ℕ) (run : List Call) (p : Peer) (head : List ℕ) (first : head ≡ run_line n) (size : n ≡ length run) (fresh : p ≡ fresh_peer site) where
-  whole_report : (q : Peer) → q ≡ peer_after_run p run → (head ++ call_lines p run) ++ closing_lines q ≡ report site run
+module _ (n : ℕ) (run : List Call) (p : Peer) (head : List ℕ) (first : head ≡ run_line n) (size : n ≡ length run) where
+  whole_report : (q : Peer) → q ≡ peer_after_run p run → (head ++ call_lines p run) ++ closing_lines q ≡ report_from p run
   whole_report q last =
       append_assoc head (call_lines p run) (closing_lines q)
       ∙ ap (λ (l : List ℕ). l ++ (call_lines p run ++ closing_lines q)) first
       ∙ ap (λ (m : ℕ). run_line m ++ (call_lines p run ++ closing_lines q)) size
       ∙ ap (λ (x : Peer). run_line (length run) ++ (call_lines p run ++ closing_lines x)) last
-      ∙ ap (λ (x : Peer). run_line (length run) ++ (call_lines x run ++ closing_lines (peer_after_run x run))) fresh
 
   pub calls_short : (a b : Option (List ℕ)) (status : Status) → (w : List ℕ) × Appends a b w × Begins w (head ++ call_lines p run) × IsSinkFail status
-      → (w : List ℕ) × Appends a b w × Begins w (report site run) × IsSinkFail status
+      → (w : List ℕ) × Appends a b w × Begins w (report_from p run) × IsSinkFail status
   calls_short a b status t =
       let last : Peer = peer_after_run p run in
       subst (λ (l : List ℕ). (w : List ℕ) × Appends a b w × Begins w l × IsSinkFail status) (whole_report last refl)
       (tells_short a b (head ++ call_lines p run) (closing_lines last) status t)
 
   pub all_parts : {T : Type 0} (a b c : Option (List ℕ)) (q : Peer) (out : List ℕ) (r : Result T Status) → q ≡ peer_after_run p run
-      → (said : List ℕ) × Appends a b said × (head ++ call_lines p run ≡ said ++ out) → Tells b c (out ++ closing_lines q) r → Tells a c (report site run) r
+      → (said : List ℕ) × Appends a b said × (head ++ call_lines p run ≡ said ++ out) → Tells b c (out ++ closing_lines q) r → Tells a c (report_from p run) r
   all_parts a b c q out r last t next =
       let closing : List ℕ = closing_lines q in
-      let whole : t.0 ++ (out ++ closing) ≡ report site run
+      let whole : t.0 ++ (out ++ closing) ≡ report_from p run
       = sym (append_assoc t.0 out closing) ∙ ap (λ (l : List ℕ). l ++ closing) (sym t.2) ∙ whole_report q last in
       subst (λ (l : List ℕ). Tells a c l r) whole (tells_then a b c t.0 (out ++ closing) r t.1 next)
+
+-- the report from a peer that is fresh is that of its site
+pub from_fresh : {T : Type 0} (a b : Option (List ℕ)) (site : ℕ) (p : Peer) (run : List Call) (r : Result T Status) → p ≡ fresh_peer site → Tells a b (report_from p run) r
+    → Tells a b (report site run) r
+from_fresh a b site p run r fresh told = subst (λ (x : Peer). Tells a b (report_from x run) r) fresh told

@@ -1,7 +1,9 @@
 //! The lines of a report.
-ghost use Rattle.std.specs.Prelude.{◌≡◌, ◌++◌, OnOk, decimal};
+ghost use Rattle.std.specs.Prelude.{◌≡◌, ◌++◌, None, OnOk, decimal};
+ghost use Rattle.peer_core.specs.Answers.{answer_of};
 ghost use Rattle.peer_core.specs.After.{peer_after};
-ghost use Rattle.report_run.specs.Report.{run_line, call_line};
+ghost use Rattle.line_spelling.specs.Answers.{answer_line};
+ghost use Rattle.report_run.specs.Report.{run_line, asked_text, call_line};
 
 use element_name::NoMemory;
 use itoa::Buffer;
@@ -28,6 +30,27 @@ fn put_number(number: u32, out: &mut Vec<u8>) -> Result<(), NoMemory>
     put(out, digits.as_bytes())
 }
 
+// Appends the number of a caller and its step, up to the answer.
+fn put_asked(alloc: Global, caller: u32, step: &Step, out: &mut Vec<u8>) -> Result<(), NoMemory>
+    ensures { OnOk result (out.new.items ≡ out.old.items ++ asked_text caller step.now) }
+{
+    put_number(caller, out)?;
+    put(out, b" ")?;
+    step_text(alloc, step, out)?;
+    put(out, b" => ")
+}
+
+// Makes a step, and appends the line of its answer.
+fn put_answer(alloc: Global, peer: &mut Peer, step: Step, out: &mut Vec<u8>) -> Result<(), NoMemory>
+    ensures line { OnOk result (out.new.items ≡ out.old.items ++ answer_line None (answer_of peer.old step)) }
+    ensures peer { OnOk result (peer.new ≡ peer_after peer.old step) }
+{
+    let answer = peer.step(step)?;
+    let told = answer_line(alloc, None, &answer, out);
+    drop(answer);
+    told
+}
+
 /// Makes a step of a run, and appends its line.
 pub(crate) fn put_call(
     alloc: Global,
@@ -39,10 +62,11 @@ pub(crate) fn put_call(
     ensures line { OnOk result (out.new.items ≡ out.old.items ++ call_line peer.old (record { caller = caller; step = step })) }
     ensures peer { OnOk result (peer.new ≡ peer_after peer.old step) }
 {
-    put_number(caller, out)?;
-    put(out, b" ")?;
-    step_text(alloc, &step, out)?;
-    put(out, b" => ")?;
-    let answer = peer.step(step)?;
-    answer_line(alloc, None, &answer, out)
+    match put_asked(alloc, caller, &step, out) {
+        Ok(()) => put_answer(alloc, peer, step, out),
+        Err(NoMemory) => {
+            drop(step);
+            Err(NoMemory)
+        }
+    }
 }

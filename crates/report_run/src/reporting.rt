@@ -4,7 +4,7 @@ ghost use Rattle.line_engine.specs.Engine.{StatusCause, Says};
 ghost use Rattle.peer_core.specs.After.{peer_after};
 ghost use Rattle.peer_lock.specs.Run.{call, peer_after_run};
 ghost use Rattle.report_text.specs.Closing.{closing_lines};
-ghost use Rattle.report_run.specs.Report.{call_line, call_lines, report, report_output};
+ghost use Rattle.report_run.specs.Report.{call_line, call_lines, report_from, report, report_output};
 ghost use Rattle.report_run.specs.Telling.{Gathers, Tells, TellsCause};
 
 use crate::lines::{put_call, put_run};
@@ -105,6 +105,24 @@ fn tell_closing<K: Sink>(
     tell(out, sink)
 }
 
+// Tells how many steps a run has, and then all of it from this peer on.
+fn tell_from<K: Sink>(
+    alloc: Global,
+    peer: &mut Peer,
+    history: &History,
+    sink: &mut K,
+) -> Result<(), Status>
+    ensures tells { Tells (K.written sink.old) (K.written sink.new) (report_from peer.old history.now) result }
+    ensures cause { TellsCause (K.faults sink.old) (K.faults sink.new) result }
+{
+    let mut out = Vec::new(alloc);
+    if let Err(_) = put_run(history.len(), &mut out) {
+        return Err(Status::NoMemory);
+    }
+    tell_calls(alloc, peer, history, &mut out, sink)?;
+    tell_closing(alloc, peer, &mut out, sink)
+}
+
 // Tells it all.
 fn tell_all<K: Sink>(
     alloc: Global,
@@ -115,15 +133,14 @@ fn tell_all<K: Sink>(
     ensures tells { Tells (K.written sink.old) (K.written sink.new) (report site history.now) result }
     ensures cause { TellsCause (K.faults sink.old) (K.faults sink.new) result }
 {
-    let Ok(mut peer) = Peer::new(alloc, site) else {
-        return Err(Status::NoMemory);
-    };
-    let mut out = Vec::new(alloc);
-    if let Err(_) = put_run(history.len(), &mut out) {
-        return Err(Status::NoMemory);
+    match Peer::new(alloc, site) {
+        Ok(mut peer) => {
+            let told = tell_from(alloc, &mut peer, history, sink);
+            drop(peer);
+            told
+        }
+        Err(_) => Err(Status::NoMemory),
     }
-    tell_calls(alloc, &mut peer, history, &mut out, sink)?;
-    tell_closing(alloc, &mut peer, &mut out, sink)
 }
 
 /// Writes the report of a history: its steps, each with the answer that the plain peer of the site gives it there,
