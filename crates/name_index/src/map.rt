@@ -4,7 +4,7 @@ ghost use Rattle.std.specs.List.{find};
 ghost use Rattle.std.specs.Ordering.{is_lt};
 ghost use Rattle.std.specs.Map.{lookup, set_value, remove_entry};
 ghost use Rattle.std.specs.BTreeMap.{is_at, insert_entry};
-ghost use Rattle.name_index.specs.Chunks.{flat, IsOrdered, IsPast, IsSpot};
+ghost use Rattle.name_index.specs.Chunks.{flat, IsOrdered, IsPast, IsBefore, IsSpot};
 
 use crate::chunk::{CHUNK, Chunk};
 use element_name::NoMemory;
@@ -15,12 +15,12 @@ use std::marker::Model;
 ///
 /// The entries stand in chunks, each of one to 64 of them, with its first key beside the pointer to them. A look-up
 /// is a search by halves for the chunk, over those first keys, and one within it: some 17 comparisons at 131,072
-/// entries, whatever the keys. A key above all others is added behind the last in one comparison, so that where keys
-/// ascend the chunks are full. Another moves at most 63 entries. A full chunk is cut in the middle, so that keys that
-/// only come leave no chunk but the last less than half full: once in 32 new keys at most, which moves 32 entries and
-/// the heads of the chunks behind it, of 32 bytes for a key of eight: at 131,072 entries at most 128 KB. A chunk goes
-/// with its last entry. An entry takes its own size, 16 bytes for a packed name and a number of four, as far as the
-/// chunks are full.
+/// entries, whatever the keys. A key above all others is added behind the last in one comparison, and one below all
+/// others begins a chunk where the first is full, so that where keys ascend or fall the chunks are full. Another moves
+/// at most 63 entries. A full chunk is cut in the middle, so that keys that only come leave no chunk but the first and
+/// the last less than half full. A chunk comes once in 32 new keys at most, which moves 32 entries and the heads of the
+/// chunks behind it, of 32 bytes for a key of eight: at 131,072 entries at most 128 KB. A chunk goes with its last
+/// entry. An entry takes its own size, 16 bytes for a packed name and a number of four, as far as the chunks are full.
 #[derive(Drop)]
 pub struct ChunkMap<K: Ord + Copy, V: Copy> {
     alloc: Global,
@@ -97,6 +97,30 @@ fn append<K: Ord + Copy, V: Copy>(
     }
     let chunk = Chunk::one(alloc, key, value)?;
     chunks.push(chunk)?;
+    Ok(())
+}
+
+/// Whether the key is below all others.
+fn is_in_front<K: Ord + Copy, V: Copy>(chunks: &[Chunk<K, V>], key: K) -> bool
+    requires ordered { IsOrdered K.cmp (flat chunks.now) }
+    requires some { 0 < length chunks.now }
+    ensures { result ≡ true → IsBefore (K.cmp key) (flat chunks.now) }
+{
+    key.cmp(&chunks[0].first()).is_lt()
+}
+
+/// Adds an entry in front of all others, in a chunk of its own.
+fn prepend<K: Ord + Copy, V: Copy>(
+    chunks: &mut Vec<Chunk<K, V>>,
+    alloc: Global,
+    key: K,
+    value: V,
+) -> Result<(), NoMemory>
+    ensures ok { OnOk result (flat chunks.new.items ≡ (key, value) ∷ flat chunks.old.items) }
+    ensures err { OnErr result (chunks.new.items ≡ chunks.old.items) }
+{
+    let chunk = Chunk::one(alloc, key, value)?;
+    chunks.insert(0, chunk)?;
     Ok(())
 }
 
@@ -184,6 +208,10 @@ fn insert_in<K: Ord + Copy, V: Copy>(
     let c = spot(chunks, key);
     if chunks[c].len() < CHUNK {
         return insert_at(chunks, c, key, value);
+    }
+    if is_in_front(chunks, key) {
+        prepend(chunks, alloc, key, value)?;
+        return Ok(None);
     }
     cut(chunks, alloc, c)?;
     let c = spot(chunks, key);
