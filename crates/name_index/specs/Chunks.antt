@@ -2,7 +2,8 @@
 use Rattle.std.specs.Prelude.{◌≡◌, ℕ, ◌+◌, ◌<◌, ◌≤◌, false, List, [], ◌∷◌, Option, Some, None, length, take, drop, get_or}
 use Rattle.std.specs.List.{flat_map, AllByRecursion}
 use Rattle.std.specs.List.Sorted.{IsStrictlySortedBy}
-use Rattle.std.specs.Map.{keys_of}
+use Rattle.std.specs.Map.{keys_of, lookup}
+use Rattle.std.specs.BTreeMap.{is_at, insert_entry}
 use Rattle.std.specs.Ordering.{is_gt}
 use Rattle.std.specs.declared.cmp.Ordering.{Ordering}
 use Rattle.std.specs.declared.cmp.Ordering.TheVariants.{Less, Equal, Greater}
@@ -49,6 +50,11 @@ module _ {K X : Type 0} where
     pub within : c < length chunks
     pub past : IsPast sought (flat (take c chunks))
     pub before : IsBefore sought (flat (drop (c + 1) chunks))
+
+  -- the entry is put in, or another value at its key; what is answered is the value that stood there
+  pub record IsInserted (cmp : K → K → Ordering) (es : List (K × X)) (k : K) (v : X) (after : List (K × X)) (old : Option X) : Type 0 where
+    pub entries : after ≡ insert_entry cmp es k v
+    pub answer : old ≡ lookup (is_at (cmp k)) es
 
   -- the chunks of entries, and how many entries they have
   pub record AreChunks (cmp : K → K → Ordering) (chunks : List (List (K × X))) (len : ℕ) : Type 0 where

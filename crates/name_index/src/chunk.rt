@@ -4,7 +4,7 @@ ghost use Rattle.std.specs.List.{find, insert, remove};
 ghost use Rattle.std.specs.Ordering.{is_lt};
 ghost use Rattle.std.specs.Map.{lookup, set_value, remove_entry};
 ghost use Rattle.std.specs.BTreeMap.{is_at, insert_entry};
-ghost use Rattle.name_index.specs.Chunks.{first_key, IsOrdered, IsPast, IsBefore, IsPlace, IsHit};
+ghost use Rattle.name_index.specs.Chunks.{first_key, IsOrdered, IsPast, IsBefore, IsPlace, IsHit, IsInserted};
 
 use element_name::NoMemory;
 use std::alloc::Global;
@@ -185,8 +185,7 @@ impl<K: Ord + Copy, V: Copy> Chunk<K, V> {
     /// Puts an entry in at its place, or another value at a key that is there, whose value it answers.
     pub(crate) fn insert(&mut self, key: K, value: V) -> Result<Option<V>, NoMemory>
         requires ordered { IsOrdered K.cmp self.old }
-        ensures ok { OnOk result (self.new ≡ insert_entry K.cmp self.old key value) }
-        ensures old { IfOk result (λ old. old ≡ lookup (is_at (K.cmp key)) self.old) }
+        ensures ok { IfOk result (IsInserted K.cmp self.old key value self.new) }
         ensures err { OnErr result (self.new ≡ self.old) }
     {
         let at = place(&self.entries, key);

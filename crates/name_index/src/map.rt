@@ -4,7 +4,7 @@ ghost use Rattle.std.specs.List.{find};
 ghost use Rattle.std.specs.Ordering.{is_lt};
 ghost use Rattle.std.specs.Map.{lookup, set_value, remove_entry};
 ghost use Rattle.std.specs.BTreeMap.{is_at, insert_entry};
-ghost use Rattle.name_index.specs.Chunks.{flat, IsOrdered, IsPast, IsBefore, IsSpot};
+ghost use Rattle.name_index.specs.Chunks.{flat, IsOrdered, IsPast, IsBefore, IsSpot, IsInserted};
 
 use crate::chunk::{CHUNK, Chunk};
 use element_name::NoMemory;
@@ -180,8 +180,7 @@ fn insert_at<K: Ord + Copy, V: Copy>(
 ) -> Result<Option<V>, NoMemory>
     requires ordered { IsOrdered K.cmp (flat chunks.old.items) }
     requires spot { IsSpot (K.cmp key) chunks.old.items c }
-    ensures ok { OnOk result (flat chunks.new.items ≡ insert_entry K.cmp (flat chunks.old.items) key value) }
-    ensures old { IfOk result (λ old. old ≡ lookup (is_at (K.cmp key)) (flat chunks.old.items)) }
+    ensures ok { IfOk result (IsInserted K.cmp (flat chunks.old.items) key value (flat chunks.new.items)) }
     ensures err { OnErr result (flat chunks.new.items ≡ flat chunks.old.items) }
 {
     let chunk = &mut chunks[c];
@@ -197,8 +196,7 @@ fn insert_in<K: Ord + Copy, V: Copy>(
     value: V,
 ) -> Result<Option<V>, NoMemory>
     requires ordered { IsOrdered K.cmp (flat chunks.old.items) }
-    ensures ok { OnOk result (flat chunks.new.items ≡ insert_entry K.cmp (flat chunks.old.items) key value) }
-    ensures old { IfOk result (λ old. old ≡ lookup (is_at (K.cmp key)) (flat chunks.old.items)) }
+    ensures ok { IfOk result (IsInserted K.cmp (flat chunks.old.items) key value (flat chunks.new.items)) }
     ensures err { OnErr result (flat chunks.new.items ≡ flat chunks.old.items) }
 {
     if is_behind(chunks, key) {

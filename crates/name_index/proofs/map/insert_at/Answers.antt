@@ -9,8 +9,7 @@ insert-requires g c = record { ordered = chunk_sorted g.K.Ord.cmp c.args.chunks.
 pub returns-clause-ok : goal.returns-clause-ok
 returns-clause-ok g c =
     let cs = c.args.chunks.now.items in
-    ap (λ x. flat (set cs c.args.c x)) c.in_ok-old.ensures.ok ∙ insert_spot g.K.Ord.cmp c.args.key cs c.args.c c.index_mut-chunk.result.now c.requires.spot c.index_mut-chunk.ensures.value c.args.value
-
-pub returns-clause-old : goal.returns-clause-old
-returns-clause-old g c =
-    c.in_ok-old.ensures.old ∙ sym (lookup_spot g.K.Ord.cmp c.args.key c.args.chunks.now.items c.args.c c.index_mut-chunk.result.now c.requires.spot c.index_mut-chunk.ensures.value)
+    record {
+      entries = ap (λ x. flat (set cs c.args.c x)) c.in_ok-old.ensures.ok.entries ∙ insert_spot g.K.Ord.cmp c.args.key cs c.args.c c.index_mut-chunk.result.now c.requires.spot c.index_mut-chunk.ensures.value c.args.value;
+      answer = c.in_ok-old.ensures.ok.answer ∙ sym (lookup_spot g.K.Ord.cmp c.args.key c.args.chunks.now.items c.args.c c.index_mut-chunk.result.now c.requires.spot c.index_mut-chunk.ensures.value);
+    }

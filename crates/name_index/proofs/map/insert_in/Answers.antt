@@ -10,13 +10,10 @@ pub returns-then-is_behind-clause-ok : goal.returns-then-is_behind-clause-ok
 returns-then-is_behind-clause-ok g c =
     let es = flat c.args.chunks.now.items in
     let past = subst (λ cs. IsPast (g.K.Ord.cmp c.args.key) (flat cs)) c.deref.ensures.value (c.is_behind.ensures.past c.if-is_behind.true) in
-    c.in_ok-append.ensures.ok ∙ sym (insert-past g.K.Ord.cmp c.args.key [] c.args.value es past) ∙ ap (λ fs. insert_entry g.K.Ord.cmp fs c.args.key c.args.value) (append-nil es)
-
-pub returns-then-is_behind-clause-old : goal.returns-then-is_behind-clause-old
-returns-then-is_behind-clause-old g c =
-    let es = flat c.args.chunks.now.items in
-    let past = subst (λ cs. IsPast (g.K.Ord.cmp c.args.key) (flat cs)) c.deref.ensures.value (c.is_behind.ensures.past c.if-is_behind.true) in
-    sym (lookup-past g.K.Ord.cmp c.args.key [] es past) ∙ ap (lookup (is_at (g.K.Ord.cmp c.args.key))) (append-nil es)
+    record {
+      entries = c.in_ok-append.ensures.ok ∙ sym (insert-past g.K.Ord.cmp c.args.key [] c.args.value es past) ∙ ap (λ fs. insert_entry g.K.Ord.cmp fs c.args.key c.args.value) (append-nil es);
+      answer = sym (lookup-past g.K.Ord.cmp c.args.key [] es past) ∙ ap (lookup (is_at (g.K.Ord.cmp c.args.key))) (append-nil es);
+    }
 
 pub insert_at-requires : goal.insert_at-requires
 insert_at-requires g c = record {
@@ -28,13 +25,10 @@ pub returns-then-is_in_front-clause-ok : goal.returns-then-is_in_front-clause-ok
 returns-then-is_in_front-clause-ok g c =
     let es = flat c.args.chunks.now.items in
     let before = subst (λ cs. IsBefore (g.K.Ord.cmp c.args.key) (flat cs)) c.deref-3.ensures.value (c.is_in_front.ensures c.if-is_in_front.true) in
-    c.in_ok-prepend.ensures.ok ∙ sym (insert_first g.K.Ord.cmp c.args.key c.args.value es before)
-
-pub returns-then-is_in_front-clause-old : goal.returns-then-is_in_front-clause-old
-returns-then-is_in_front-clause-old g c =
-    let es = flat c.args.chunks.now.items in
-    let before = subst (λ cs. IsBefore (g.K.Ord.cmp c.args.key) (flat cs)) c.deref-3.ensures.value (c.is_in_front.ensures c.if-is_in_front.true) in
-    sym (lookup_none g.K.Ord.cmp c.args.key es before)
+    record {
+      entries = c.in_ok-prepend.ensures.ok ∙ sym (insert_first g.K.Ord.cmp c.args.key c.args.value es before);
+      answer = sym (lookup_none g.K.Ord.cmp c.args.key es before);
+    }
 
 pub cut-requires-clause-long : goal.cut-requires-clause-long
 cut-requires-clause-long g c = λ d.

@@ -10,9 +10,9 @@ pub invariant_of-self-2 : goal.invariant_of-self-2
 invariant_of-self-2 g c =
     let o = g.met.K.Ord.total in
     let es = flat c.self.inside.chunks.items in
-    let e = c.in_ok-old.ensures.ok in
+    let e = c.in_ok-old.ensures.ok.entries in
     let n = ap length e ∙ length_insert o es c.args.key c.args.value c.self.invariant.ordered in
-    let m = one_more c.in_ok-old.old c.is_none.result c.one.result c.is_none.ensures c.one.ensures ∙ ap (λ found. cond (is_some found) 0 1) c.in_ok-old.ensures.old in
+    let m = one_more c.in_ok-old.old c.is_none.result c.one.result c.is_none.ensures c.one.ensures ∙ ap (λ found. cond (is_some found) 0 1) c.in_ok-old.ensures.ok.answer in
     record {
       ordered = subst (IsOrdered g.K.Ord.cmp) (sym e) (ordered_insert o es c.args.key c.args.value c.self.invariant.ordered);
       count = omega (arith, n, m, c.self.invariant.count);
@@ -21,10 +21,10 @@ invariant_of-self-2 g c =
 pub returns-clause-updates : goal.returns-clause-updates
 returns-clause-updates g c = λ q.
     let es = flat c.self.inside.chunks.items in
-    ap (lookup (is_at (g.K.Ord.cmp q))) c.in_ok-old.ensures.ok ∙ lookup_insert g.met.K.Ord.total es c.args.key c.args.value q
+    ap (lookup (is_at (g.K.Ord.cmp q))) c.in_ok-old.ensures.ok.entries ∙ lookup_insert g.met.K.Ord.total es c.args.key c.args.value q
     ∙ ap (λ fs. cond (is_at (g.K.Ord.cmp c.args.key) q) (Some c.args.value) (lookup (is_at (g.K.Ord.cmp q)) fs)) c.self.view_is
 
 pub returns-clause-ordered : goal.returns-clause-ordered
 returns-clause-ordered g c =
     let es = flat c.self.inside.chunks.items in
-    subst (IsOrdered g.K.Ord.cmp) (sym c.in_ok-old.ensures.ok) (ordered_insert g.met.K.Ord.total es c.args.key c.args.value c.self.invariant.ordered)
+    subst (IsOrdered g.K.Ord.cmp) (sym c.in_ok-old.ensures.ok.entries) (ordered_insert g.met.K.Ord.total es c.args.key c.args.value c.self.invariant.ordered)
