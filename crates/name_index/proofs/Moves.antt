@@ -1,4 +1,4 @@
--- Entries that move in one piece, to make room for one or to close its gap.
+-- Entries that move by one place, to make room for one or to close its gap.
 use Rattle.std.proofs.Common.{◌≡◌, ℕ, ◌+◌, ◌-◌, ◌<◌, ◌≤◌, List, [], ◌∷◌, ◌++◌, length, take, drop, set, ◌∙◌, ap, arith, length-drop, length-take-le, length-append, append_assoc, append-nil, take-take}
 use Rattle.std.specs.List.{copy_within, insert, remove}
 use Rattle.std.proofs.lemmas.List.{take_at, drop_at, take_all, drop_all, take-append-le, drop-append-le, length_push}

@@ -71,7 +71,7 @@ fn is_here<K: Ord + Copy, V: Copy>(entries: &[(K, V)], at: usize, key: K) -> boo
     key.cmp(&other).is_eq()
 }
 
-/// Puts an entry in at a place, or leaves all as it was. The entries behind it move in one piece.
+/// Puts an entry in at a place, or leaves all as it was. Each entry behind it moves once.
 fn put_at<K: Copy, V: Copy>(
     entries: &mut Vec<(K, V)>,
     at: usize,
@@ -89,7 +89,7 @@ fn put_at<K: Copy, V: Copy>(
     Ok(())
 }
 
-/// Takes the entry at a place out. The entries behind it move in one piece.
+/// Takes the entry at a place out. Each entry behind it moves once.
 fn take_at<K: Copy, V: Copy>(entries: &mut Vec<(K, V)>, at: usize)
     requires { at < length entries.old.items }
     ensures entries { entries.new.items ≡ remove entries.old.items at }
