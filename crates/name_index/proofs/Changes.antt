@@ -49,7 +49,7 @@ module _ {K X : Type 0} (cmp : K → K → Ordering) (k : K) where
   set_none v [] h = refl
   set_none v (b ∷ B) h = rw h.0 (ap (λ es. b ∷ es) (set_none v B h.1))
 
-  pub insert_first : (v : X) (B : List (K × X)) → IsBefore (cmp k) B → insert_entry cmp B k v ≡ (k, v) ∷ B
+  insert_first : (v : X) (B : List (K × X)) → IsBefore (cmp k) B → insert_entry cmp B k v ≡ (k, v) ∷ B
   insert_first v [] h = refl
   insert_first v (b ∷ B) h = rw h.0 refl
 

@@ -229,13 +229,12 @@ impl<K: Ord + Copy, V: Copy> Chunk<K, V> {
         }
     }
 
-    /// Its upper half, in another chunk.
-    pub(crate) fn upper_half(&self, alloc: Global) -> Result<Chunk<K, V>, NoMemory>
-        ensures { IfOk result (λ c. c ≡ drop (length self.now / 2) self.now) }
+    /// Its entries from a place on, in another chunk.
+    pub(crate) fn upper(&self, alloc: Global, at: usize) -> Result<Chunk<K, V>, NoMemory>
+        requires { at < length self.now }
+        ensures { IfOk result (λ c. c ≡ drop at self.now) }
     {
-        let first = self.first;
-        let half = self.entries.len() / 2;
-        let upper = &self.entries[half..];
+        let upper = &self.entries[at..];
         let mut entries = Vec::new(alloc);
         entries.extend_from_slice(upper)?;
         Ok(Chunk {
@@ -244,12 +243,12 @@ impl<K: Ord + Copy, V: Copy> Chunk<K, V> {
         })
     }
 
-    /// Keeps its lower half alone.
-    pub(crate) fn keep_lower_half(&mut self)
-        requires { 1 < length self.old }
-        ensures { self.new ≡ take (length self.old / 2) self.old }
+    /// Keeps its entries in front of a place alone.
+    pub(crate) fn keep_lower(&mut self, at: usize)
+        requires some { 0 < at }
+        requires within { at ≤ length self.old }
+        ensures { self.new ≡ take at self.old }
     {
-        let half = self.entries.len() / 2;
-        self.entries.truncate(half);
+        self.entries.truncate(at);
     }
 }

@@ -4,7 +4,7 @@ ghost use Rattle.std.specs.List.{find};
 ghost use Rattle.std.specs.Ordering.{is_lt};
 ghost use Rattle.std.specs.Map.{lookup, set_value, remove_entry};
 ghost use Rattle.std.specs.BTreeMap.{is_at, insert_entry};
-ghost use Rattle.name_index.specs.Chunks.{flat, IsOrdered, IsPast, IsBefore, IsSpot, IsInserted};
+ghost use Rattle.name_index.specs.Chunks.{flat, IsOrdered, IsPast, IsSpot, IsInserted};
 
 use crate::chunk::{CHUNK, Chunk};
 use element_name::NoMemory;
@@ -15,12 +15,13 @@ use std::marker::Model;
 ///
 /// The entries stand in chunks, each of one to 64 of them, with its first key beside the pointer to them. A look-up
 /// is a search by halves for the chunk, over those first keys, and one within it: some 17 comparisons at 131,072
-/// entries, whatever the keys. A key above all others is added behind the last in one comparison, and one below all
-/// others begins a chunk where the first is full, so that where keys ascend or fall the chunks are full. Another moves
-/// at most 63 entries. A full chunk is cut in the middle, so that keys that only come leave no chunk but the first and
-/// the last less than half full. A chunk comes once in 32 new keys at most, which moves 32 entries and the heads of the
-/// chunks behind it, of 32 bytes for a key of eight: at 131,072 entries at most 128 KB. A chunk goes with its last
-/// entry. An entry takes its own size, 16 bytes for a packed name and a number of four, as far as the chunks are full.
+/// entries, whatever the keys. A key above all others is added behind the last in one comparison, so that where keys
+/// ascend the chunks are full. Another moves at most 63 entries. A full chunk is cut in the middle, or for a key below
+/// all others behind its first eighth, so that where keys fall the chunks are nearly full, and keys that only come leave
+/// no chunk but the first and the last less than half full. That is once in 32 new keys at most, and moves at most 56
+/// entries and the heads of the chunks behind it, of 32 bytes for a key of eight: at 131,072 entries at most 128 KB. A
+/// chunk goes with its last entry. An entry takes its own size, 16 bytes for a packed name and a number of four, as far
+/// as the chunks are full.
 #[derive(Drop)]
 pub struct ChunkMap<K: Ord + Copy, V: Copy> {
     alloc: Global,
@@ -100,45 +101,37 @@ fn append<K: Ord + Copy, V: Copy>(
     Ok(())
 }
 
-/// Whether the key is below all others.
-fn is_in_front<K: Ord + Copy, V: Copy>(chunks: &[Chunk<K, V>], key: K) -> bool
-    requires ordered { IsOrdered K.cmp (flat chunks.now) }
-    requires some { 0 < length chunks.now }
-    ensures { result ≡ true → IsBefore (K.cmp key) (flat chunks.now) }
+/// How many entries stay in a full chunk that is cut for a key: half of them, or an eighth for a key below all others,
+/// so that where keys fall the chunks are nearly full.
+fn staying<K: Ord + Copy, V: Copy>(chunk: &Chunk<K, V>, key: K) -> usize
+    requires { 8 ≤ length chunk.now }
+    ensures some { 0 < result }
+    ensures fewer { result < length chunk.now }
 {
-    key.cmp(&chunks[0].first()).is_lt()
+    if key.cmp(&chunk.first()).is_lt() {
+        chunk.len() / 8
+    } else {
+        chunk.len() / 2
+    }
 }
 
-/// Adds an entry in front of all others, in a chunk of its own.
-fn prepend<K: Ord + Copy, V: Copy>(
-    chunks: &mut Vec<Chunk<K, V>>,
-    alloc: Global,
-    key: K,
-    value: V,
-) -> Result<(), NoMemory>
-    ensures ok { OnOk result (flat chunks.new.items ≡ (key, value) ∷ flat chunks.old.items) }
-    ensures err { OnErr result (chunks.new.items ≡ chunks.old.items) }
-{
-    let chunk = Chunk::one(alloc, key, value)?;
-    chunks.insert(0, chunk)?;
-    Ok(())
-}
-
-/// A chunk of more than one entry becomes two.
+/// A chunk becomes two, of which the first has the entries in front of a place.
 fn cut<K: Ord + Copy, V: Copy>(
     chunks: &mut Vec<Chunk<K, V>>,
     alloc: Global,
     c: usize,
+    at: usize,
 ) -> Result<(), NoMemory>
     requires c { c < length chunks.old.items }
-    requires long { (d : List (K × V)) → 1 < length (get_or chunks.old.items c d) }
+    requires some { 0 < at }
+    requires within { (d : List (K × V)) → at < length (get_or chunks.old.items c d) }
     ensures entries { flat chunks.new.items ≡ flat chunks.old.items }
     ensures some { 0 < length chunks.new.items }
 {
-    let upper = chunks[c].upper_half(alloc)?;
+    let upper = chunks[c].upper(alloc, at)?;
     chunks.insert(c + 1, upper)?;
     let chunk = &mut chunks[c];
-    chunk.keep_lower_half();
+    chunk.keep_lower(at);
     Ok(())
 }
 
@@ -207,11 +200,8 @@ fn insert_in<K: Ord + Copy, V: Copy>(
     if chunks[c].len() < CHUNK {
         return insert_at(chunks, c, key, value);
     }
-    if is_in_front(chunks, key) {
-        prepend(chunks, alloc, key, value)?;
-        return Ok(None);
-    }
-    cut(chunks, alloc, c)?;
+    let at = staying(&chunks[c], key);
+    cut(chunks, alloc, c, at)?;
     let c = spot(chunks, key);
     insert_at(chunks, c, key, value)
 }
