@@ -140,12 +140,15 @@ pub fn serve<D: Door, R: Threads + Wait + Sync>(
     ensures used { OnErr result (D.used door.new ≡ D.used door.old) }
 {
     let (shared, pass, passes) = deal_links(alloc, site, links)?;
-    // All memory is taken before the first link is, so that none is lost.
-    let idle = idle_peer(alloc, site)?;
     let outcomes = Vec::with_capacity(alloc, links as usize)?;
     let mut jobs = Vec::with_capacity(alloc, links as usize)?;
+    // All memory is taken before the first link is, so that none is lost.
+    let idle = idle_peer(alloc, site)?;
     match take_links(door, port, passes, &mut jobs) {
-        Ok(()) => Ok(serve_taken(rt, alloc, site, shared, pass, steps, jobs, door, outcomes)),
+        Ok(()) => {
+            drop(idle);
+            Ok(serve_taken(rt, alloc, site, shared, pass, steps, jobs, door, outcomes))
+        }
         Err(_) => Ok(give_back(&shared, pass, jobs, door, outcomes, idle)),
     }
 }
