@@ -113,7 +113,10 @@ fn race_lists<R: Threads + Wait + Sync, G: Gate + Sync>(
     }
     match (zero_ended, one_ended, two_ended) {
         (Ended::Done, Ended::Done, Ended::Done) => Ok((peer, history)),
-        _ => Err(NoMemory),
+        _ => {
+            drop(peer);
+            Err(NoMemory)
+        }
     }
 }
 

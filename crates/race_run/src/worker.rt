@@ -44,7 +44,7 @@ pub(crate) fn work<R: Threads + Wait + Sync, G: Gate>(
             return (pass, Ended::Short);
         };
         match shared.step(rt, alloc, &mut pass, step) {
-            Ok(_) => {}
+            Ok(answer) => drop(answer),
             Err(StepFail::RunFull) => return (pass, Ended::Full),
             Err(StepFail::NoMemory) => return (pass, Ended::Short),
         }
