@@ -185,7 +185,8 @@ class Document:
         self.wrong = []
         self.not_run = []
         self.host = PlayedHost(folder)
-        # Of the section that is played: the commands that ran, those of a host that didn't, and its dialogue.
+        # Of the section that is played: the commands that ran, whether one of a host didn't, so that what stands behind it can't be
+        # compared, and its dialogue.
         self.section = None
         self.ran = []
         self.is_without_host = False
@@ -208,7 +209,7 @@ class Document:
     def play_commands(self, block):
         commands = [with_answer(line)[0] for line in block.lines]
         answers = dict(map(with_answer, block.lines))
-        hosted = list(filter(self.host.can_run, commands))
+        hosted = [] if self.is_without_host else list(filter(self.host.can_run, commands))
         groups = groups_of(commands)
         not_run = [it for it in commands if it not in hosted and not any(it in group for group in groups)]
         self.not_run += not_run

@@ -13,8 +13,8 @@ from row import SECONDS
 
 TOP = os.path.join(os.path.dirname(os.path.abspath(__file__)), "..")
 COMMAND = re.compile(r"\./roastcliff (host|verify|follow) (?![A-Z])|(cp) ")
-# An address with a secret behind it, as a host prints it, a follower is given it, and a document shows it.
-ADDRESS = re.compile(r"http://localhost:\d+/((?:d/[a-z0-9-]+/)?)#[0-9a-f]{32}")
+# An address, maybe with a secret behind it, as a host prints it, a follower is given it, and a document shows it.
+ADDRESS = re.compile(r"http://localhost:\d+/((?:d/[a-z0-9-]+/)?)(?:(#)[0-9a-f]{32})?")
 INVITATION = re.compile(rb"http://localhost:\d+/#([0-9a-f]{32})\n")
 
 
@@ -30,8 +30,8 @@ def program(word):
 
 
 def alike(line):
-    """A line in which an address with a secret is the same, whichever it is."""
-    return ADDRESS.sub(r"http://localhost:7000/\1#", line)
+    """A line in which the ports and the secrets of addresses aren't told."""
+    return ADDRESS.sub(r"http://localhost/\1\2", line)
 
 
 class PlayedHost:
@@ -74,8 +74,9 @@ class PlayedHost:
         return printed
 
     def run_beside(self, word, command):
-        """Runs a program to its end, beside the host. An address with a secret is that of the host and its invitation."""
-        here = ADDRESS.sub(lambda found: f"http://localhost:{self.port}/{found[1]}#{self.secret}", command)
+        """Runs a program to its end, beside the host. An address is that of the host, and a secret that of its invitation."""
+        secret = {"#": f"#{self.secret}", None: ""}
+        here = ADDRESS.sub(lambda found: f"http://localhost:{self.port}/{found[1]}{secret[found[2]]}", command)
         words = here.replace("./roastcliff", program(word), 1) if word else here
         pipes = {"stdin": subprocess.DEVNULL, "stdout": subprocess.PIPE, "stderr": subprocess.PIPE}
         ran = subprocess.run(["bash", "-c", f"exec {words}"], cwd=self.folder, timeout=SECONDS, check=False, **pipes)
