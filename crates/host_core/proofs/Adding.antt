@@ -1,6 +1,6 @@
 -- What a step adds to a document that all share.
 use Rattle.std.proofs.Common.{◌≡◌, ℕ, ◌+◌, ◌≤◌, ◌<◌, Bool, true, false, not, cond, ◌&&◌, List, [], ◌∷◌, ◌++◌, length, take, suc, Some, None, refl, ap, sym, subst, ◌∙◌, arith, length-append, inl, inr, ⊎_elim}
-use Rattle.std.specs.Prelude.{◌⊎◌, nat_eq, slice_get, find, max, option_map, option_and_then, unwrap_or, IfSome, IsSome, IsSomeAnd}
+use Rattle.std.specs.Prelude.{◌⊎◌, nat_eq, slice_get, find, max, option_map, unwrap_or, IfSome, IsSome, IsSomeAnd}
 use Rattle.std.specs.declared.option.Option.{Option}
 use Rattle.std.specs.Option.{option_map_or}
 use Rattle.std.specs.Ordering.{nat_cmp}
@@ -11,10 +11,7 @@ use Rattle.std.proofs.Math.Seq.{take-suc}
 use Rattle.std.proofs.lemmas.Option.{slice_get_within, get_or_from_slice_get}
 use Rattle.std.proofs.lemmas.List.Sums.{fold_push}
 use Rattle.element_name.specs.Cases.{when, given}
-use Rattle.element_name.specs.Name.{Name}
-use Rattle.element_name.specs.declared.limits.TheConstants.{MAX_STAMP}
 use Rattle.coop_request.specs.Request.{Request}
-use Rattle.coop_request.specs.History.{elements_of}
 use Rattle.policy_book.specs.declared.op.AdminOp.{AdminOp}
 use Rattle.policy_book.specs.declared.op.AdminOp.TheVariants.{Validate}
 use Rattle.policy_book.specs.Entry.{Entry}
@@ -22,24 +19,23 @@ use Rattle.edit_message.specs.declared.message.Message.{Message}
 use Rattle.edit_message.specs.declared.message.Message.TheVariants.{Coop, Admin}
 use Rattle.edit_message.specs.declared.message.Missing.{Missing}
 use Rattle.edit_message.specs.Message.{key_of, find_key}
-use Rattle.edit_message.specs.Missing.{missing_end}
 use Rattle.edit_message.specs.Same.{message_eq}
 use Rattle.auth_match.specs.declared.verdict.Verdict.{Verdict}
 use Rattle.auth_match.specs.declared.verdict.Verdict.TheVariants as verdicts
-use Rattle.admin_log.specs.Log.{entry_fault}
 use Rattle.peer_step.specs.declared.step.LocalEdit.{LocalEdit}
 use Rattle.peer_step.specs.declared.step.Step.{Step}
 use Rattle.peer_step.specs.declared.step.Step.TheVariants.{Edit, Administer, Receive, Settle, ValidateNext, Look, Show}
 use Rattle.peer_step.specs.declared.answer.Answer.{Answer}
-use Rattle.peer_step.specs.declared.answer.Answer.TheVariants.{BadPlace, ClockEnd, HistoryFull, NotAdministrator, LogFull, Refused, NotHere, NeedsNone, AlreadyInvalid, NothingTentative, Repeat, Conflict, OwnSite, Illegal, Quiet}
+use Rattle.peer_step.specs.declared.answer.Answer.TheVariants.{HistoryFull, NotAdministrator, LogFull, NothingTentative, Repeat, Conflict, OwnSite, Illegal, Quiet}
 use Rattle.peer_step.proofs.Rows.{table_has, when_has, map_has}
 use Rattle.peer_tables.specs.Derived.{finds_no_room, is_due, greatest_stamp}
-use Rattle.peer_tables.specs.Awaiting.{validated_by, least_awaiting}
+use Rattle.peer_tables.specs.Awaiting.{least_awaiting}
 use Rattle.peer_tables.proofs.JournalLemmas.{requests_request, requests_entry, entries_append}
-use Rattle.peer_core.specs.Peer.{Peer, history, log, shown_elements, missing, integrate}
-use Rattle.peer_core.specs.Local.{fits_text, new_request}
-use Rattle.peer_core.specs.Answers.{rows_of_edit, rows_of_log, rows_of_operation, is_full_history, is_full_log, answer_by_verdict, own_verdict, missing_request, invalid_state, next_entry, answer_issued, answer_known, answer_own, fault_in, is_next_entry, answer_taken, answer_missing, answer_receive, answer_due, answer_settle, answer_of}
+use Rattle.peer_core.specs.Peer.{Peer, history, log, missing, integrate}
+use Rattle.peer_core.specs.Local.{new_request}
+use Rattle.peer_core.specs.Answers.{rows_of_edit, rows_of_log, rows_of_operation, is_full_log, answer_by_verdict, own_verdict, next_entry, answer_issued, answer_known, answer_own, fault_in, is_next_entry, answer_taken, answer_missing, answer_receive, answer_due, answer_settle, answer_of}
 use Rattle.peer_core.specs.After.{changed_by, peer_after}
+use Rattle.peer_core.proofs.AnswerLemmas.Rows.{edit_rows, operation_rows}
 use Rattle.host_core.specs.declared.limits.TheConstants.{LINK_REQUESTS, MAX_DENIED}
 use Rattle.host_core.specs.declared.event.LinkId.{LinkId}
 use Rattle.host_core.specs.declared.event.OpenLink.{OpenLink}
@@ -109,14 +105,9 @@ adds_request p r q low same = record {
 -- an edit
 edit_requests : (p : Peer) (edit : LocalEdit) → AddsLittle p (peer_after p (Edit edit))
 edit_requests p edit =
-    let P : Answer → Type 0 = λ (a : Answer). AddsLittle p (changed_by p (Edit edit) a) in
-    table_has P (rows_of_edit p edit) (answer_by_verdict (new_request p edit) (own_verdict p (new_request p edit))) (
-      when_has P (not (fits_text (length (shown_elements p)) edit)) (BadPlace (length (shown_elements p))) (λ h. adds_none p p refl),
-      (
-        when_has P (nat_eq (greatest_stamp (history p)) MAX_STAMP) ClockEnd (λ h. adds_none p p refl),
-        (when_has P (is_full_history p) HistoryFull (λ h. adds_none p p refl), tt),
-      ),
-    )
+    let none : AddsLittle p p = adds_none p p refl in
+    table_has (λ (a : Answer). AddsLittle p (changed_by p (Edit edit) a)) (rows_of_edit p edit) (answer_by_verdict (new_request p edit) (own_verdict p (new_request p edit)))
+    (edit_rows (λ (a : Answer). AddsLittle p (changed_by p (Edit edit) a)) p edit (λ shown. none) none none)
     (by (own_verdict p (new_request p edit)))
   where
     by : (v : Verdict) → AddsLittle p (changed_by p (Edit edit) (answer_by_verdict (new_request p edit) v))
@@ -131,23 +122,12 @@ issue_requests p e = record { held = refl; requests = inl (requests_entry p.jour
 operation_requests : (p : Peer) (op : AdminOp) → AddsLittle p (peer_after p (Administer op))
 operation_requests p op =
     let P : Answer → Type 0 = λ (a : Answer). AddsLittle p (changed_by p (Administer op) a) in
+    let none : AddsLittle p p = adds_none p p refl in
     table_has P (rows_of_log p ++ rows_of_operation p op) (answer_issued p (next_entry p op)) (
-      when_has P (not (nat_eq p.site 0)) NotAdministrator (λ h. adds_none p p refl),
+      when_has P (not (nat_eq p.site 0)) NotAdministrator (λ h. none),
       (
-        when_has P (is_full_log p) LogFull (λ h. adds_none p p refl),
-        (
-          map_has P Refused (entry_fault (log p) op) (λ x h. adds_none p p refl),
-          (
-            map_has P NotHere (missing_end (elements_of (history p)) op) (λ x h. adds_none p p refl),
-            (
-              map_has P NotHere (option_and_then (missing_request p) (validated_by op)) (λ x h. adds_none p p refl),
-              (
-                when_has P (option_map_or (λ (n : Name). nat_eq n.site 0) (validated_by op) false) NeedsNone (λ h. adds_none p p refl),
-                (map_has P AlreadyInvalid (option_and_then (invalid_state p) (validated_by op)) (λ x h. adds_none p p refl), tt),
-              ),
-            ),
-          ),
-        ),
+        when_has P (is_full_log p) LogFull (λ h. none),
+        operation_rows P p op (λ fault. none) (λ what. none) none (λ state. none),
       ),
     )
     (issue_requests p (next_entry p op))

@@ -13,7 +13,7 @@ use Rattle.host_core.specs.declared.event.Hello.{Hello}
 use Rattle.host_core.specs.declared.event.LinkId.{LinkId}
 use Rattle.host_core.specs.declared.event.OpenLink.{OpenLink}
 use Rattle.host_core.specs.declared.event.HostEvent.{HostEvent}
-use Rattle.host_core.specs.declared.event.HostEvent.TheVariants.{DeviceMade, SecretChanged, DeviceClosed, LinkOpened, LinkClosed, Made, Gave}
+use Rattle.host_core.specs.declared.event.HostEvent.TheVariants.{DeviceMade, SecretChanged, DeviceClosed, LinkOpened, LinkClosed, Made, Gave, Told}
 use Rattle.host_core.specs.declared.refusal.Refusal.TheVariants.{NoLink}
 use Rattle.host_core.specs.Past.{devices_made, device_of, with_digest, links_opened, link_by, moved_on, link_of, open_link}
 use Rattle.host_core.specs.Refusals.{hello_refusal, refusal_by, ask_refusal}
@@ -81,6 +81,11 @@ shut_stays (LinkOpened hello) es l s =
 shut_stays (Gave k m) es l s = (shut_given (nat_eq k.site l.site) l.number (link_of l.site es) s.0, s.1)
 shut_stays e es l s = s
 
+-- what is there isn't missing
+none_known : (o : Option OpenLink) → o ≡ None → IsSome o → ⊥
+none_known None none known = absurd cc
+none_known (Some x) none known = absurd cc
+
 -- nothing is asked for by a link that isn't open
 none_asked : (es : List HostEvent) (l : LinkId) (step : Step) → open_link es l ≡ None → ask_refusal es l step ≡ None → ⊥
 none_asked es l step none may =
@@ -94,6 +99,9 @@ shut_quiet (Gave k m) es l may s same =
     let known : open_link es l ≡ Some may.link = subst (λ (j : LinkId). open_link es j ≡ Some may.link) same may.open_is in
     let none = s.0 in
     cc
+shut_quiet (Told k) es l may s same =
+    let known : IsSome (open_link es l) = subst (λ (j : LinkId). IsSome (open_link es j)) same may.0 in
+    none_known (open_link es l) s.0 known
 shut_quiet e es l may s of = of
 
 -- an event that closes a link shuts it
@@ -211,6 +219,8 @@ gone_quiet (Gave l m) es u may g same =
     let none : open_link es l ≡ None = none_open es l (subst (λ (v : ℕ). link_of v es ≡ None) (sym same) g.link) in
     let some = may.open_is in
     cc
+gone_quiet (Told l) es u may g same =
+    none_known (open_link es l) (none_open es l (subst (λ (v : ℕ). link_of v es ≡ None) (sym same) g.link)) may.0
 gone_quiet e es u may g of = of
 
 -- a device that is closed is gone

@@ -11,10 +11,10 @@ use Rattle.tomb_seq.proofs.Has.{Has, Has-from_Contains, Contains-from_Has}
 use Rattle.peer_core.proofs.AfterLemmas.{journal_grows}
 use Rattle.peer_core.proofs.KeyLemmas.{same_by_key}
 use Rattle.host_core.specs.declared.event.HostEvent.{HostEvent}
-use Rattle.host_core.specs.declared.event.HostEvent.TheVariants.{Began, Made, Saved, Gave}
+use Rattle.host_core.specs.declared.event.HostEvent.TheVariants.{Began, Made, Saved, Gave, Told}
 use Rattle.host_core.specs.Past.{first_peer, host_peer, saved_journal}
-use Rattle.host_core.specs.Happens.{IsPast}
-use Rattle.host_core.specs.Laws.{SavedLaw, BeginningLaw, WholeSavedLaw, WasGiven, NoForkLaw}
+use Rattle.host_core.specs.Happens.{IsAllSaved, IsPast}
+use Rattle.host_core.specs.Laws.{SavedLaw, BeginningLaw, WholeSavedLaw, ToldLaw, WasGiven, NoForkLaw}
 
 -- a journal begins with these messages
 abbrev Begins : List Message → List Message → Type 0
@@ -48,6 +48,17 @@ short_saved es h =
     let size = length-append (saved_journal es) front.0 in
     let same : length (host_peer es).journal ≡ length (saved_journal es ++ front.0) = ap length front.1 in
     omega arith
+
+-- where all is saved it is the journal
+pub all_saved : (es : List HostEvent) → IsPast es → IsAllSaved es → saved_journal es ≡ (host_peer es).journal
+all_saved es h all = by (beginning es h).0 (beginning es h).1
+  where
+    by : (more : List Message) → (host_peer es).journal ≡ saved_journal es ++ more → saved_journal es ≡ (host_peer es).journal
+    by [] is = sym (is ∙ append-nil (saved_journal es))
+    by (m ∷ more) is =
+        let size = length-append (saved_journal es) (m ∷ more) in
+        let same : length (host_peer es).journal ≡ length (saved_journal es ++ m ∷ more) = ap length is in
+        absurd (omega arith)
 
 -- what stands early in a list stands in its beginning
 early : (S more : List Message) (i : ℕ) (m : Message) → i < length S → slice_get (S ++ more) i ≡ Some m → Has S m
@@ -123,6 +134,20 @@ whole_saved later es h enough =
     let then = host_stays later es h in
     let saved = beginning (later ++ es) h in
     shorter_begins (host_peer es).journal (saved_journal (later ++ es)) then.0 saved.0 enough (sym then.1 ∙ saved.1)
+
+-- what a longer list begins with is no longer
+begins_short : (J K : List Message) → Begins J K → length J ≤ length K
+begins_short J K begins =
+    let size = length-append J begins.0 in
+    let same : length K ≡ length (J ++ begins.0) = ap length begins.1 in
+    omega arith
+
+pub told_saved : ToldLaw
+told_saved later between es l h =
+    let here = past_before later (Told l ∷ (between ++ es)) h in
+    let all : IsAllSaved (between ++ es) = here.0.1 in
+    let grown = begins_short (host_peer es).journal (host_peer (between ++ es)).journal (host_stays between es here.1) in
+    whole_saved between es here.1 (omega arith)
 
 -- what the host had first stays
 first_stays : (es : List HostEvent) → Begins (first_peer es).journal (host_peer es).journal

@@ -1,10 +1,10 @@
 -- What may happen at a host, after what has happened.
-use Rattle.std.specs.Prelude.{◌≡◌, ⊤, ◌+◌, ◌<◌, List, [], ◌∷◌, Some, None, length, slice_get, IsSome, IsTrue}
+use Rattle.std.specs.Prelude.{◌≡◌, ⊤, ◌+◌, ◌<◌, ◌≤◌, List, [], ◌∷◌, Some, None, length, slice_get, IsSome, IsTrue}
 use Rattle.edit_message.specs.declared.message.Message.{Message}
 use Rattle.host_core.specs.declared.event.LinkId.{LinkId}
 use Rattle.host_core.specs.declared.event.OpenLink.{OpenLink}
 use Rattle.host_core.specs.declared.event.HostEvent.{HostEvent}
-use Rattle.host_core.specs.declared.event.HostEvent.TheVariants.{Began, PersonMade, DeviceMade, SecretChanged, DeviceClosed, LinkOpened, LinkClosed, Made, Saved, Gave}
+use Rattle.host_core.specs.declared.event.HostEvent.TheVariants.{Began, PersonMade, DeviceMade, SecretChanged, DeviceClosed, LinkOpened, LinkClosed, Made, Saved, Gave, Told}
 use Rattle.host_core.specs.Past.{host_peer, saved_journal, people_made, devices_made, device_of, open_link}
 use Rattle.host_core.specs.Refusals.{is_own, hello_refusal, ask_refusal}
 
@@ -14,6 +14,10 @@ pub record GivesItem (es : List HostEvent) (l : LinkId) (m : Message) : Type 0 w
   pub open_is : open_link es l ≡ Some link
   pub next : slice_get (host_peer es).journal link.mark ≡ Some m
   pub saved : link.mark < length (saved_journal es)
+
+-- all that the journal has is saved
+abbrev pub IsAllSaved : List HostEvent → Type 0
+IsAllSaved es = length (host_peer es).journal ≤ length (saved_journal es)
 
 -- what may happen next
 abbrev pub MayHappen : List HostEvent → HostEvent → Type 0
@@ -28,6 +32,7 @@ MayHappen es (Made None step) = IsTrue (is_own step)
 MayHappen es (Made (Some l) step) = ask_refusal es l step ≡ None
 MayHappen es Saved = ⊤
 MayHappen es (Gave l m) = GivesItem es l m
+MayHappen es (Told l) = IsSome (open_link es l) × IsAllSaved es
 
 -- what has happened, each event after those before it
 abbrev pub IsPast : List HostEvent → Type 0

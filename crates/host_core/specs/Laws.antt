@@ -24,7 +24,7 @@ use Rattle.host_core.specs.declared.event.Hello.{Hello}
 use Rattle.host_core.specs.declared.event.LinkId.{LinkId}
 use Rattle.host_core.specs.declared.event.OpenLink.{OpenLink}
 use Rattle.host_core.specs.declared.event.HostEvent.{HostEvent}
-use Rattle.host_core.specs.declared.event.HostEvent.TheVariants.{DeviceMade, SecretChanged, DeviceClosed, LinkOpened, LinkClosed, Made, Gave}
+use Rattle.host_core.specs.declared.event.HostEvent.TheVariants.{DeviceMade, SecretChanged, DeviceClosed, LinkOpened, LinkClosed, Made, Gave, Told}
 use Rattle.host_core.specs.Past.{first_peer, host_peer, saved_journal, device_of, links_opened, link_of, open_link, given_to, denied_of}
 use Rattle.host_core.specs.Happens.{IsPast}
 
@@ -93,6 +93,11 @@ abbrev pub WholeSavedLaw : Type 0
 WholeSavedLaw = (later es : List HostEvent) → IsPast (later ++ es) → length (host_peer es).journal ≤ length (saved_journal (later ++ es))
     → (more : List Message) × (saved_journal (later ++ es) ≡ (host_peer es).journal ++ more)
 
+-- when a link was told its answers, all that the journal had at any time before was saved
+abbrev pub ToldLaw : Type 0
+ToldLaw = (later between es : List HostEvent) (l : LinkId) → IsPast (later ++ Told l ∷ (between ++ es))
+    → (more : List Message) × (saved_journal (between ++ es) ≡ (host_peer es).journal ++ more)
+
 -- ---- no fork
 
 -- a host begins with a peer whose journal begins with what an earlier one had saved, as each crash leaves it
@@ -131,10 +136,11 @@ AllGivenLaw = (es : List HostEvent) (u : ℕ) (x : OpenLink) → IsPast es → l
 
 -- ---- closed is closed
 
--- the event gives a link something, or takes something from it
+-- the event gives or tells a link something, or takes something from it
 abbrev pub IsOfLink : LinkId → HostEvent → Type 0
 IsOfLink l (Made (Some k) step) = k ≡ l
 IsOfLink l (Gave k m) = k ≡ l
+IsOfLink l (Told k) = k ≡ l
 IsOfLink l e = ⊥
 
 -- the event closes a link that was opened before it: by itself, with its device or secret, or by a newer link of its site
@@ -145,7 +151,7 @@ ClosesLink l (SecretChanged u digest) = u ≡ l.site
 ClosesLink l (DeviceClosed u) = u ≡ l.site
 ClosesLink l e = ⊥
 
--- a link that was closed is given nothing more, and nothing of it is taken
+-- a link that was closed is given and told nothing more, and nothing of it is taken
 abbrev pub ClosedLaw : Type 0
 ClosedLaw = (later earlier : List HostEvent) (e : HostEvent) (l : LinkId) → IsPast (later ++ e ∷ earlier) → l.number < links_opened earlier → ClosesLink l e
     → AllByRecursion (λ f. ¬ IsOfLink l f) later
@@ -156,6 +162,7 @@ IsOfSite u (DeviceMade v d) = v ≡ u
 IsOfSite u (LinkOpened hello) = hello.site ≡ u
 IsOfSite u (Made (Some l) step) = l.site ≡ u
 IsOfSite u (Gave l m) = l.site ≡ u
+IsOfSite u (Told l) = l.site ≡ u
 IsOfSite u e = ⊥
 
 -- after a device was closed nothing of its site happens any more

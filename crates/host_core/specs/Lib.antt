@@ -1,4 +1,5 @@
 pub mod Past
+pub mod Questions
 pub mod Refusals
 pub mod Outside
 pub mod Happens

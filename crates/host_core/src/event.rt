@@ -72,4 +72,6 @@ pub enum HostEvent {
     Saved,
     /// A link was given the next message of the journal.
     Gave { link: LinkId, message: Message },
+    /// A link was told the answers of the steps that it asked for. All that they left was saved.
+    Told { link: LinkId },
 }

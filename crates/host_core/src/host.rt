@@ -1,5 +1,5 @@
 //! A host with its peer.
-ghost use Rattle.std.specs.Prelude.{◌≡◌, ◌∷◌, [], ◌≤◌, ℕ, List, Some, None, OnErr, IfOk, IfErr, IfSome, IsNone, OnOk, Err, Contains, length};
+ghost use Rattle.std.specs.Prelude.{◌≡◌, ◌∷◌, [], ◌≤◌, ℕ, List, Some, None, OnErr, IfOk, IfErr, IfSome, IsNone, OnOk, Err, Contains, length, false, IsTrue};
 ghost use Rattle.std.specs.Coded.{Coded-set};
 ghost use Rattle.edit_message.specs.declared.message.Message.{Message};
 ghost use Rattle.peer_step.specs.declared.step.Step.{Step};
@@ -8,13 +8,14 @@ ghost use Rattle.peer_core.specs.Answers.{answer_of};
 ghost use Rattle.host_core.specs.declared.event.LinkId.{LinkId};
 ghost use Rattle.host_core.specs.declared.event.HostEvent.{HostEvent};
 ghost use Rattle.host_core.specs.Past.{host_peer, saved_journal, device_of, links_opened, open_link};
+ghost use Rattle.host_core.specs.Questions.{names_undone, SaysUndone};
 ghost use Rattle.host_core.specs.Refusals.{person_refusal, device_refusal, hello_refusal, ask_refusal, no_link, own_refusal};
 ghost use Rattle.host_core.specs.Outside.{IsFor};
-ghost use Rattle.host_core.specs.Happens.{MayHappen, IsPast};
+ghost use Rattle.host_core.specs.Happens.{MayHappen, IsAllSaved, IsPast};
 
 use crate::event::{Device, Hello, LinkId};
 use crate::keeper::Keeper;
-use crate::question::would_answer;
+use crate::question::{Outlook, foresee};
 use crate::refusal::Refusal;
 use crate::register::{Register, is_denial, is_offer, own_refusal};
 use edit_message::Message;
@@ -99,7 +100,7 @@ impl<K: Keeper> Host<K> {
         self.register.change_secret(site, digest)
     }
 
-    /// ClosesLink a device for good, and its link. Takes no memory.
+    /// Closes a device for good, and its link. Takes no memory.
     pub fn close_device(&mut self, site: u16) -> Result<(), Refusal>
         ensures closed { OnOk result (self.new.register ≡ HostEvent.DeviceClosed site ∷ self.old.register) }
         ensures refused { IfErr result (λ refusal. (refusal ≡ Refusal.NoDevice) × (device_of site self.old.register ≡ None)) }
@@ -121,7 +122,7 @@ impl<K: Keeper> Host<K> {
         self.register.admit(hello)
     }
 
-    /// ClosesLink a link. Takes no memory.
+    /// Closes a link. Takes no memory.
     pub fn close(&mut self, link: LinkId) -> Result<(), Refusal>
         ensures closed { OnOk result (self.new.register ≡ HostEvent.LinkClosed link ∷ self.old.register) }
         ensures refused { IfErr result (λ refusal. (refusal ≡ Refusal.NoLink) × (open_link self.old.register link ≡ None)) }
@@ -169,12 +170,22 @@ impl<K: Keeper> Host<K> {
         self.make(Some(link), step)
     }
 
-    /// What the host's peer would answer to an operation now, so how many requests that would undo. Nothing changes.
-    /// Takes the time and memory of the whole journal.
+    /// What the host's peer would answer to an operation now. Nothing changes. Takes the time and memory of the whole
+    /// journal.
     pub fn would_answer(&self, alloc: Global, op: &AdminOp) -> Result<Answer, NoMemory>
         ensures { IfOk result (λ answer. answer ≡ answer_of (host_peer self.now.register) (Step.Administer op.now)) }
     {
-        would_answer(alloc, self.peer(), op)
+        Ok(self.outlook(alloc, op)?.answer)
+    }
+
+    /// What the host's peer would answer to an operation now, and which requests that would undo, so how many of whom.
+    /// Nothing changes. Takes the time and memory of the whole journal.
+    pub fn outlook(&self, alloc: Global, op: &AdminOp) -> Result<Outlook, NoMemory>
+        ensures answer { IfOk result (λ o. o.answer ≡ answer_of (host_peer self.now.register) (Step.Administer op.now)) }
+        ensures undone { IfOk result (λ o. o.undone.items ≡ names_undone (host_peer self.now.register) op.now) }
+        ensures count { IfOk result (λ o. SaysUndone o.answer (length o.undone.items)) }
+    {
+        foresee(alloc, self.peer(), op)
     }
 
     /// Makes a step of the host's own: an order, or the settling of what was held when it began.
@@ -201,6 +212,27 @@ impl<K: Keeper> Host<K> {
         self.keeper.save()?;
         self.register.saved_all(self.keeper.peer());
         Ok(())
+    }
+
+    /// Tells a link the answers of the steps that it asked for, if all that was made is saved, and says whether it does.
+    /// Takes constant time, and no memory.
+    pub fn tell(&mut self, link: LinkId) -> Result<bool, Refusal>
+        ensures told { IfOk result (λ told. IsTrue told → self.new.register ≡ HostEvent.Told link ∷ self.old.register) }
+        ensures kept { IfOk result (λ told. IsTrue told → ∥ K.keeps self.new.keeper (host_peer self.old.register).journal ∥₁) }
+        ensures not_yet { IfOk result (λ told. told ≡ false → ¬ IsAllSaved self.old.register) }
+        ensures not_yet_unchanged { IfOk result (λ told. told ≡ false → self.new.register ≡ self.old.register) }
+        ensures refused { IfErr result (λ refusal. (refusal ≡ Refusal.NoLink) × (open_link self.old.register link ≡ None)) }
+        ensures unchanged { OnErr result (self.new.register ≡ self.old.register) }
+        ensures keeper { self.new.keeper ≡ self.old.keeper }
+    {
+        if self.register.open_link(link).is_none() {
+            return Err(Refusal::NoLink);
+        }
+        if !self.register.is_all_saved(self.keeper.peer()) {
+            return Ok(false);
+        }
+        self.register.told(link);
+        Ok(true)
     }
 
     /// The next message of the journal for a link, which is saved, and none where it has all that is.

@@ -1,25 +1,33 @@
-//! Laws of what happens at hosts. They hold of each host at every moment, since what has happened at it is a past.
+//! Laws of what happens at hosts. They hold of each host at every moment, since what has happened at it is a past. Each
+//! has a sample, a small past on which its premises hold.
 ghost use Rattle.host_core.specs.Samples.{SampleHappens, SampleGiven, SampleDoor, SampleClosed};
-ghost use Rattle.host_core.specs.Laws.{AuthenticLaw, OrderedLaw, SavedLaw, BeginningLaw, WholeSavedLaw, NoForkLaw, InOrderLaw, AllGivenLaw, ClosedLaw, DeviceClosedLaw, HeldLaw, ClockLaw, ReserveLaw, ShareLaw, ReplayLaw, PageLaw};
+ghost use Rattle.host_core.specs.Samples.{AuthenticSample, OrderedSample, SavedSample, NoForkSample, InOrderSample, ClosedSample, DeviceClosedSample, ShareSample, PageSample};
+ghost use Rattle.host_core.specs.Laws.{AuthenticLaw, OrderedLaw, SavedLaw, BeginningLaw, WholeSavedLaw, ToldLaw, NoForkLaw, InOrderLaw, AllGivenLaw, ClosedLaw, DeviceClosedLaw, HeldLaw, ClockLaw, ReserveLaw, ShareLaw, ReplayLaw, PageLaw};
 
 /// Each request that the host has was there at the start, or is of the host's own site, or came on a link, open then,
 /// that had shown the secret of the request's site. Each entry was there at the start, or was issued for an owner.
 pub fn authentic()
     ensures requests { AuthenticLaw }
     ensures entries { OrderedLaw }
+    ensures request_sample { AuthenticSample }
+    ensures entry_sample { OrderedSample }
 {}
 
 /// Each message that a link was given was saved by then, and what is saved is a beginning of the journal. What came of a
-/// step is saved once as many messages are as the journal had right after it: then its answer may be told.
+/// step is saved once as many messages are as the journal had right after it. When a link is told the answers of its
+/// steps, all that they left is saved.
 pub fn saved_before_told()
-    ensures told { SavedLaw }
+    ensures given { SavedLaw }
     ensures answered { WholeSavedLaw }
+    ensures told { ToldLaw }
     ensures beginning { BeginningLaw }
+    ensures sample { SavedSample }
 {}
 
 /// Over crashes and restarts no link is given two messages under one name or one version.
 pub fn no_fork()
-    ensures { NoForkLaw }
+    ensures law { NoForkLaw }
+    ensures sample { NoForkSample }
 {}
 
 /// What a link said that it has of the journal, and what it was given behind it, are a beginning of the journal: each
@@ -27,13 +35,16 @@ pub fn no_fork()
 pub fn in_order()
     ensures order { InOrderLaw }
     ensures whole { AllGivenLaw }
+    ensures sample { InOrderSample }
 {}
 
-/// A link that was closed is given nothing more, and nothing of it is taken. After a device was closed nothing of its
+/// A link that was closed is given and told nothing more, and nothing of it is taken. After a device was closed nothing of its
 /// site happens any more.
 pub fn closed_is_closed()
     ensures link { ClosedLaw }
     ensures device { DeviceClosedLaw }
+    ensures link_sample { ClosedSample }
+    ensures device_sample { DeviceClosedSample }
 {}
 
 /// A host that began with nothing held holds nothing, and its clock runs by one for each request at most. What a link
@@ -45,6 +56,7 @@ pub fn nobody_stops_the_others()
     ensures clock { ClockLaw }
     ensures reserve { ReserveLaw }
     ensures share { ShareLaw }
+    ensures sample { ShareSample }
 {}
 
 /// The host's peer is the one that it began with, after all steps that were made, in order. A page that has its
@@ -52,6 +64,7 @@ pub fn nobody_stops_the_others()
 pub fn same_text()
     ensures replay { ReplayLaw }
     ensures page { PageLaw }
+    ensures sample { PageSample }
 {
     peer_tables::laws::same_sets();
 }

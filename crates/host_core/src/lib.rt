@@ -20,5 +20,6 @@ pub use event::{Device, Hello, HostEvent, LinkId, OpenLink, Role};
 pub use host::Host;
 pub use keeper::{KeepFail, Keeper};
 pub use limits::{LINK_REQUESTS, MAX_DENIED, MAX_OPENED, MAX_PEOPLE, MAX_SITES};
+pub use question::Outlook;
 pub use refusal::Refusal;
 pub use register::Register;

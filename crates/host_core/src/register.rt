@@ -1,5 +1,5 @@
 //! What a host knows besides its peer.
-ghost use Rattle.std.specs.Prelude.{◌≡◌, ◌&&◌, ◌∷◌, [], ◌<◌, ◌≤◌, ℕ, true, unwrap_or, IsSome, IsSomeAnd, IfSome, Option, Some, Contains, length, slice_get};
+ghost use Rattle.std.specs.Prelude.{◌≡◌, ◌↔◌, ◌&&◌, ◌∷◌, [], ◌<◌, ◌≤◌, ℕ, true, unwrap_or, IsSome, IsSomeAnd, IfSome, Option, Some, Contains, length, slice_get, IsTrue};
 ghost use Rattle.std.specs.Ordering.{nat_cmp};
 ghost use Rattle.std.specs.BTreeMap.{get};
 ghost use Rattle.peer_step.specs.declared.step.Step.{Step};
@@ -7,7 +7,7 @@ ghost use Rattle.peer_core.specs.Answers.{answer_of};
 ghost use Rattle.host_core.specs.declared.limits.TheConstants.{MAX_DENIED};
 ghost use Rattle.host_core.specs.declared.event.LinkId.{LinkId};
 ghost use Rattle.host_core.specs.Past.{host_peer, saved_journal, device_of, open_link, is_offer, is_denial, count_after};
-ghost use Rattle.host_core.specs.Happens.{MayHappen, IsPast};
+ghost use Rattle.host_core.specs.Happens.{MayHappen, IsAllSaved, IsPast};
 
 mod asking;
 mod linking;
@@ -148,6 +148,24 @@ impl Register {
     {
         self.saved = peer.journal_len();
         self.past = self.past.changed(&());
+    }
+
+    /// Whether all that the peer's journal has is saved.
+    pub(crate) fn is_all_saved(&self, peer: &Peer) -> bool
+        requires { peer.now ≡ host_peer self.now }
+        ensures { IsTrue result ↔ IsAllSaved self.now }
+    {
+        peer.journal_len() <= self.saved
+    }
+
+    /// An open link is told the answers of its steps, since all that was made is saved.
+    pub(crate) fn told(&mut self, link: LinkId)
+        requires open { IsSome (open_link self.old link) }
+        requires saved { IsAllSaved self.old }
+        ensures told { self.new ≡ HostEvent.Told link ∷ self.old }
+        ensures whole { saved_journal self.old ≡ (host_peer self.old).journal }
+    {
+        self.past = self.past.changed(&link);
     }
 
     /// An open link is given the message at its mark, which is saved.

@@ -90,7 +90,7 @@ impl Register {
         })
     }
 
-    /// ClosesLink a link. Takes no memory.
+    /// Closes a link. Takes no memory.
     pub fn close(&mut self, link: LinkId) -> Result<(), Refusal>
         ensures closed { OnOk result (self.new ≡ HostEvent.LinkClosed link ∷ self.old) }
         ensures refused { IfErr result (λ refusal. (refusal ≡ Refusal.NoLink) × (open_link self.old link ≡ None)) }

@@ -71,7 +71,7 @@ impl Register {
         Ok(())
     }
 
-    /// ClosesLink a device for good, and its link. Takes no memory.
+    /// Closes a device for good, and its link. Takes no memory.
     pub fn close_device(&mut self, site: u16) -> Result<(), Refusal>
         ensures closed { OnOk result (self.new ≡ HostEvent.DeviceClosed site ∷ self.old) }
         ensures refused { IfErr result (λ refusal. (refusal ≡ Refusal.NoDevice) × (device_of site self.old ≡ None)) }

@@ -1,4 +1,5 @@
 use Rattle.host_core.proofs.Adding.{held, clock, reserve, share}
+use Rattle.host_core.proofs.Samples.{share_sample}
 use Rattle.host_core.proofs.laws.nobody_stops_the_others.Goals as goal
 
 pub returns-clause-held : goal.returns-clause-held
@@ -12,3 +13,6 @@ returns-clause-reserve c = reserve
 
 pub returns-clause-share : goal.returns-clause-share
 returns-clause-share c = share
+
+pub returns-clause-sample : goal.returns-clause-sample
+returns-clause-sample c = share_sample

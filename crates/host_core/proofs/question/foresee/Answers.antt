@@ -10,6 +10,6 @@ returns c =
     let copy = c.in_ok-copied.field-0 in
     let is = second_of p second c.site.result c.in_ok-messages.messages.items c.deref.result.now c.site.ensures.site c.in_ok-messages.ensures c.deref.ensures.value c.in-Ok.ensures.peer in
     let answered = c.in_ok-answer.ensures.answer ∙ answer_alike p second op copy c.restored.ensures.own is c.in_ok-copied.ensures in
-    let undone = names_told p c.step.new.second op c.in_ok-undone.undone.items c.site.ensures.sound
-    (after_alike p second op copy c.restored.ensures.own is c.in_ok-copied.ensures c.step.new.second c.in_ok-answer.ensures.after) c.in_ok-undone.ensures in
+    let undone = names_told p c.step.new.self op c.in_ok-undone.undone.items c.site.ensures.sound
+    (after_alike p second op copy c.restored.ensures.own is c.in_ok-copied.ensures c.step.new.self c.in_ok-answer.ensures.after) c.in_ok-undone.ensures in
     record { answer = answered; undone = undone; count = as_many p op c.in_ok-answer.answer c.in_ok-undone.undone.items answered undone }

@@ -1,19 +1,34 @@
 -- What an operation would undo.
-use Rattle.std.specs.Prelude.{Bool, false, ◌&&◌, filter, List, Option, None}
+use Rattle.std.specs.Prelude.{◌≡◌, ℕ, Bool, false, ◌&&◌, map, filter, List, Option, None}
 use Rattle.std.specs.Option.{option_map_or}
 use Rattle.element_name.specs.Name.{Name}
 use Rattle.element_name.specs.Cases.{when}
 use Rattle.coop_request.specs.Request.{Request}
+use Rattle.policy_book.specs.declared.op.AdminOp.{AdminOp}
+use Rattle.policy_book.specs.Entry.{Entry}
 use Rattle.edit_message.specs.declared.message.Key.{Key}
 use Rattle.edit_message.specs.declared.message.Key.TheVariants.{Coop, Admin}
 use Rattle.request_state.specs.declared.state.State.{State}
+use Rattle.request_state.specs.declared.state.Undone.{Undone}
 use Rattle.request_state.specs.State.{is_tentative, is_invalid}
+use Rattle.peer_step.specs.declared.step.Step.TheVariants.{Administer}
+use Rattle.peer_step.specs.declared.answer.Answer.{Answer}
+use Rattle.peer_step.specs.declared.answer.Answer.TheVariants.{Issued}
 use Rattle.peer_tables.specs.Undoing.{is_undone_between}
 use Rattle.peer_core.specs.Peer.{Peer, history, log, state_of_name}
+use Rattle.peer_core.specs.After.{peer_after}
 
 -- the requests of a peer that are Tentative there, and Invalid by the log of another
 abbrev pub requests_undone : Peer → Peer → List Request
 requests_undone old new = filter (is_undone_between (history old) (log old) (log new)) (history old)
+
+-- the names of the requests that an operation undoes at a peer, in order of integration
+abbrev pub names_undone : Peer → AdminOp → List Name
+names_undone p op = map (λ q. q.id) (requests_undone p (peer_after p (Administer op)))
+
+-- an entry that is issued says that it undoes so many
+abbrev pub SaysUndone : Answer → ℕ → Type 0
+SaysUndone answer n = (e : Entry) (undone : Undone) → answer ≡ Issued e undone → undone.count ≡ n
 
 -- the request of a name has such a state
 abbrev pub has_state : (State → Bool) → Peer → Name → Bool

@@ -1,10 +1,8 @@
-use Rattle.std.proofs.Common.{◌≡◌, IfOk, length, subst}
-use Rattle.std.specs.Prelude.{map}
+use Rattle.std.proofs.Common.{◌≡◌, IfOk, subst}
 use Rattle.peer_step.specs.declared.step.Step.TheVariants.{Administer}
 use Rattle.peer_core.specs.Peer.{Peer}
 use Rattle.peer_core.specs.Answers.{answer_of}
-use Rattle.peer_core.specs.After.{peer_after}
-use Rattle.host_core.specs.Questions.{requests_undone}
+use Rattle.host_core.specs.Questions.{names_undone}
 use Rattle.host_core.proofs.host.Host.outlook.Goals as goal
 
 pub returns-clause-answer : goal.returns-clause-answer
@@ -12,5 +10,4 @@ returns-clause-answer g c = subst (λ (p : Peer). IfOk c.foresee.result (λ o. o
 
 pub returns-clause-undone : goal.returns-clause-undone
 returns-clause-undone g c =
-    subst (λ (p : Peer). IfOk c.foresee.result (λ o. o.undone.items ≡ map (λ q. q.id) (requests_undone p (peer_after p (Administer c.args.op.now))))) c.peer.ensures.peer
-    c.foresee.ensures.undone
+    subst (λ (p : Peer). IfOk c.foresee.result (λ o. o.undone.items ≡ names_undone p c.args.op.now)) c.peer.ensures.peer c.foresee.ensures.undone
