@@ -1,10 +1,9 @@
 -- Where what a host has comes from.
-use Rattle.std.proofs.Common.{◌≡◌, ℕ, inl, inr, ⊎_elim, Bool, true, false, cond, List, [], ◌∷◌, ◌++◌, Some, None, refl, ap, sym, subst, ◌∙◌}
+use Rattle.std.proofs.Common.{◌≡◌, ℕ, inl, inr, ⊎_elim, Bool, true, false, cond, List, [], ◌∷◌, Some, None, refl, ap, sym, subst, ◌∙◌}
 use Rattle.std.specs.Prelude.{◌⊎◌, option_map, nat_eq, Contains, IsSome, IsTrue}
 use Rattle.std.specs.declared.option.Option.{Option}
 use Rattle.std.proofs.lemmas.Bool.{eqb-true}
 use Rattle.std.proofs.lemmas.Option.{same_Some}
-use Rattle.sha2.specs.Sha256.{sha256}
 use Rattle.coop_request.specs.Request.{Request}
 use Rattle.policy_book.specs.Entry.{Entry}
 use Rattle.edit_message.specs.declared.message.Message.{Message}
@@ -18,8 +17,6 @@ use Rattle.peer_core.specs.Peer.{Peer}
 use Rattle.peer_core.specs.Answers.{answer_of}
 use Rattle.peer_core.proofs.AnswerLemmas.Causes.{IssuesNone, received}
 use Rattle.peer_core.proofs.AfterLemmas.{same_site}
-use Rattle.host_core.specs.declared.event.Device.{Device}
-use Rattle.host_core.specs.declared.event.Hello.{Hello}
 use Rattle.host_core.specs.declared.event.LinkId.{LinkId}
 use Rattle.host_core.specs.declared.event.OpenLink.{OpenLink}
 use Rattle.host_core.specs.declared.event.HostEvent.{HostEvent}
@@ -27,27 +24,16 @@ use Rattle.host_core.specs.declared.event.HostEvent.TheVariants.{Began, SecretCh
 use Rattle.host_core.specs.Past.{first_peer, host_peer, device_of, links_opened, link_by, moved_on, link_of}
 use Rattle.host_core.specs.Refusals.{is_own, ask_refusal}
 use Rattle.host_core.specs.Happens.{MayHappen, IsPast}
-use Rattle.host_core.specs.Laws.{messages_had, CameByKey, AuthenticLaw, IsByOwner, WasOrdered, OrderedLaw}
+use Rattle.host_core.specs.Laws.{messages_had, OpenedByKey, CameByKey, AuthenticLaw, IsByOwner, WasOrdered, OrderedLaw}
 use Rattle.host_core.proofs.Growing.{Origin, origin}
 use Rattle.host_core.proofs.Refused.{open_known, opens, takes, no_entry, asks}
 use Rattle.host_core.proofs.InOrder.{not_closed, opened_by, given_link}
 
 -- ---- where a link was opened
 
-record WasOpened (es : List HostEvent) (u : ℕ) (x : OpenLink) : Type 0 where
-  hello : Hello
-  device : Device
-  between : List HostEvent
-  earlier : List HostEvent
-  opened : es ≡ between ++ LinkOpened hello ∷ earlier
-  by_site : hello.site ≡ u
-  number : x.number ≡ links_opened earlier
-  device_is : device_of u earlier ≡ Some device
-  is_key : device.digest ≡ sha256 hello.secret
-
 -- with one more event
-opened_more : (e : HostEvent) (es : List HostEvent) (u : ℕ) (x : OpenLink) → WasOpened es u x → WasOpened (e ∷ es) u x
-opened_more e es u x was = record {
+opened_more : (e : HostEvent) (es : List HostEvent) (l : LinkId) → OpenedByKey es l → OpenedByKey (e ∷ es) l
+opened_more e es l was = record {
   hello = was.hello;
   device = was.device;
   between = e ∷ was.between;
@@ -59,31 +45,23 @@ opened_more e es u x was = record {
   is_key = was.is_key;
 }
 
--- where it was given a message
-same_link : (es : List HostEvent) (u : ℕ) (y x : OpenLink) → moved_on y ≡ x → WasOpened es u y → WasOpened es u x
-same_link es u y x same was = record {
-  hello = was.hello;
-  device = was.device;
-  between = was.between;
-  earlier = was.earlier;
-  opened = was.opened;
-  by_site = was.by_site;
-  number = sym (ap (λ (z : OpenLink). z.number) same) ∙ was.number;
-  device_is = was.device_is;
-  is_key = was.is_key;
-}
+-- the open link of a site as one of all links
+abbrev link_at : ℕ → OpenLink → LinkId
+link_at u x = record { site = u; number = x.number }
 
 -- the link of a site was opened with the secret of its device
-was_opened : (es : List HostEvent) (u : ℕ) (x : OpenLink) → IsPast es → link_of u es ≡ Some x → WasOpened es u x
+was_opened : (es : List HostEvent) (u : ℕ) (x : OpenLink) → IsPast es → link_of u es ≡ Some x → OpenedByKey es (link_at u x)
 was_opened [] u x h is = absurd cc
 was_opened (SecretChanged v digest ∷ es) u x h is =
-    opened_more (SecretChanged v digest) es u x (was_opened es u x h.1 (not_closed (nat_eq v u) (link_of u es) x is))
-was_opened (DeviceClosed v ∷ es) u x h is = opened_more (DeviceClosed v) es u x (was_opened es u x h.1 (not_closed (nat_eq v u) (link_of u es) x is))
-was_opened (LinkClosed l ∷ es) u x h is = opened_more (LinkClosed l) es u x (was_opened es u x h.1 (not_closed (nat_eq l.site u) (link_of u es) x is))
+    opened_more (SecretChanged v digest) es (link_at u x) (was_opened es u x h.1 (not_closed (nat_eq v u) (link_of u es) x is))
+was_opened (DeviceClosed v ∷ es) u x h is =
+    opened_more (DeviceClosed v) es (link_at u x) (was_opened es u x h.1 (not_closed (nat_eq v u) (link_of u es) x is))
+was_opened (LinkClosed l ∷ es) u x h is =
+    opened_more (LinkClosed l) es (link_at u x) (was_opened es u x h.1 (not_closed (nat_eq l.site u) (link_of u es) x is))
 was_opened (LinkOpened hello ∷ es) u x h is = by (nat_eq hello.site u) refl is (was_opened es u x h.1)
   where
     by : (b : Bool) → nat_eq hello.site u ≡ b → cond b (option_map (link_by (links_opened es) hello) (device_of u es)) (link_of u es) ≡ Some x
-        → (link_of u es ≡ Some x → WasOpened es u x) → WasOpened (LinkOpened hello ∷ es) u x
+        → (link_of u es ≡ Some x → OpenedByKey es (link_at u x)) → OpenedByKey (LinkOpened hello ∷ es) (link_at u x)
     by true e some rest =
         let opened = opened_by (links_opened es) hello (device_of u es) x some in
         let found = opens es hello h.0 in
@@ -99,18 +77,18 @@ was_opened (LinkOpened hello ∷ es) u x h is = by (nat_eq hello.site u) refl is
           device_is = subst (λ (v : ℕ). device_of v es ≡ Some found.device) site found.device_is;
           is_key = found.is_key;
         }
-    by false e some rest = opened_more (LinkOpened hello) es u x (rest some)
-was_opened (Gave l m ∷ es) u x h is = by (nat_eq l.site u) refl is (λ (y : OpenLink) known. was_opened es u y h.1 known)
+    by false e some rest = opened_more (LinkOpened hello) es (link_at u x) (rest some)
+was_opened (Gave l m ∷ es) u x h is = opened_more (Gave l m) es (link_at u x) (by (nat_eq l.site u) refl is (λ (y : OpenLink) known. was_opened es u y h.1 known))
   where
     by : (b : Bool) → nat_eq l.site u ≡ b → cond b (option_map moved_on (link_of u es)) (link_of u es) ≡ Some x
-        → ((y : OpenLink) → link_of u es ≡ Some y → WasOpened es u y) → WasOpened (Gave l m ∷ es) u x
+        → ((y : OpenLink) → link_of u es ≡ Some y → OpenedByKey es (link_at u y)) → OpenedByKey es (link_at u x)
     by true e some rest =
         let y : OpenLink = h.0.link in
         let known = given_link es l m u h.0 e in
         let moved : Some (moved_on y) ≡ Some x = subst (λ (o : Option OpenLink). option_map moved_on o ≡ Some x) known some in
-        opened_more (Gave l m) es u x (same_link es u y x (same_Some (moved_on y) x moved) (rest y known))
-    by false e some rest = opened_more (Gave l m) es u x (rest x some)
-was_opened (e ∷ es) u x h is = opened_more e es u x (was_opened es u x h.1 is)
+        subst (λ (z : OpenLink). OpenedByKey es (link_at u z)) (same_Some (moved_on y) x moved) (rest y known)
+    by false e some rest = rest x some
+was_opened (e ∷ es) u x h is = opened_more e es (link_at u x) (was_opened es u x h.1 is)
 
 -- ---- requests
 
@@ -129,20 +107,12 @@ Authentic es q = Contains (messages_had (first_peer es)) (Coop q) ⊎ ((q.id.sit
 came_more : (e : HostEvent) (es : List HostEvent) (q : Request) → CameByKey es q → CameByKey (e ∷ es) q
 came_more e es q c = record {
   link = c.link;
-  hello = c.hello;
-  device = c.device;
   later = e ∷ c.later;
   before = c.before;
-  between = c.between;
-  earlier = c.earlier;
   came = ap (λ (fs : List HostEvent). e ∷ fs) c.came;
-  opened = c.opened;
   of_site = c.of_site;
-  by_site = c.by_site;
-  number = c.number;
   still_open = c.still_open;
-  device_is = c.device_is;
-  is_key = c.is_key;
+  by_key = c.by_key;
 }
 
 authentic_more : (e : HostEvent) (es : List HostEvent) (q : Request) → first_peer (e ∷ es) ≡ first_peer es → Authentic es q → Authentic (e ∷ es) q
@@ -156,23 +126,14 @@ received_by_key es None step q h may is = let own : IsTrue (is_own (Receive (Coo
 received_by_key es (Some l) step q h may is =
     let taken = takes es l q (subst (λ (s : Step). ask_refusal es l s ≡ None) is may) in
     let known = open_known es l taken.link taken.open_is in
-    let was : WasOpened es q.id.site taken.link = was_opened es q.id.site taken.link h (subst (λ (u : ℕ). link_of u es ≡ Some taken.link) (sym taken.of_site) known.0) in
     record {
       link = l;
-      hello = was.hello;
-      device = was.device;
       later = [];
       before = es;
-      between = was.between;
-      earlier = was.earlier;
       came = ap (λ (s : Step). Made (Some l) s ∷ es) is;
-      opened = was.opened;
       of_site = sym taken.of_site;
-      by_site = was.by_site;
-      number = sym known.1 ∙ was.number;
       still_open = subst (λ (o : Option OpenLink). IsSome o) (sym taken.open_is) refl;
-      device_is = was.device_is;
-      is_key = was.is_key;
+      by_key = subst (λ (n : ℕ). OpenedByKey es (record { site = l.site; number = n })) known.1 (was_opened es l.site taken.link h known.0);
     }
 
 authentic_has : (es : List HostEvent) (q : Request) → IsPast es → Has (messages_had (host_peer es)) (Coop q) → Authentic es q

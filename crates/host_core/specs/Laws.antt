@@ -34,23 +34,27 @@ messages_had p = p.journal ++ p.held
 
 -- ---- authentic: what came on a link came by its key, and entries by an owner's order
 
--- a request came on a link of its site, open then, that was opened by a hello with the secret that its device had then
-pub record CameByKey (es : List HostEvent) (q : Request) : Type 0 where
-  pub link : LinkId
+-- a link was opened by a hello with the secret that the device of its site had then
+pub record OpenedByKey (es : List HostEvent) (l : LinkId) : Type 0 where
   pub hello : Hello
   pub device : Device
-  pub later : List HostEvent
-  pub before : List HostEvent
   pub between : List HostEvent
   pub earlier : List HostEvent
-  pub came : es ≡ later ++ Made (Some link) (Receive (Coop q)) ∷ before
-  pub opened : before ≡ between ++ LinkOpened hello ∷ earlier
-  pub of_site : link.site ≡ q.id.site
-  pub by_site : hello.site ≡ q.id.site
-  pub number : link.number ≡ links_opened earlier
-  pub still_open : IsSome (open_link before link)
-  pub device_is : device_of q.id.site earlier ≡ Some device
+  pub opened : es ≡ between ++ LinkOpened hello ∷ earlier
+  pub by_site : hello.site ≡ l.site
+  pub number : l.number ≡ links_opened earlier
+  pub device_is : device_of l.site earlier ≡ Some device
   pub is_key : device.digest ≡ sha256 hello.secret
+
+-- a request came on a link of its site, open then, that was opened by its key
+pub record CameByKey (es : List HostEvent) (q : Request) : Type 0 where
+  pub link : LinkId
+  pub later : List HostEvent
+  pub before : List HostEvent
+  pub came : es ≡ later ++ Made (Some link) (Receive (Coop q)) ∷ before
+  pub of_site : link.site ≡ q.id.site
+  pub still_open : IsSome (open_link before link)
+  pub by_key : OpenedByKey before link
 
 -- each request that the host has was there at the start, or is of the host's own site, or came by its site's key
 abbrev pub AuthenticLaw : Type 0
