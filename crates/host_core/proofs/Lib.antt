@@ -8,6 +8,7 @@ pub mod InOrder
 pub mod Coming
 pub mod Closing
 pub mod Adding
+pub mod Going
 pub mod Texts
 pub mod Samples
 pub mod Questions

@@ -114,7 +114,7 @@ device_closed_sample document secret = (
 )
 
 pub share_sample : ShareSample
-share_sample document secret = ((happens document secret).1.1, refl, refl, refl, refl)
+share_sample document secret = ((happens document secret).1.1, refl, lit< tt, refl, refl, refl)
 
 pub page_sample : PageSample
 page_sample document secret = (

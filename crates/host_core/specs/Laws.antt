@@ -1,7 +1,8 @@
 -- The laws of what happens at hosts.
-use Rattle.std.specs.Prelude.{◌≡◌, ◌⊎◌, ⊤, ℕ, ◌+◌, ◌≤◌, ◌<◌, List, [], ◌∷◌, ◌++◌, Option, Some, None, length, take, fold, Contains, IsSome, IsSomeAnd}
+use Rattle.std.specs.Prelude.{◌≡◌, ◌⊎◌, ⊤, ℕ, true, ◌+◌, ◌≤◌, ◌<◌, List, [], ◌∷◌, ◌++◌, Option, Some, None, length, take, fold, Contains, IsSome, IsSomeAnd}
 use Rattle.std.specs.List.{AllByRecursion}
 use Rattle.sha2.specs.Sha256.{sha256}
+use Rattle.element_name.specs.declared.limits.TheConstants.{MAX_STAMP}
 use Rattle.coop_request.specs.Request.{Request}
 use Rattle.policy_book.specs.Entry.{Entry}
 use Rattle.edit_message.specs.declared.message.Message.{Message}
@@ -10,11 +11,12 @@ use Rattle.edit_message.specs.Message.{key_of, requests_of, entries_of}
 use Rattle.request_state.specs.declared.state.Undone.{Undone}
 use Rattle.peer_step.specs.declared.step.Step.{Step}
 use Rattle.peer_step.specs.declared.step.Step.TheVariants.{Receive}
-use Rattle.peer_step.specs.declared.answer.Answer.TheVariants.{Issued}
+use Rattle.peer_step.specs.declared.answer.Answer.{Answer}
+use Rattle.peer_step.specs.declared.answer.Answer.TheVariants.{ClockEnd, HistoryFull, LogFull, Issued, HoldFull}
 use Rattle.peer_tables.specs.Derived.{greatest_stamp}
 use Rattle.peer_tables.specs.Journal.{IsJournal}
 use Rattle.peer_core.specs.Peer.{Peer, history, log, text}
-use Rattle.peer_core.specs.Answers.{answer_of}
+use Rattle.peer_core.specs.Answers.{is_full_log, answer_of}
 use Rattle.peer_core.specs.After.{peer_after}
 use Rattle.peer_core.specs.Sound.{IsSound}
 use Rattle.host_core.specs.declared.limits.TheConstants.{LINK_REQUESTS, MAX_DENIED}
@@ -192,6 +194,21 @@ ReserveLaw = (es : List HostEvent) (l : LinkId) (m : Message) → IsPast (Made (
 -- no more requests of a site are denied as they come than may be
 abbrev pub ShareLaw : Type 0
 ShareLaw = (es : List HostEvent) (u : ℕ) → IsPast es → denied_of u es ≤ MAX_DENIED
+
+-- an answer for want of stamps, of requests, of room in the hold, or of versions
+abbrev pub IsStop : Answer → Type 0
+IsStop ClockEnd = ⊤
+IsStop HistoryFull = ⊤
+IsStop HoldFull = ⊤
+IsStop LogFull = ⊤
+IsStop answer = ⊥
+
+-- behind what a link offered no step is stopped, at the host or at a page that has its journal and holds nothing, but by a log that was full before
+abbrev pub GoesOnLaw : Type 0
+GoesOnLaw = (es : List HostEvent) (l : LinkId) (m : Message) (p : Peer) (step : Step) → IsPast (Made (Some l) (Receive m) ∷ es)
+    → (first_peer es).held ≡ [] → greatest_stamp (history (first_peer es)) + LINK_REQUESTS < MAX_STAMP
+    → p.journal ≡ (host_peer (Made (Some l) (Receive m) ∷ es)).journal → p.held ≡ []
+    → IsStop (answer_of p step) → is_full_log (host_peer es) ≡ true
 
 -- ---- the headline
 

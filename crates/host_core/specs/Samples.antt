@@ -1,6 +1,7 @@
 -- Small pasts of a host, for any document and secret: on each the premises of a law hold, so that it speaks of something.
-use Rattle.std.specs.Prelude.{◌≡◌, ◌<◌, ℕ, List, [], ◌∷◌, ◌++◌, Some, None, length, Contains}
+use Rattle.std.specs.Prelude.{◌≡◌, ◌+◌, ◌<◌, ℕ, List, [], ◌∷◌, ◌++◌, Some, None, length, Contains}
 use Rattle.sha2.specs.Sha256.{sha256}
+use Rattle.element_name.specs.declared.limits.TheConstants.{MAX_STAMP}
 use Rattle.element_name.specs.Name.{start}
 use Rattle.coop_request.specs.declared.edit.Edit.TheVariants as edits
 use Rattle.coop_request.specs.Request.{Request}
@@ -15,6 +16,7 @@ use Rattle.peer_tables.specs.Derived.{greatest_stamp}
 use Rattle.peer_core.specs.Peer.{Peer, fresh_peer, history, text}
 use Rattle.peer_core.specs.Restore.{peer_of_journal}
 use Rattle.peer_core.specs.Sound.{IsSound}
+use Rattle.host_core.specs.declared.limits.TheConstants.{LINK_REQUESTS}
 use Rattle.host_core.specs.declared.event.Role.{Role}
 use Rattle.host_core.specs.declared.event.Role.TheVariants.{Owner, Writer}
 use Rattle.host_core.specs.declared.event.Device.{Device}
@@ -168,11 +170,12 @@ DeviceClosedSample = (document secret : List ℕ)
 
 -- ---- nobody stops the others
 
--- nothing is held, the clock has run by one for one request, and that was denied
+-- nothing was held and the clock not late, it has run by one for one request, and that was denied
 abbrev pub ShareSample : Type 0
 ShareSample = (document secret : List ℕ)
     → IsPast (offered document secret)
     × ((first_peer (offered document secret)).held ≡ [])
+    × (greatest_stamp (history (first_peer (offered document secret))) + LINK_REQUESTS < MAX_STAMP)
     × (greatest_stamp (history (host_peer (offered document secret))) ≡ 1)
     × (length (history (host_peer (offered document secret))) ≡ 1)
     × (denied_of 1 (offered document secret) ≡ 1)

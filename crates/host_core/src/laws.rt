@@ -2,7 +2,7 @@
 //! has a sample, a small past on which its premises hold.
 ghost use Rattle.host_core.specs.Samples.{SampleHappens, SampleGiven, SampleDoor, SampleClosed};
 ghost use Rattle.host_core.specs.Samples.{AuthenticSample, OrderedSample, SavedSample, NoForkSample, InOrderSample, ClosedSample, DeviceClosedSample, ShareSample, PageSample};
-ghost use Rattle.host_core.specs.Laws.{AuthenticLaw, OrderedLaw, SavedLaw, BeginningLaw, WholeSavedLaw, ToldLaw, NoForkLaw, InOrderLaw, AllGivenLaw, ClosedLaw, DeviceClosedLaw, HeldLaw, ClockLaw, ReserveLaw, ShareLaw, ReplayLaw, PageLaw};
+ghost use Rattle.host_core.specs.Laws.{AuthenticLaw, OrderedLaw, SavedLaw, BeginningLaw, WholeSavedLaw, ToldLaw, NoForkLaw, InOrderLaw, AllGivenLaw, ClosedLaw, DeviceClosedLaw, HeldLaw, ClockLaw, ReserveLaw, ShareLaw, GoesOnLaw, ReplayLaw, PageLaw};
 
 /// Each request that the host has was there at the start, or is of the host's own site, or came on a link, open then,
 /// that had shown the secret of the request's site. Each entry was there at the start, or was issued for an owner.
@@ -49,13 +49,15 @@ pub fn closed_is_closed()
 
 /// A host that began with nothing held holds nothing, and its clock runs by one for each request at most. What a link
 /// offers takes no version, and none of the requests that are left to the owners; and no more requests of a site are
-/// denied as they come than may be. So no link makes another's edit find the end of the clock, a full hold, a full log or
-/// a full history, but by what was granted.
+/// denied as they come than may be. So where a host's clock wasn't late when it began, nothing that a link offers stops a
+/// step, be it the host's or a page's that has its journal: none finds the end of the clock, a full hold or a full history,
+/// nor a full log but one that was full before.
 pub fn nobody_stops_the_others()
     ensures held { HeldLaw }
     ensures clock { ClockLaw }
     ensures reserve { ReserveLaw }
     ensures share { ShareLaw }
+    ensures goes_on { GoesOnLaw }
     ensures sample { ShareSample }
 {}
 

@@ -1,4 +1,5 @@
 use Rattle.host_core.proofs.Adding.{held, clock, reserve, share}
+use Rattle.host_core.proofs.Going.{goes_on}
 use Rattle.host_core.proofs.Samples.{share_sample}
 use Rattle.host_core.proofs.laws.nobody_stops_the_others.Goals as goal
 
@@ -16,3 +17,6 @@ returns-clause-share c = share
 
 pub returns-clause-sample : goal.returns-clause-sample
 returns-clause-sample c = share_sample
+
+pub returns-clause-goes_on : goal.returns-clause-goes_on
+returns-clause-goes_on c = goes_on
