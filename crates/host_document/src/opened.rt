@@ -89,18 +89,35 @@ impl<'a> Opened<'a> {
         identity: Identity,
     ) -> Result<Opened<'a>, OpenFault> {
         let host = open_host(rt, path, identity)?;
-        let Ok(rules) = Rules::of_peer(rt.alloc(), host.peer()) else {
+        Opened::with_rules(rt.alloc(), host)
+    }
+
+    // A host with the rules of its peer.
+    fn with_rules(
+        alloc: Global,
+        host: Host<StoreKeeper<FileDisk<'a>>>,
+    ) -> Result<Opened<'a>, OpenFault>
+        requires { IsSettled host.register }
+    {
+        let Ok(rules) = Rules::of_peer(alloc, host.peer()) else {
             return Err(OpenFault::NoMemory);
         };
-        let mut opened = Opened {
+        let opened = Opened {
             host,
             rules,
             has_changed: false,
             next_person: 0,
             next_site: 1,
         };
-        opened.begin(rt.alloc())?;
-        Ok(opened)
+        opened.begun(alloc)
+    }
+
+    // The same document, which has a first rule if it is new.
+    fn begun(mut self, alloc: Global) -> Result<Opened<'a>, OpenFault> {
+        match self.begin(alloc) {
+            Ok(()) => Ok(self),
+            Err(fault) => Err(fault),
+        }
     }
 
     /// Its peer.
@@ -125,26 +142,24 @@ impl<'a> Opened<'a> {
         }
     }
 
-    // Makes an operation of the host's own, if the rules foresee that it can be made, and says whether it was.
-    fn rule(&mut self, op: AdminOp) -> Result<bool, Ending> {
-        let Ok(mut rules) = self.rules.copied() else {
-            return Err(Ending::NoMemory);
-        };
-        match rules.foresee(self.host.peer(), &op) {
-            Ok(()) => {}
-            Err(NotMade::NoMemory) => return Err(Ending::NoMemory),
-            Err(_) => return Ok(false),
-        }
+    // Makes an operation of the host's own, behind which these are the rules.
+    fn make_rule(&mut self, op: AdminOp, rules: Rules) -> Result<bool, Ending> {
         let _answer = self.own(Step::Administer(op))?;
         self.rules = rules;
         Ok(true)
     }
 
-    // Makes the rule that a new document has.
-    fn begin(&mut self, alloc: Global) -> Result<(), OpenFault> {
-        if !self.rules.is_first() {
-            return Ok(());
+    // Makes an operation of the host's own, if the rules foresee that it can be made, and says whether it was.
+    fn rule(&mut self, op: AdminOp) -> Result<bool, Ending> {
+        match self.rules.behind(self.host.peer(), &op) {
+            Ok(rules) => self.make_rule(op, rules),
+            Err(NotMade::NoMemory) => Err(Ending::NoMemory),
+            Err(_) => Ok(false),
         }
+    }
+
+    // Makes the rule that a new document has.
+    fn make_first(&mut self, alloc: Global) -> Result<(), OpenFault> {
         let Some(op) = first_rule(alloc) else {
             return Err(OpenFault::NoMemory);
         };
@@ -152,6 +167,15 @@ impl<'a> Opened<'a> {
             Ok(_) => Ok(()),
             Err(Ending::NoMemory) => Err(OpenFault::NoMemory),
             Err(_) => Err(OpenFault::DiskFault),
+        }
+    }
+
+    // Makes the first rule, if nothing was ruled yet.
+    fn begin(&mut self, alloc: Global) -> Result<(), OpenFault> {
+        if self.host.peer().front() == 0 {
+            self.make_first(alloc)
+        } else {
+            Ok(())
         }
     }
 

@@ -1,4 +1,5 @@
 pub mod Endings
 pub mod Settled
 pub mod Adds
-pub mod Seen
+pub mod Admitted
+pub mod Rows

@@ -1,33 +1,34 @@
 //! A document: closed as long as nobody is there, and else the host of its text.
-ghost use Rattle.std.specs.Prelude.{◌≡◌, ◌⊎◌, ◌∷◌, Some, None, Err, false, is_some, OnOk, OnErr, IfOk, IfErr, IfSome, IsSome, IsNone, IsTrue, Contains, length};
+ghost use Rattle.std.specs.Prelude.{◌≡◌, ◌⊎◌, ◌∷◌, Some, None, Err, false, is_some, Contains, length};
+ghost use Rattle.std.specs.Prelude.{OnOk, OnErr, IfOk, IfErr, IfSome, IsSome, IsSomeAnd, IsNone, IsTrue};
 ghost use Rattle.peer_step.specs.declared.step.Step.{Step};
 ghost use Rattle.peer_core.specs.Answers.{answer_of};
 ghost use Rattle.host_core.specs.declared.event.HostEvent.{HostEvent};
+ghost use Rattle.host_link.specs.declared.ending.Ending.{Ending};
 ghost use Rattle.host_core.specs.Past.{host_peer, saved_journal, open_link, device_of};
 ghost use Rattle.host_core.specs.Refusals.{ask_refusal};
 ghost use Rattle.host_document.specs.Endings.{ending_of};
 ghost use Rattle.host_document.specs.Settled.{IsSettled};
 ghost use Rattle.host_document.specs.Adds.{Adds};
+ghost use Rattle.host_document.specs.Admitted.{IsAdmitted};
+ghost use Rattle.host_document.specs.Rows.{MakesRow, IsForeseen};
 
 use crate::fault::{OpenFault, RowFault};
 use crate::opened::{Halt, Opened};
-use crate::row::read_order;
 use crate::text::{journal_of, text_of};
 use edit_message::Message;
 use element_name::NoMemory;
 use host_core::{LinkId, Role};
 use host_link::{Claim, Ending, Identity};
 use host_people::People;
-use peer_core::Peer;
 use peer_step::{Answer, Step};
 use std::alloc::{AllocError, Global};
 use std::marker::Model;
 
-// How a document stands.
-#[derive(Drop)]
-enum Standing<'a> {
+// How a document stands that isn't open.
+#[derive(Clone, Copy)]
+enum Standing {
     Closed,
-    Open(Opened<'a>),
     Broken(OpenFault),
     Gone,
 }
@@ -38,7 +39,10 @@ enum Standing<'a> {
 pub struct Document<'a> {
     name: String,
     identity: Identity,
-    standing: Standing<'a>,
+    // The host of its text, while it is open.
+    opened: Option<Opened<'a>>,
+    // How it stands else.
+    standing: Standing,
 }
 
 impl<'a> Model for Document<'a> {
@@ -47,14 +51,19 @@ impl<'a> Model for Document<'a> {
 
     ghost Value = { Option (List HostEvent) };
 
-    ghost use Rattle.host_document.specs.Seen.{past_of};
-
-    ghost view = { λ d. past_of d.standing };
+    ghost view = { λ d. d.opened };
 }
 
 // Where the steps of a document stand.
 fn steps_path(alloc: Global, folder: &str, name: &str) -> Result<String, AllocError> {
     format!(in alloc; "{folder}/{name}/steps")
+}
+
+// Lets a message go that came to a document that isn't open.
+fn let_go(_message: Message) -> Result<Answer, Ending>
+    ensures { result ≡ Err Ending.NoDocument }
+{
+    Err(Ending::NoDocument)
 }
 
 impl<'a> Document<'a> {
@@ -65,6 +74,7 @@ impl<'a> Document<'a> {
         Document {
             name,
             identity,
+            opened: None,
             standing: Standing::Closed,
         }
     }
@@ -90,21 +100,24 @@ impl<'a> Document<'a> {
     pub fn is_open(&self) -> bool
         ensures { result ≡ is_some self.now }
     {
-        matches!(self.standing, Standing::Open(_))
+        self.opened.is_some()
     }
 
     /// Whether it was put away.
     pub fn is_gone(&self) -> bool
         ensures { IsTrue result → self.now ≡ None }
     {
-        matches!(self.standing, Standing::Gone)
+        match &self.opened {
+            Some(_) => false,
+            None => matches!(self.standing, Standing::Gone),
+        }
     }
 
     /// The word for how it stands: `closed`, `open`, or why it can't be opened.
     pub fn state_word(&self) -> &'static str {
-        match &self.standing {
+        match self.standing {
+            Standing::Closed if self.opened.is_some() => "open",
             Standing::Closed => "closed",
-            Standing::Open(_) => "open",
             Standing::Broken(OpenFault::Damaged) => "damaged",
             Standing::Broken(OpenFault::DiskFault) => "disk-fault",
             Standing::Broken(OpenFault::NoMemory) => "no-memory",
@@ -112,12 +125,12 @@ impl<'a> Document<'a> {
         }
     }
 
-    // The document, opened.
-    fn opened(&self, rt: &'a HostRuntime, folder: &str) -> Result<Opened<'a>, OpenFault> {
-        let Ok(path) = steps_path(rt.alloc(), folder, self.name.as_str()) else {
-            return Err(OpenFault::NoMemory);
-        };
-        Opened::open(rt, path, self.identity)
+    // The host of its text, which stands in the folder.
+    fn open_text(&self, rt: &'a HostRuntime, folder: &str) -> Result<Opened<'a>, OpenFault> {
+        match steps_path(rt.alloc(), folder, self.name.as_str()) {
+            Ok(path) => Opened::open(rt, path, self.identity),
+            Err(_) => Err(OpenFault::NoMemory),
+        }
     }
 
     // Opens it, where it isn't open.
@@ -125,13 +138,14 @@ impl<'a> Document<'a> {
         ensures opened { OnOk result (IsSome self.new) }
         ensures closed { OnErr result (self.new ≡ None) }
     {
-        match self.opened(rt, folder) {
+        match self.open_text(rt, folder) {
             Ok(opened) => {
-                self.standing = Standing::Open(opened);
+                self.opened = Some(opened);
+                self.standing = Standing::Closed;
                 Ok(())
             }
             Err(fault) => {
-                self.standing = Standing::Broken(fault);
+                self.give_up(fault);
                 Err(fault)
             }
         }
@@ -156,24 +170,25 @@ impl<'a> Document<'a> {
     pub fn shut(&mut self)
         ensures { self.new ≡ None }
     {
-        if self.is_open() {
-            self.standing = Standing::Closed;
-        }
+        self.opened = None;
     }
 
     /// Closes it as one that can't be opened.
     pub fn give_up(&mut self, fault: OpenFault)
         ensures { self.new ≡ None }
     {
-        if !self.is_gone() {
-            self.standing = Standing::Broken(fault);
+        if self.is_gone() {
+            return;
         }
+        self.shut();
+        self.standing = Standing::Broken(fault);
     }
 
     /// Closes it, as it was put away.
     pub fn put_away(&mut self)
         ensures { self.new ≡ None }
     {
+        self.shut();
         self.standing = Standing::Gone;
     }
 
@@ -184,11 +199,13 @@ impl<'a> Document<'a> {
         person: u16,
         role: Role,
         claim: &Claim,
-    ) -> Result<LinkId, Ending> {
+    ) -> Result<LinkId, Ending>
+        ensures { IfOk result (λ link. IsSomeAnd self.new (IsAdmitted claim.now link)) }
+    {
         let identity = self.identity;
-        match &mut self.standing {
-            Standing::Open(opened) => opened.admit(people, person, role, identity, claim),
-            _ => Err(Ending::NoDocument),
+        match &mut self.opened {
+            Some(opened) => opened.admit(people, person, role, identity, claim),
+            None => Err(Ending::NoDocument),
         }
     }
 
@@ -196,9 +213,9 @@ impl<'a> Document<'a> {
     pub fn close(&mut self, link: LinkId)
         ensures { IfSome self.new (λ past. open_link past link ≡ None) }
     {
-        match &mut self.standing {
-            Standing::Open(opened) => opened.close(link),
-            _ => {}
+        match &mut self.opened {
+            Some(opened) => opened.close(link),
+            None => {}
         }
     }
 
@@ -206,9 +223,9 @@ impl<'a> Document<'a> {
     pub fn close_device(&mut self, site: u16)
         ensures { IfSome self.new (λ past. device_of site past ≡ None) }
     {
-        match &mut self.standing {
-            Standing::Open(opened) => opened.close_device(site),
-            _ => {}
+        match &mut self.opened {
+            Some(opened) => opened.close_device(site),
+            None => {}
         }
     }
 
@@ -216,46 +233,49 @@ impl<'a> Document<'a> {
     pub fn take(&mut self, link: LinkId, message: Message) -> Result<Answer, Ending>
         ensures made { OnOk result (Adds self.old self.new (HostEvent.Made (Some link) (Step.Receive message))) }
         ensures answer { IfOk result (λ answer. IfSome self.old (λ past. answer ≡ answer_of (host_peer past) (Step.Receive message))) }
-        ensures refused { IfSome self.old (λ past. IfSome (ask_refusal past link (Step.Receive message)) (λ refusal. result ≡ Err (ending_of refusal))) }
+        ensures refused { IfSome self.old
+            (λ past. IfSome (ask_refusal past link (Step.Receive message)) (λ refusal. result ≡ Err (ending_of refusal))) }
         ensures unchanged { OnErr result (self.new ≡ self.old) }
     {
-        let Standing::Open(opened) = &mut self.standing else {
-            return Err(Ending::NoDocument);
+        let Some(opened) = &mut self.opened else {
+            return let_go(message);
         };
         opened.ask(link, Step::Receive(message))
     }
 
     /// What the operation of a line would do now: the line of the answer that it would get. Nothing changes.
-    pub fn would(&self, alloc: Global, line: &str) -> Result<Vec<u8>, RowFault> {
-        let Standing::Open(opened) = &self.standing else {
-            return Err(RowFault::BadLine(1));
-        };
-        match read_order(alloc, 1, line)? {
-            Step::Administer(op) => opened.would(alloc, &op),
-            _ => Err(RowFault::BadLine(1)),
+    pub fn would(&self, alloc: Global, line: &str) -> Result<Vec<u8>, RowFault>
+        ensures { IfOk result (λ answers. IsSomeAnd self.now (λ past. IsForeseen line.now past answers.items)) }
+    {
+        match &self.opened {
+            Some(opened) => opened.would(alloc, line.as_bytes()),
+            None => Err(RowFault::Ended(Ending::NoDocument)),
         }
     }
 
     // Makes a row of orders of a link, if it is open.
     fn order_open(&mut self, alloc: Global, link: LinkId, lines: &str) -> Result<Vec<u8>, Halt>
-        ensures { IfErr result (λ halt. halt.is_torn ≡ false → self.new ≡ self.old) }
+        ensures whole { IfOk result (λ answers. MakesRow link lines.now self.old self.new answers.items) }
+        ensures nothing { IfErr result (λ halt. halt.is_torn ≡ false → self.new ≡ self.old) }
     {
-        match &mut self.standing {
-            Standing::Open(opened) => opened.order(alloc, link, lines),
-            _ => Err(Halt::from(RowFault::BadLine(1))),
+        match &mut self.opened {
+            Some(opened) => opened.order(alloc, link, lines.as_bytes()),
+            None => Err(Halt::from(RowFault::Ended(Ending::NoDocument))),
         }
     }
 
     /// Makes a row of orders, all of it or none, and gives the lines of the answers. Where a row breaks off in its middle,
     /// the document is closed as it was saved the last time, so that nothing of the row stays.
     pub fn order(&mut self, alloc: Global, link: LinkId, lines: &str) -> Result<Vec<u8>, RowFault>
-        ensures { OnErr result ((self.new ≡ self.old) ⊎ (self.new ≡ None)) }
+        ensures whole { IfOk result (λ answers. MakesRow link lines.now self.old self.new answers.items) }
+        ensures nothing { OnErr result ((self.new ≡ self.old) ⊎ (self.new ≡ None)) }
     {
         match self.order_open(alloc, link, lines) {
             Ok(answers) => Ok(answers),
             Err(halt) => {
                 if halt.is_torn {
                     self.shut();
+                    return Err(halt.fault);
                 }
                 Err(halt.fault)
             }
@@ -268,9 +288,9 @@ impl<'a> Document<'a> {
         ensures stays_open { IsSome self.old → IsSome self.new }
         ensures unchanged { OnErr result (self.new ≡ self.old) }
     {
-        match &mut self.standing {
-            Standing::Open(opened) => opened.commit(),
-            _ => Ok(false),
+        match &mut self.opened {
+            Some(opened) => opened.commit(),
+            None => Ok(false),
         }
     }
 
@@ -278,17 +298,17 @@ impl<'a> Document<'a> {
     pub fn saved(&self) -> u32
         ensures { IfSome self.now (λ past. result ≡ length (saved_journal past)) }
     {
-        match &self.standing {
-            Standing::Open(opened) => opened.saved(),
-            _ => 0,
+        match &self.opened {
+            Some(opened) => opened.saved(),
+            None => 0,
         }
     }
 
     /// Whether a link lacks something that is saved.
     pub fn lacks(&self, link: LinkId) -> bool {
-        match &self.standing {
-            Standing::Open(opened) => opened.lacks(link),
-            _ => false,
+        match &self.opened {
+            Some(opened) => opened.lacks(link),
+            None => false,
         }
     }
 
@@ -299,32 +319,24 @@ impl<'a> Document<'a> {
         ensures none { IfOk result (λ found. IsNone found → self.new ≡ self.old) }
         ensures unchanged { OnErr result (self.new ≡ self.old) }
     {
-        match &mut self.standing {
-            Standing::Open(opened) => opened.next_item(link),
-            _ => Err(Ending::NoDocument),
-        }
-    }
-
-    // Its peer.
-    fn peer(&self) -> Option<&Peer> {
-        match &self.standing {
-            Standing::Open(opened) => Some(opened.peer()),
-            _ => None,
+        match &mut self.opened {
+            Some(opened) => opened.next_item(link),
+            None => Err(Ending::NoDocument),
         }
     }
 
     /// Its text, as it shows.
     pub fn text(&self, alloc: Global) -> Result<Vec<u8>, NoMemory> {
-        match self.peer() {
-            Some(peer) => text_of(alloc, peer),
+        match &self.opened {
+            Some(opened) => text_of(alloc, opened.peer()),
             None => Ok(Vec::new(alloc)),
         }
     }
 
     /// The frames of its journal as far as it is saved, and where it is wanted End and their certificate.
     pub fn journal(&self, alloc: Global, is_certified: bool) -> Result<Vec<u8>, NoMemory> {
-        match self.peer() {
-            Some(peer) => journal_of(alloc, peer, self.saved(), is_certified),
+        match &self.opened {
+            Some(opened) => journal_of(alloc, opened.peer(), opened.saved(), is_certified),
             None => Ok(Vec::new(alloc)),
         }
     }

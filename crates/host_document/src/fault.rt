@@ -2,8 +2,9 @@
 
 use edit_message::Missing;
 use element_name::NoMemory;
+use host_link::Ending;
 use policy_book::EntryFault;
-use std::alloc::{AllocError, Global};
+use std::alloc::{AllocError, AllocFailed, Global};
 
 /// Why a document can't be opened.
 #[derive(Clone, Copy, Debug, PartialEq, Eq)]
@@ -17,7 +18,7 @@ pub enum OpenFault {
 }
 
 /// Why an operation isn't made.
-#[derive(Clone, Copy, Debug, PartialEq, Eq)]
+#[derive(Clone, Copy)]
 pub enum NotMade {
     /// It isn't legal, by this first fault.
     Illegal(EntryFault),
@@ -36,7 +37,7 @@ impl From<NoMemory> for NotMade {
 }
 
 /// Why a row of orders isn't made. Nothing of it is, then.
-#[derive(Clone, Copy, Debug, PartialEq, Eq)]
+#[derive(Clone, Copy)]
 pub enum RowFault {
     /// It has more lines than it may.
     TooLong,
@@ -44,6 +45,8 @@ pub enum RowFault {
     BadLine(usize),
     /// The operation of the line of this number can't be made.
     NotMade(usize, NotMade),
+    /// The document isn't open, or its host refuses it: by what a link ends whose message is refused so.
+    Ended(Ending),
     /// Memory is wanting.
     NoMemory,
 }
@@ -60,19 +63,35 @@ impl From<AllocError> for RowFault {
     }
 }
 
+impl<T: Drop> From<AllocFailed<T>> for RowFault {
+    fn from(_: AllocFailed<T>) -> RowFault {
+        RowFault::NoMemory
+    }
+}
+
+impl NotMade {
+    // The words that tell it of the line of this number.
+    fn words(self, alloc: Global, line: usize) -> Result<String, AllocError> {
+        match self {
+            NotMade::Illegal(fault) => {
+                let number = fault.number();
+                format!(in alloc; "illegal {number} line {line}")
+            }
+            NotMade::Misses(_) => format!(in alloc; "missing line {line}"),
+            NotMade::LogFull => String::from_str(alloc, "log full"),
+            NotMade::NoMemory => String::from_str(alloc, "no memory"),
+        }
+    }
+}
+
 impl RowFault {
     /// The words that tell it.
     pub fn words(self, alloc: Global) -> Result<String, AllocError> {
         match self {
             RowFault::TooLong => String::from_str(alloc, "too many lines"),
             RowFault::BadLine(line) => format!(in alloc; "bad line {line}"),
-            RowFault::NotMade(line, NotMade::Illegal(fault)) => {
-                let number = fault.number();
-                format!(in alloc; "illegal {number} line {line}")
-            }
-            RowFault::NotMade(line, NotMade::Misses(_)) => format!(in alloc; "missing line {line}"),
-            RowFault::NotMade(_, NotMade::LogFull) => String::from_str(alloc, "log full"),
-            RowFault::NotMade(_, NotMade::NoMemory) => String::from_str(alloc, "no memory"),
+            RowFault::NotMade(line, why) => why.words(alloc, line),
+            RowFault::Ended(why) => String::from_str(alloc, why.words()),
             RowFault::NoMemory => String::from_str(alloc, "no memory"),
         }
     }
