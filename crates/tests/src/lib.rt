@@ -6,6 +6,8 @@
 #![tactic(auto)]
 
 #[cfg(test)]
+mod of_peer_store;
+#[cfg(test)]
 mod of_record_file;
 #[cfg(test)]
 mod of_sequences;
