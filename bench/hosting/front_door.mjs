@@ -6,7 +6,7 @@
 // It tells the seconds of each step, with the load of the machine at its end.
 import assert from 'node:assert/strict';
 import { execFileSync, spawn } from 'node:child_process';
-import { mkdtempSync, rmSync } from 'node:fs';
+import { existsSync, mkdtempSync, rmSync } from 'node:fs';
 import { createServer } from 'node:http';
 import { loadavg, tmpdir } from 'node:os';
 import { join } from 'node:path';
@@ -17,7 +17,7 @@ const [chromium, folder = join(mkdtempSync(join(tmpdir(), 'front-door-')), 'clon
 const TOP = fileURLToPath(new URL('../..', import.meta.url));
 const SIZE = { width: 1180, height: 760 };
 const LOOK_MS = 50;
-const PATIENCE_MS = 1800000; // for a build beside other work
+const PATIENCE_MS = 3600000; // for a build beside other work
 
 let begun = performance.now();
 
@@ -56,8 +56,9 @@ function front(port) {
 const answers = (port) => fetch(`http://localhost:${port}/healthz`).then((it) => it.ok, () => false);
 
 async function stop({ run }) {
+  if (run.exitCode !== null || run.signalCode !== null) return;
   const ended = new Promise((done) => run.once('exit', done));
-  process.kill(-run.pid, 'SIGKILL');
+  process.kill(-run.pid);
   await ended;
 }
 
@@ -87,8 +88,12 @@ async function measure(port) {
   execFileSync('git', ['clone', '--quiet', TOP, folder]);
   tell('git clone');
   let host = front(port);
+  hosts.push(host);
+  await until('the page’s module is made', () => existsSync(join(folder, 'web', 'editor.wasm')) || host.run.exitCode !== null);
+  tell('./roastcliff host: the page’s module is made');
   await until('the host answers', () => answers(port) || host.run.exitCode !== null);
-  tell('./roastcliff host: the host and the page’s module are made, and it answers');
+  tell('the host is built beside it, and answers');
+  assert.equal(host.run.exitCode, null, host.errors);
   const browser = new Browser(chromium);
   try {
     await write(browser, host.printed.trim());
@@ -98,13 +103,15 @@ async function measure(port) {
   await stop(host);
   begun = performance.now();
   host = front(port);
+  hosts.push(host);
   await until('the host answers', () => answers(port));
   tell('a second call answers');
-  await stop(host);
 }
 
+const hosts = [];
 try {
   await measure(await freePort());
 } finally {
+  await Promise.all(hosts.map(stop));
   rmSync(folder, { recursive: true, force: true });
 }
