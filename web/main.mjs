@@ -49,7 +49,7 @@ function canBePlain() {
 
 async function load() {
   const missing = NEEDS.filter(({ isThere }) => !isThere()).map(({ what }) => what);
-  if (missing.length) throw new Error(`This browser cannot show the page: it lacks ${missing.join(' and ')}. A Chromium or Chrome from version 133 can.`);
+  if (missing.length) throw new Error(`This browser cannot show the page: it lacks ${missing.join(' and ')}. A Chromium or Chrome from version 133 can, and a Firefox from 153.`);
   const response = await fetch('editor.wasm');
   if (!response.ok) throw new Error('There is no editor.wasm at this host: web/build makes it.');
   try {
