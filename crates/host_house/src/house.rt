@@ -12,7 +12,7 @@ use crate::fault::HouseFault;
 use crate::folder::{find_documents, make_folder, new_identity};
 use host_core::Role;
 use host_document::Document;
-use host_link::is_document_name;
+use host_link::{Identity, is_document_name};
 use host_people::{Book, Change, People};
 use peer_disk::FileDisk;
 pub use serving::Admitted;
@@ -23,7 +23,10 @@ use std::marker::Model;
 // The file of the people in the folder. No document is called so.
 const PEOPLE_FILE: &str = "host.people";
 
-// The name of the owner who is made first, until he says another one.
+// The number of the owner who is made first.
+const FIRST_PERSON: u16 = 1;
+
+// His name, until he says another one.
 const FIRST_NAME: &str = "Owner";
 
 // The name of the first document, where the folder's is none for a document.
@@ -64,23 +67,27 @@ fn first_document_name(folder: &str) -> &str {
     }
 }
 
+// The book of the people in a folder, with its disk.
+fn open_book<'a>(rt: &'a HostRuntime, folder: &str) -> Result<(Book, FileDisk<'a>), HouseFault> {
+    let alloc = rt.alloc();
+    let path = format!(in alloc; "{folder}/{PEOPLE_FILE}")?;
+    let mut disk = FileDisk::new(rt, path);
+    let book = Book::open(alloc, &mut disk)?;
+    Ok((book, disk))
+}
+
 impl<'a> House<'a> {
-    /// Opens the house of a folder, which is made where it isn't there. The address is that of its first page.
-    pub fn open(
+    // The house of a folder that is there, with its documents.
+    fn with_documents(
         rt: &'a HostRuntime,
-        folder: &str,
+        folder: String,
         address: String,
+        documents: Vec<Document<'a>>,
     ) -> Result<House<'a>, HouseFault> {
-        let alloc = rt.alloc();
-        fs::create_dir_all(rt, folder)?;
-        let people_path = format!(in alloc; "{folder}/{PEOPLE_FILE}")?;
-        let mut disk = FileDisk::new(rt, people_path);
-        let book = Book::open(alloc, &mut disk)?;
-        let documents = find_documents(rt, folder)?;
-        let folder = String::from_str(alloc, folder)?;
+        let (book, disk) = open_book(rt, folder.as_str())?;
         Ok(House {
             rt,
-            alloc,
+            alloc: rt.alloc(),
             folder,
             address,
             book,
@@ -89,21 +96,46 @@ impl<'a> House<'a> {
         })
     }
 
-    /// The invitation of the owner, where the house has nobody yet. It makes him and, where there is no document, the first.
-    pub fn begin(&mut self) -> Result<Option<String>, HouseFault> {
-        if self.people().next_person() != Some(1) {
-            return Ok(None);
-        }
+    /// Opens the house of a folder, which is made where it isn't there. The address is that of its first page.
+    pub fn open(
+        rt: &'a HostRuntime,
+        folder: &str,
+        address: String,
+    ) -> Result<House<'a>, HouseFault> {
+        fs::create_dir_all(rt, folder)?;
+        let owned = String::from_str(rt.alloc(), folder)?;
+        let documents = find_documents(rt, folder)?;
+        House::with_documents(rt, owned, address, documents)
+    }
+
+    // Makes the owner.
+    fn make_owner(&mut self) -> Result<(), HouseFault> {
         let name = String::from_str(self.alloc, FIRST_NAME)?;
         self.add(&Change::Made {
-            person: 1,
+            person: FIRST_PERSON,
             role: Role::Owner,
             name,
-        })?;
+        })
+    }
+
+    // Makes the first document where there is none.
+    fn have_document(&mut self) -> Result<(), HouseFault> {
         if self.documents.is_empty() {
-            self.make_first()?;
+            self.make_first()
+        } else {
+            Ok(())
         }
-        Ok(Some(self.invite(1)?))
+    }
+
+    /// The invitation of the owner, where the house has nobody yet. It makes him and, where there is no document, the first.
+    pub fn begin(&mut self) -> Result<Option<String>, HouseFault> {
+        if self.people().next_person() != Some(FIRST_PERSON) {
+            return Ok(None);
+        }
+        self.make_owner()?;
+        self.have_document()?;
+        let invitation = self.invite(FIRST_PERSON)?;
+        Ok(Some(invitation))
     }
 
     /// Its people.
@@ -150,17 +182,22 @@ impl<'a> House<'a> {
         self.make_document(name.as_str())
     }
 
-    // Makes a document of this name, which none has.
-    fn make_document(&mut self, name: &str) -> Result<(), HouseFault> {
-        let identity = new_identity(self.rt)?;
-        let owned = String::from_str(self.alloc, name)?;
-        self.documents.push(Document::new(owned, identity))?;
-        match make_folder(self.rt, self.folder.as_str(), name, &identity) {
+    // Makes the folder of the document that was put last, or takes that away.
+    fn make_last(&mut self, name: &str, identity: &Identity) -> Result<(), HouseFault> {
+        match make_folder(self.rt, self.folder.as_str(), name, identity) {
             Ok(()) => Ok(()),
             Err(_) => {
                 let _ = self.documents.pop();
                 Err(HouseFault::Failed)
             }
         }
+    }
+
+    // Makes a document of this name, which none has.
+    fn make_document(&mut self, name: &str) -> Result<(), HouseFault> {
+        let identity = new_identity(self.rt)?;
+        let owned = String::from_str(self.alloc, name)?;
+        self.documents.push(Document::new(owned, identity))?;
+        self.make_last(name, &identity)
     }
 }

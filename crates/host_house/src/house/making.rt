@@ -4,7 +4,28 @@ use super::House;
 use crate::done::Consequence;
 use crate::fault::HouseFault;
 use crate::folder::{archive_folder, move_folder};
-use host_link::HouseOrder;
+use crate::shelf::shut_at;
+use host_link::{Ending, HouseOrder};
+use std::alloc::AllocError;
+
+/// An answer with a consequence.
+pub(super) fn with(
+    text: Result<String, HouseFault>,
+    consequence: Consequence,
+) -> Result<(String, Consequence), HouseFault> {
+    match text {
+        Ok(text) => Ok((text, consequence)),
+        Err(fault) => Err(fault),
+    }
+}
+
+// A text that answers, of which nothing comes.
+fn told(text: Result<String, AllocError>) -> Result<(String, Consequence), HouseFault> {
+    match text {
+        Ok(text) => Ok((text, Consequence::Nothing)),
+        Err(_) => Err(HouseFault::NoMemory),
+    }
+}
 
 impl<'a> House<'a> {
     // Makes a document of a name that none has.
@@ -19,13 +40,20 @@ impl<'a> House<'a> {
 
     // Saves and closes a document, so that its folder can be moved.
     fn settle_document(&mut self, number: usize) -> Result<(), HouseFault> {
+        match shut_at(&mut self.documents, number) {
+            Ok(()) => Ok(()),
+            Err(Ending::NoDocument) => Err(HouseFault::NoDocument),
+            Err(_) => Err(HouseFault::Failed),
+        }
+    }
+
+    // Gives a document that is closed another name.
+    fn move_settled(&mut self, number: usize, to: String) -> Result<(), HouseFault> {
         let Some(document) = self.documents.get_mut(number) else {
             return Err(HouseFault::NoDocument);
         };
-        if document.commit().is_err() {
-            return Err(HouseFault::Failed);
-        }
-        document.shut();
+        move_folder(self.rt, self.folder.as_str(), document.name(), to.as_str())?;
+        document.rename(to);
         Ok(())
     }
 
@@ -37,24 +65,26 @@ impl<'a> House<'a> {
         let text = format!(in self.alloc; "moved {to}")?;
         let owned = String::from_str(self.alloc, to)?;
         self.settle_document(number)?;
-        let Some(document) = self.documents.get_mut(number) else {
-            return Err(HouseFault::NoDocument);
-        };
-        move_folder(self.rt, self.folder.as_str(), document.name(), to)?;
-        document.rename(owned);
+        self.move_settled(number, owned)?;
         Ok(text)
     }
 
-    // Puts a document away.
-    fn archive_named(&mut self, number: usize) -> Result<String, HouseFault> {
-        let text = String::from_str(self.alloc, "archived")?;
-        self.settle_document(number)?;
+    // Puts a document away that is closed.
+    fn archive_settled(&mut self, number: usize) -> Result<(), HouseFault> {
         let Some(document) = self.documents.get_mut(number) else {
             return Err(HouseFault::NoDocument);
         };
         let identity = document.identity();
         archive_folder(self.rt, self.folder.as_str(), document.name(), &identity)?;
         document.put_away();
+        Ok(())
+    }
+
+    // Puts a document away.
+    fn archive_named(&mut self, number: usize) -> Result<String, HouseFault> {
+        let text = String::from_str(self.alloc, "archived")?;
+        self.settle_document(number)?;
+        self.archive_settled(number)?;
         Ok(text)
     }
 
@@ -82,11 +112,11 @@ impl<'a> House<'a> {
         order: HouseOrder<'_>,
     ) -> Result<(String, Consequence), HouseFault> {
         match order {
-            HouseOrder::Make { name } => Ok((self.make_named(name)?, Consequence::Documents)),
+            HouseOrder::Make { name } => with(self.make_named(name), Consequence::Documents),
             HouseOrder::Move { from, to } => self.move_from(from, to),
             HouseOrder::Archive { name } => self.archive_from(name),
-            HouseOrder::Documents => Ok((self.documents_text()?, Consequence::Nothing)),
-            _ => Ok((self.keys()?, Consequence::Nothing)),
+            HouseOrder::Documents => told(self.documents_text()),
+            _ => told(self.keys()),
         }
     }
 }

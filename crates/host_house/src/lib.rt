@@ -9,6 +9,7 @@ mod fault;
 mod folder;
 mod house;
 mod keys;
+mod shelf;
 
 pub use done::{Consequence, Done};
 pub use fault::HouseFault;

@@ -1,6 +1,7 @@
 //! Orders of owners.
 
 use super::House;
+use super::making::with;
 use crate::done::{Consequence, Done};
 use crate::fault::HouseFault;
 use host_core::{LinkId, Role};
@@ -111,23 +112,26 @@ impl<'a> House<'a> {
     fn tend_house(&mut self, order: HouseOrder<'_>) -> Result<(String, Consequence), HouseFault> {
         match order {
             HouseOrder::Person { role, name } => {
-                Ok((self.make_person(role, name)?, Consequence::People))
+                with(self.make_person(role, name), Consequence::People)
             }
             HouseOrder::Invite { person } => {
-                Ok((self.make_invitation(person)?, Consequence::Nothing))
+                with(self.make_invitation(person), Consequence::Nothing)
             }
             HouseOrder::SetRole { person, role } => {
-                let text = self.change_person(person, &Change::GivenRole { person, role })?;
-                Ok((text, Consequence::Role(person)))
+                let change = Change::GivenRole { person, role };
+                with(
+                    self.change_person(person, &change),
+                    Consequence::Role(person),
+                )
             }
             HouseOrder::Rename { person, name } => {
-                Ok((self.rename_person(person, name)?, Consequence::People))
+                with(self.rename_person(person, name), Consequence::People)
             }
             HouseOrder::CloseInvitation { invitation } => {
-                Ok((self.close_invitation(invitation)?, Consequence::Nothing))
+                with(self.close_invitation(invitation), Consequence::Nothing)
             }
             HouseOrder::CloseDevice { site } => {
-                Ok((self.close_device(site)?, Consequence::Closed(site)))
+                with(self.close_device(site), Consequence::Closed(site))
             }
             other => self.tend_documents(other),
         }

@@ -1,19 +1,17 @@
 //! Devices that show secrets, and their links to documents.
-ghost use Rattle.std.specs.Prelude.{◌≡◌, ◌∷◌, ℕ, List, Some, OnOk, IfOk};
-ghost use Rattle.sha2.specs.Sha256.{sha256};
-ghost use Rattle.host_people.specs.declared.change.Change.{Change};
-ghost use Rattle.host_people.specs.declared.people.Holder.{Holder};
+ghost use Rattle.std.specs.Prelude.{◌≡◌, ℕ, OnOk, IfOk};
 ghost use Rattle.host_people.specs.Holders.{role_of, device_holder};
-ghost use Rattle.host_house.specs.Household.{holder_by, TouchesDocument};
+ghost use Rattle.host_house.specs.Household.{holder_by, MakesInvitation, MakesDevice, HoldsKey, TouchesDocument};
 
 use super::House;
 use crate::fault::HouseFault;
 use crate::keys::{digest_of, is_same, new_secret};
+use crate::shelf::{Entrant, admit_at, give_up_at, open_at, shut_at};
 use hex::encode;
 use host_core::{LinkId, Role};
-use host_document::{Document, OpenFault};
+use host_document::OpenFault;
 use host_link::{Claim, Ending};
-use host_people::{BookFault, Change, Digest, Holder, People, Secret};
+use host_people::{BookFault, Change, Digest, Holder, Secret};
 
 /// A link of a device that was admitted to a document.
 #[derive(Clone, Copy, Debug, PartialEq, Eq)]
@@ -33,27 +31,10 @@ fn ending_by(fault: HouseFault) -> Ending {
     }
 }
 
-// Admits a link of who holds a device, with this role, to a document that is open.
-fn admit_to(
-    document: &mut Document<'_>,
-    people: &People,
-    holder: Holder,
-    role: Role,
-    claim: &Claim,
-) -> Result<Admitted, Ending> {
-    let link = document.admit(people, holder.person, role, claim)?;
-    Ok(Admitted {
-        link,
-        site: claim.site,
-        person: holder.person,
-        role,
-    })
-}
-
 impl<'a> House<'a> {
     // Makes an invitation of a person, and gives its address behind these words.
     pub(super) fn invite_by(&mut self, words: &str, person: u16) -> Result<String, HouseFault>
-        ensures made { OnOk result ((invitation : ℕ) × (digest : List ℕ) × (self.new.changes ≡ Change.Invited invitation person digest ∷ self.old.changes)) }
+        ensures made { OnOk result (MakesInvitation person self.old.changes self.new.changes) }
         ensures documents { self.new.documents ≡ self.old.documents }
     {
         let Some(invitation) = self.people().next_invitation() else {
@@ -76,7 +57,7 @@ impl<'a> House<'a> {
     /// Makes an invitation of a person, and gives its number and its address. The secret stands behind `#`, so a browser tells
     /// it to no server.
     pub fn invite(&mut self, person: u16) -> Result<String, HouseFault>
-        ensures made { OnOk result ((invitation : ℕ) × (digest : List ℕ) × (self.new.changes ≡ Change.Invited invitation person digest ∷ self.old.changes)) }
+        ensures made { OnOk result (MakesInvitation person self.old.changes self.new.changes) }
         ensures documents { self.new.documents ≡ self.old.documents }
     {
         self.invite_by("", person)
@@ -93,20 +74,11 @@ impl<'a> House<'a> {
         person
     }
 
-    /// Makes a device of who shows the secret of an open invitation: its site and its own secret. Both are on the disk then.
-    pub fn join(&mut self, secret: &Secret) -> Result<(u16, Secret), Ending>
-        ensures made { IfOk result (λ made. (person : ℕ) × (self.new.changes ≡ Change.Joined made.0 person (sha256 made.1) ∷ self.old.changes)) }
+    // Keeps a new device of a person, with this secret.
+    fn keep_device(&mut self, site: u16, person: u16, own: Secret) -> Result<(u16, Secret), Ending>
+        ensures made { IfOk result (λ made. MakesDevice person made.0 made.1 self.old.changes self.new.changes) }
         ensures documents { self.new.documents ≡ self.old.documents }
     {
-        let Some(person) = self.invited(&digest_of(secret)) else {
-            return Err(Ending::WrongSecret);
-        };
-        let Some(site) = self.people().next_site() else {
-            return Err(Ending::TooManyDevices);
-        };
-        let Ok(own) = new_secret(self.rt) else {
-            return Err(Ending::DiskFault);
-        };
         let digest = digest_of(&own);
         let joined = Change::Joined {
             site,
@@ -116,6 +88,31 @@ impl<'a> House<'a> {
         match self.add(&joined) {
             Ok(()) => Ok((site, own)),
             Err(fault) => Err(ending_by(fault)),
+        }
+    }
+
+    // Makes a device of a person, with a secret of its own.
+    fn make_device(&mut self, person: u16) -> Result<(u16, Secret), Ending>
+        ensures made { IfOk result (λ made. MakesDevice person made.0 made.1 self.old.changes self.new.changes) }
+        ensures documents { self.new.documents ≡ self.old.documents }
+    {
+        let Some(site) = self.people().next_site() else {
+            return Err(Ending::TooManyDevices);
+        };
+        let Ok(own) = new_secret(self.rt) else {
+            return Err(Ending::DiskFault);
+        };
+        self.keep_device(site, person, own)
+    }
+
+    /// Makes a device of who shows the secret of an open invitation: its site and its own secret. Both are on the disk then.
+    pub fn join(&mut self, secret: &Secret) -> Result<(u16, Secret), Ending>
+        ensures made { IfOk result (λ made. (person : ℕ) × MakesDevice person made.0 made.1 self.old.changes self.new.changes) }
+        ensures documents { self.new.documents ≡ self.old.documents }
+    {
+        match self.invited(&digest_of(secret)) {
+            Some(person) => self.make_device(person),
+            None => Err(Ending::WrongSecret),
         }
     }
 
@@ -142,27 +139,53 @@ impl<'a> House<'a> {
     pub fn open_document(&mut self, number: usize) -> Result<(), OpenFault>
         ensures { TouchesDocument number self.old self.new }
     {
-        match self.documents.get_mut(number) {
-            Some(document) => document.open(self.rt, self.folder.as_str()),
-            None => Err(OpenFault::Damaged),
+        open_at(self.rt, self.folder.as_str(), &mut self.documents, number)
+    }
+
+    // Admits a link of who holds a device to a document.
+    fn admit_holder(
+        &mut self,
+        number: usize,
+        holder: Holder,
+        claim: &Claim,
+    ) -> Result<Admitted, Ending>
+        ensures person { IfOk result (λ admitted. admitted.person ≡ holder.person) }
+        ensures others { TouchesDocument number self.old self.new }
+    {
+        let person = holder.person;
+        let role = self.role(person).unwrap_or(Role::Reader);
+        let entrant = Entrant {
+            people: self.book.people(),
+            person,
+            role,
+            claim,
+        };
+        let admitted = admit_at(
+            self.rt,
+            self.folder.as_str(),
+            &mut self.documents,
+            number,
+            &entrant,
+        );
+        match admitted {
+            Ok(link) => Ok(Admitted {
+                link,
+                site: claim.site,
+                person,
+                role,
+            }),
+            Err(why) => Err(why),
         }
     }
 
     /// Admits a link to a document, which is opened. Where the link knows another one, it is refused.
     pub fn admit(&mut self, number: usize, claim: &Claim) -> Result<Admitted, Ending>
-        ensures key { IfOk result (λ admitted. (holder : Holder) × (holder_by claim.now.secret (device_holder claim.now.site self.old.changes) ≡ Some holder) × (admitted.person ≡ holder.person)) }
+        ensures key { IfOk result (λ admitted. HoldsKey admitted.person claim.now.site claim.now.secret self.old.changes) }
         ensures others { TouchesDocument number self.old self.new }
     {
-        let Some(holder) = self.holder(claim.site, &claim.secret) else {
-            return Err(Ending::WrongSecret);
-        };
-        let role = self.role(holder.person).unwrap_or(Role::Reader);
-        if self.open_document(number).is_err() {
-            return Err(Ending::NoDocument);
-        }
-        match self.documents.get_mut(number) {
-            Some(document) => admit_to(document, self.book.people(), holder, role, claim),
-            None => Err(Ending::NoDocument),
+        match self.holder(claim.site, &claim.secret) {
+            Some(holder) => self.admit_holder(number, holder, claim),
+            None => Err(Ending::WrongSecret),
         }
     }
 
@@ -170,11 +193,7 @@ impl<'a> House<'a> {
     pub fn shut(&mut self, number: usize)
         ensures { TouchesDocument number self.old self.new }
     {
-        if let Some(document) = self.documents.get_mut(number) {
-            if document.commit().is_ok() {
-                document.shut();
-            }
-        }
+        let _ = shut_at(&mut self.documents, number);
     }
 
     /// Gives a document up that can't be saved any more.
@@ -185,9 +204,7 @@ impl<'a> House<'a> {
             Ending::DiskFault => OpenFault::DiskFault,
             _ => OpenFault::Damaged,
         };
-        if let Some(document) = self.documents.get_mut(number) {
-            document.give_up(fault);
-        }
+        give_up_at(&mut self.documents, number, fault);
     }
 
     // Closes a device in the documents that are open.

@@ -38,14 +38,24 @@ fn document_of<'a>(rt: &HostRuntime, folder: &str, name: &str) -> io::Result<Opt
     Ok(Some(Document::new(name, identity)))
 }
 
+// Puts the document of an entry of a folder to the others, if it is one.
+fn put_document(
+    rt: &HostRuntime,
+    folder: &str,
+    name: &str,
+    documents: &mut Vec<Document<'_>>,
+) -> io::Result<()> {
+    if let Some(document) = document_of(rt, folder, name)? {
+        documents.push(document)?;
+    }
+    Ok(())
+}
+
 /// The documents that stand in a folder, closed. What lacks an identity is none.
 pub(crate) fn find_documents<'a>(rt: &HostRuntime, folder: &str) -> io::Result<Vec<Document<'a>>> {
     let mut documents = Vec::new(rt.alloc());
     for entry in fs::read_dir(rt, folder)? {
-        let entry = entry?;
-        if let Some(document) = document_of(rt, folder, entry.file_name())? {
-            documents.push(document)?;
-        }
+        put_document(rt, folder, entry?.file_name(), &mut documents)?;
     }
     Ok(documents)
 }

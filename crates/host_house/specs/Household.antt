@@ -1,0 +1,40 @@
+-- A house as a value, and what a call may change of it.
+use Rattle.std.specs.Prelude.{◌≡◌, ◌≢◌, ℕ, ◌&&◌, List, ◌∷◌, Option, Some, option_and_then, slice_get, bytes_eq}
+use Rattle.sha2.specs.Sha256.{sha256}
+use Rattle.element_name.specs.Cases.{when}
+use Rattle.host_core.specs.declared.event.HostEvent.{HostEvent}
+use Rattle.host_people.specs.declared.change.Change.{Change}
+use Rattle.host_people.specs.declared.change.Change.TheVariants.{Invited, Joined}
+use Rattle.host_people.specs.declared.people.Holder.{Holder}
+use Rattle.host_people.specs.Holders.{device_holder}
+
+-- the changes of its people, the newest first, and what has happened at the host of each document since that was opened
+pub record Household : Type 0 where
+  pub changes : List Change
+  pub documents : List (Option (List HostEvent))
+
+-- who holds a key that is open, if this is its secret
+abbrev pub holder_by : List ℕ → Option Holder → Option Holder
+holder_by secret known = option_and_then (λ h. when (bytes_eq h.digest (sha256 secret) && h.is_open) h) known
+
+-- one more invitation of a person was made
+abbrev pub MakesInvitation : ℕ → List Change → List Change → Type 0
+MakesInvitation person old new = (invitation : ℕ) × (digest : List ℕ) × (new ≡ Invited invitation person digest ∷ old)
+
+-- a device of a person was made, with this site and this secret
+abbrev pub MakesDevice : ℕ → ℕ → List ℕ → List Change → List Change → Type 0
+MakesDevice person site secret old new = new ≡ Joined site person (sha256 secret) ∷ old
+
+-- a device of a person that is open has this site and this secret
+abbrev pub HoldsKey : ℕ → ℕ → List ℕ → List Change → Type 0
+HoldsKey person site secret changes =
+    (holder : Holder) × (holder_by secret (device_holder site changes) ≡ Some holder) × (person ≡ holder.person)
+
+-- the documents of other numbers stay
+abbrev pub OthersStay : ℕ → List (Option (List HostEvent)) → List (Option (List HostEvent)) → Type 0
+OthersStay number old new = (k : ℕ) → k ≢ number → slice_get new k ≡ slice_get old k
+
+-- nothing is another but the document of a number
+pub record TouchesDocument (number : ℕ) (old new : Household) : Type 0 where
+  pub changes : new.changes ≡ old.changes
+  pub others : OthersStay number old.documents new.documents

@@ -1,0 +1,91 @@
+//! Calls that touch one of a house's documents, and leave the others.
+ghost use Rattle.std.specs.Prelude.{◌≡◌, IfOk};
+ghost use Rattle.host_house.specs.Household.{OthersStay};
+
+use host_core::{LinkId, Role};
+use host_document::{Document, OpenFault};
+use host_link::{Claim, Ending};
+use host_people::People;
+
+/// A device of a person that comes to a document, and what it says of itself.
+#[derive(Clone, Copy)]
+pub(crate) struct Entrant<'c> {
+    pub(crate) people: &'c People,
+    pub(crate) person: u16,
+    pub(crate) role: Role,
+    pub(crate) claim: &'c Claim,
+}
+
+/// Opens the document of a number, unless it is open.
+pub(crate) fn open_at<'a>(
+    rt: &'a HostRuntime,
+    folder: &str,
+    documents: &mut [Document<'a>],
+    number: usize,
+) -> Result<(), OpenFault>
+    ensures { OthersStay number documents.old documents.new }
+{
+    if number >= documents.len() {
+        return Err(OpenFault::Damaged);
+    }
+    documents[number].open(rt, folder)
+}
+
+// Opens a document, unless it is open, and admits a device.
+fn let_in<'a>(
+    rt: &'a HostRuntime,
+    folder: &str,
+    document: &mut Document<'a>,
+    entrant: &Entrant<'_>,
+) -> Result<LinkId, Ending> {
+    if document.open(rt, folder).is_err() {
+        return Err(Ending::NoDocument);
+    }
+    document.admit(entrant.people, entrant.person, entrant.role, entrant.claim)
+}
+
+/// Admits a device to the document of a number, which is opened.
+pub(crate) fn admit_at<'a>(
+    rt: &'a HostRuntime,
+    folder: &str,
+    documents: &mut [Document<'a>],
+    number: usize,
+    entrant: &Entrant<'_>,
+) -> Result<LinkId, Ending>
+    ensures { OthersStay number documents.old documents.new }
+{
+    if number >= documents.len() {
+        return Err(Ending::NoDocument);
+    }
+    let_in(rt, folder, &mut documents[number], entrant)
+}
+
+// Saves a document and closes it, if it can be saved.
+fn save_and_shut(document: &mut Document<'_>) -> Result<(), Ending> {
+    match document.commit() {
+        Ok(_) => {
+            document.shut();
+            Ok(())
+        }
+        Err(why) => Err(why),
+    }
+}
+
+/// Saves the document of a number and closes it, if it can be saved.
+pub(crate) fn shut_at(documents: &mut [Document<'_>], number: usize) -> Result<(), Ending>
+    ensures { OthersStay number documents.old documents.new }
+{
+    if number >= documents.len() {
+        return Err(Ending::NoDocument);
+    }
+    save_and_shut(&mut documents[number])
+}
+
+/// Closes the document of a number as one that can't be opened.
+pub(crate) fn give_up_at(documents: &mut [Document<'_>], number: usize, fault: OpenFault)
+    ensures { OthersStay number documents.old documents.new }
+{
+    if number < documents.len() {
+        documents[number].give_up(fault);
+    }
+}
