@@ -64,18 +64,33 @@ fn due_certificate(
     Ok(due)
 }
 
+// Whether what is told of frames is the certificate of their journal, of which this is kept.
+fn check_told(
+    alloc: Global,
+    basis: &Basis<Anchors>,
+    frames: &[Frame],
+    told: &[u8],
+) -> Result<(u32, u32), AuditFault>
+    requires journal { AreItems frames.now }
+    requires basis { IsBasisOf (messages_of_frames frames.now) basis.now.log basis.now.elements basis.now.ids }
+    ensures told { IfOk result (IsTold frames.now told.now) }
+    ensures fault { IfErr result (IsFaultOf frames.now told.now) }
+{
+    let counts = (basis.ids.len() as u32, basis.log.len());
+    let due = due_certificate(alloc, basis, frames)?;
+    if due.as_slice() == told {
+        return Ok(counts);
+    }
+    Err(AuditFault::Differs(differing_line(&due, told)))
+}
+
 // Whether what is told of frames is the certificate of their journal.
 fn check(alloc: Global, frames: &[Frame], told: &[u8]) -> Result<(u32, u32), AuditFault>
     ensures told { IfOk result (IsTold frames.now told.now) }
     ensures fault { IfErr result (IsFaultOf frames.now told.now) }
 {
     let basis = Basis::of_frames(alloc, Anchors::new(alloc), frames)?;
-    let counts = (basis.ids.len() as u32, basis.log.len());
-    let due = due_certificate(alloc, &basis, frames)?;
-    if due.as_slice() == told {
-        return Ok(counts);
-    }
-    Err(AuditFault::Differs(differing_line(&due, told)))
+    check_told(alloc, &basis, frames, told)
 }
 
 /// Whether bytes are the frames of a journal within its limits, End, and the journal's certificate; and how many requests

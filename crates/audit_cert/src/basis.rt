@@ -149,6 +149,22 @@ impl<E: Elements> Basis<E> {
         }
     }
 
+    // Takes the messages of a journal in, where none was taken in yet.
+    fn take_items(&mut self, journal: &[JournalItem<'_>]) -> Result<(), CertFail>
+        requires { IsBasisOf [] self.old.log (E.names self.old.elements) self.old.ids }
+        ensures ok { OnOk result (IsBasisOf journal.now self.new.log (E.names self.new.elements) self.new.ids) }
+        ensures fail { IfErr result (IsFailOf journal.now) }
+    {
+        for place in 0..journal.len() {
+            let message = journal[place].copied()?;
+            let taken = self.take(message)?;
+            if !taken {
+                return Err(CertFail::NotJournal(place + 1));
+            }
+        }
+        Ok(())
+    }
+
     /// What is kept of these messages, where no elements are kept yet. Takes time in their number, for each also that of
     /// a look-up among the names and one among the elements, and memory for each name, each element and the log.
     ///
@@ -164,14 +180,28 @@ impl<E: Elements> Basis<E> {
         ensures fail { IfErr result (IsFailOf journal.now) }
     {
         let mut basis = Basis::new(alloc, elements)?;
-        for place in 0..journal.len() {
-            let message = journal[place].copied()?;
-            let taken = basis.take(message)?;
+        basis.take_items(journal)?;
+        Ok(basis)
+    }
+
+    // Takes the messages of frames in, where none was taken in yet.
+    fn take_frames(&mut self, frames: &[Frame]) -> Result<(), AuditFault>
+        requires { IsBasisOf [] self.old.log (E.names self.old.elements) self.old.ids }
+        ensures ok { OnOk result (IsBasisOf (messages_of_frames frames.now) self.new.log (E.names self.new.elements) self.new.ids) }
+        ensures items { OnOk result (AreItems frames.now) }
+        ensures fault { IfErr result (IsFaultIn frames.now) }
+    {
+        for place in 0..frames.len() {
+            let Frame::Item(item) = &frames[place] else {
+                return Err(AuditFault::NotJournal(place + 1));
+            };
+            let message = item.copied()?;
+            let taken = self.take(message)?;
             if !taken {
-                return Err(CertFail::NotJournal(place + 1));
+                return Err(AuditFault::NotJournal(place + 1));
             }
         }
-        Ok(basis)
+        Ok(())
     }
 
     /// What is kept of the messages of frames, as [`Basis::of`] keeps it.
@@ -189,16 +219,7 @@ impl<E: Elements> Basis<E> {
         ensures fault { IfErr result (IsFaultIn frames.now) }
     {
         let mut basis = Basis::new(alloc, elements)?;
-        for place in 0..frames.len() {
-            let Frame::Item(item) = &frames[place] else {
-                return Err(AuditFault::NotJournal(place + 1));
-            };
-            let message = item.copied()?;
-            let taken = basis.take(message)?;
-            if !taken {
-                return Err(AuditFault::NotJournal(place + 1));
-            }
-        }
+        basis.take_frames(frames)?;
         Ok(basis)
     }
 }

@@ -43,6 +43,22 @@ fn certificate_of(
     Ok(lines)
 }
 
+// Appends the certificate of a journal, of which this is kept.
+fn put_certificate(
+    alloc: Global,
+    basis: &Basis<TombSeq>,
+    journal: &[JournalItem<'_>],
+    out: &mut Vec<u8>,
+) -> Result<(), NoMemory>
+    requires { IsBasisOf journal.now basis.now.log (names_in basis.now.elements) basis.now.ids }
+    ensures certificate { OnOk result (out.new.items ≡ out.old.items ++ certificate_bytes journal.now) }
+    ensures unchanged { OnErr result (out.new.items ≡ out.old.items) }
+{
+    let lines = certificate_of(alloc, basis, journal)?;
+    out.extend_from_slice(&lines)?;
+    Ok(())
+}
+
 /// Appends the certificate of a journal.
 ///
 /// The messages are those that a peer gives of its journal, whose entries are lent: one at a time is copied. Takes time
@@ -64,9 +80,8 @@ pub fn certify(
     ensures unchanged { OnErr result (out.new.items ≡ out.old.items) }
 {
     let basis = Basis::of(alloc, TombSeq::new(alloc), journal)?;
-    let lines = certificate_of(alloc, &basis, journal)?;
-    let Ok(()) = out.extend_from_slice(&lines) else {
-        return Err(CertFail::NoMemory);
-    };
-    Ok(())
+    match put_certificate(alloc, &basis, journal, out) {
+        Ok(()) => Ok(()),
+        Err(NoMemory) => Err(CertFail::NoMemory),
+    }
 }

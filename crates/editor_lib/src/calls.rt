@@ -25,11 +25,16 @@ pub extern "C" fn editor_open(alloc: Global, slot: &mut DeskSlot, site: u16) -> 
     let Ok(desk) = Desk::new(alloc, site) else {
         return number(Code::NoMemory);
     };
-    let Ok(boxed) = Box::new(alloc, desk) else {
-        return number(Code::NoMemory);
-    };
-    *slot = DeskSlot::of(boxed);
-    number(Code::Done)
+    match Box::new(alloc, desk) {
+        Ok(boxed) => {
+            *slot = DeskSlot::of(boxed);
+            number(Code::Done)
+        }
+        Err(failed) => {
+            drop(failed);
+            number(Code::NoMemory)
+        }
+    }
 }
 
 /// Opens in an empty slot the desk of a site's peer whose journal the bytes are: the frames of its messages, one behind
@@ -50,11 +55,16 @@ pub extern "C" fn editor_restore(
         Err(JournalFail::Bad) => return number(Code::Bad),
         Err(JournalFail::NoMemory) => return number(Code::NoMemory),
     };
-    let Ok(boxed) = Box::new(alloc, desk) else {
-        return number(Code::NoMemory);
-    };
-    *slot = DeskSlot::of(boxed);
-    number(Code::Done)
+    match Box::new(alloc, desk) {
+        Ok(boxed) => {
+            *slot = DeskSlot::of(boxed);
+            number(Code::Done)
+        }
+        Err(failed) => {
+            drop(failed);
+            number(Code::NoMemory)
+        }
+    }
 }
 
 // Takes the desk out of its slot, asks it for this, and puts it back. Gives the number of the code that it answers.

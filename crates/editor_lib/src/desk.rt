@@ -68,7 +68,9 @@ impl Desk {
             Ok(answer) => answer,
             Err(NoMemory) => return Code::NoMemory,
         };
-        match LastTold::of(alloc, &answer) {
+        let told = LastTold::of(alloc, &answer);
+        drop(answer);
+        match told {
             Ok(told) => {
                 self.told = told;
                 Code::Done

@@ -69,6 +69,7 @@ pub fn feed<S: Source, K: Sink>(alloc: Global, site: u16, source: &mut S, sink: 
     let Ok(peer) = Peer::new(alloc, site) else {
         return Status::NoMemory;
     };
-    let (_, status) = feed_peer(alloc, peer, source, sink);
+    let (peer, status) = feed_peer(alloc, peer, source, sink);
+    drop(peer);
     status
 }

@@ -21,7 +21,9 @@ fn step_line(alloc: Global, peer: &mut Peer, step: Step, out: &mut Vec<u8>) -> R
     ensures peer { OnOk result (peer.new ≡ peer_after peer.old step) }
 {
     let answer = peer.step(step)?;
-    answer_line(alloc, None, &answer, out)
+    let told = answer_line(alloc, None, &answer, out);
+    drop(answer);
+    told
 }
 
 // Appends the line of a settle step's answer but for Quiet, and says whether it is another one.
@@ -43,7 +45,9 @@ fn settle_first(alloc: Global, peer: &mut Peer, out: &mut Vec<u8>) -> Result<boo
     ensures peer { OnOk result (peer.new ≡ peer_after peer.old Step.Settle) }
 {
     let answer = peer.step(Step::Settle)?;
-    put_settled(alloc, &answer, out)
+    let told = put_settled(alloc, &answer, out);
+    drop(answer);
+    told
 }
 
 // Settles what is due, and appends the answers.

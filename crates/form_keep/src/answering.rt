@@ -44,7 +44,9 @@ fn answer_text(alloc: Global, answer: Answer) -> Result<Vec<u8>, NoMemory>
     ensures { IfOk result (λ line. line.items ≡ answer_line None answer) }
 {
     let mut line = Vec::new(alloc);
-    answer_line(alloc, None, &answer, &mut line)?;
+    let told = answer_line(alloc, None, &answer, &mut line);
+    drop(answer);
+    told?;
     Ok(line)
 }
 
@@ -110,7 +112,9 @@ fn shown_closing(alloc: Global, shown: Answer, peer: &Peer) -> Result<Vec<u8>, N
     ensures { IfOk result (λ lines. lines.items ≡ closing_lines peer.now) }
 {
     let mut lines = Vec::new(alloc);
-    closing_lines(alloc, &shown, peer, &mut lines)?;
+    let told = closing_lines(alloc, &shown, peer, &mut lines);
+    drop(shown);
+    told?;
     Ok(lines)
 }
 

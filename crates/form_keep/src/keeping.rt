@@ -91,8 +91,17 @@ fn keep_steps<S: Source, K: Sink, D: Disk>(
     ensures disk_cause { KeepCause (D.faults disk.old) (D.faults disk.new) result }
 {
     let mut store = open_store(alloc, disk, site)?;
-    answer_steps(alloc, &mut store, disk, source, sink)?;
-    closing_text(alloc, &mut store, disk)
+    match answer_steps(alloc, &mut store, disk, source, sink) {
+        Ok(()) => {
+            let closing = closing_text(alloc, &mut store, disk);
+            drop(store);
+            closing
+        }
+        Err(stopped) => {
+            drop(store);
+            Err(stopped)
+        }
+    }
 }
 
 /// Keeps the peer of a site on a disk: makes each step that the source's lines say, and answers it once the disk has it.

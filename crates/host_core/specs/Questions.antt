@@ -1,21 +1,24 @@
 -- What an operation would undo.
-use Rattle.std.specs.Prelude.{◌≡◌, ℕ, Bool, false, ◌&&◌, map, filter, List, Option, None}
+use Rattle.std.specs.Prelude.{◌≡◌, ℕ, Bool, false, ◌&&◌, map, filter, filter_map, List, Option, None}
 use Rattle.std.specs.Option.{option_map_or}
 use Rattle.element_name.specs.Name.{Name}
 use Rattle.element_name.specs.Cases.{when}
 use Rattle.coop_request.specs.Request.{Request}
 use Rattle.policy_book.specs.declared.op.AdminOp.{AdminOp}
 use Rattle.policy_book.specs.Entry.{Entry}
+use Rattle.edit_message.specs.Message.{key_of}
 use Rattle.edit_message.specs.declared.message.Key.{Key}
 use Rattle.edit_message.specs.declared.message.Key.TheVariants.{Coop, Admin}
 use Rattle.request_state.specs.declared.state.State.{State}
 use Rattle.request_state.specs.declared.state.Undone.{Undone}
 use Rattle.request_state.specs.State.{is_tentative, is_invalid}
+use Rattle.peer_step.specs.declared.step.Step.{Step}
 use Rattle.peer_step.specs.declared.step.Step.TheVariants.{Administer}
 use Rattle.peer_step.specs.declared.answer.Answer.{Answer}
 use Rattle.peer_step.specs.declared.answer.Answer.TheVariants.{Issued}
 use Rattle.peer_tables.specs.Undoing.{is_undone_between}
 use Rattle.peer_core.specs.Peer.{Peer, history, log, state_of_name}
+use Rattle.peer_core.specs.Answers.{answer_of}
 use Rattle.peer_core.specs.After.{peer_after}
 
 -- the requests of a peer that are Tentative there, and Invalid by the log of another
@@ -42,3 +45,9 @@ is_undone_name old new n = has_state is_tentative old n && has_state is_invalid 
 abbrev pub undone_by_key : Peer → Peer → Key → Option Name
 undone_by_key old new (Coop n) = when (is_undone_name old new n) n
 undone_by_key old new (Admin version) = None
+
+-- what a step answered at another peer, what it left there, and which requests of the first it undid there
+pub record IsTried (first old new : Peer) (step : Step) (answer : Answer) (names : List Name) : Type 0 where
+  pub answered : answer ≡ answer_of old step
+  pub after : new ≡ peer_after old step
+  pub undone : names ≡ filter_map (λ m. undone_by_key first new (key_of m)) first.journal

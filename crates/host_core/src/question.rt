@@ -5,7 +5,7 @@ ghost use Rattle.edit_message.specs.Message.{key_of};
 ghost use Rattle.request_state.specs.State.{is_tentative, is_invalid};
 ghost use Rattle.peer_step.specs.declared.step.Step.{Step};
 ghost use Rattle.peer_core.specs.Answers.{answer_of};
-ghost use Rattle.host_core.specs.Questions.{names_undone, SaysUndone, has_state, is_undone_name, undone_by_key};
+ghost use Rattle.host_core.specs.Questions.{names_undone, SaysUndone, IsTried, has_state, is_undone_name, undone_by_key};
 
 use edit_message::{Key, Message};
 use element_name::{Name, NoMemory};
@@ -120,6 +120,20 @@ fn undone_names(alloc: Global, before: &Peer, after: &Peer) -> Result<Vec<Name>,
     Ok(names)
 }
 
+// What a step makes at another peer, which has the journal of the first: the answer, and the requests that are undone.
+fn tried(alloc: Global, peer: &Peer, second: &mut Peer, step: Step) -> Result<Outlook, NoMemory>
+    ensures { IfOk result (λ o. IsTried peer.now second.old second.new step o.answer o.undone.items) }
+{
+    let answer = second.step(step)?;
+    match undone_names(alloc, peer, second) {
+        Ok(undone) => Ok(Outlook { answer, undone }),
+        Err(NoMemory) => {
+            drop(answer);
+            Err(NoMemory)
+        }
+    }
+}
+
 /// What an operation would do at a peer, which stays as it is: a second one is made of its journal, in the time and
 /// memory that this takes, and makes the step.
 pub(crate) fn foresee(alloc: Global, peer: &Peer, op: &AdminOp) -> Result<Outlook, NoMemory>
@@ -128,11 +142,14 @@ pub(crate) fn foresee(alloc: Global, peer: &Peer, op: &AdminOp) -> Result<Outloo
     ensures count { IfOk result (λ o. SaysUndone o.answer (length o.undone.items)) }
 {
     peer_core::laws::restored();
+    let step = Step::Administer(op.copied()?);
     let messages = journal_of(alloc, peer)?;
-    let Ok(mut second) = Peer::restore(alloc, peer.site(), &messages) else {
-        return Err(NoMemory);
-    };
-    let answer = second.step(Step::Administer(op.copied()?))?;
-    let undone = undone_names(alloc, peer, &second)?;
-    Ok(Outlook { answer, undone })
+    match Peer::restore(alloc, peer.site(), &messages) {
+        Ok(mut second) => {
+            let outlook = tried(alloc, peer, &mut second, step);
+            drop(second);
+            outlook
+        }
+        Err(_) => Err(NoMemory),
+    }
 }

@@ -1,5 +1,5 @@
 //! A peer that records its steps: what the slot has. Its type keeps that the peer is what the record leads to.
-ghost use Rattle.std.specs.Prelude.{◌≡◌, ◌++◌, ◌∷◌, [], IfOk, OnOk, OnErr, length};
+ghost use Rattle.std.specs.Prelude.{◌≡◌, ◌++◌, ◌∷◌, ◌<◌, [], IfOk, OnOk, OnErr, length, vec_len, vec_capacity};
 ghost use Rattle.peer_core.specs.Peer.{fresh_peer};
 ghost use Rattle.peer_core.specs.Answers.{answer_of};
 ghost use Rattle.peer_lock.specs.Run.{call, peer_after_run, recorded};
@@ -31,6 +31,17 @@ impl Model for Recorder {
     ghost invariant = { λ r. r.peer ≡ peer_after_run (fresh_peer r.site) r.run.items };
 }
 
+// A packed copy of a step, and room for its call behind a run.
+fn packed_copy(run: &mut Vec<Call>, step: &Step) -> Result<PackedStep, NoMemory>
+    ensures copy { IfOk result (λ copy. copy ≡ step.now) }
+    ensures run { run.new.items ≡ run.old.items }
+    ensures room { OnOk result (vec_len run.new < vec_capacity run.new) }
+{
+    run.reserve(1)?;
+    let copy = step.copied()?;
+    PackedStep::of(*run.allocator(), copy)
+}
+
 impl Recorder {
     /// The fresh peer of a site, with an empty run.
     pub fn new(alloc: Global, site: u16) -> Result<Recorder, NoMemory>
@@ -55,9 +66,7 @@ impl Recorder {
         ensures ok { OnOk result (self.new ≡ recorded self.old.site (self.old.run ++ call caller step ∷ [])) }
         ensures err { OnErr result (self.new ≡ self.old) }
     {
-        self.run.reserve(1)?;
-        let copy = step.copied()?;
-        let kept = PackedStep::of(*self.run.allocator(), copy)?;
+        let kept = packed_copy(&mut self.run, &step)?;
         let answer = self.peer.step_by(step, sweep)?;
         self.run.push_reserved(Call { caller, step: kept });
         Ok(answer)

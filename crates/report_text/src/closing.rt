@@ -111,5 +111,7 @@ pub fn closing_lines_of(alloc: Global, peer: &mut Peer, out: &mut Vec<u8>) -> Re
     ensures stays { OnOk result (peer.new ≡ peer.old) }
 {
     let answer = peer.step(Step::Show)?;
-    closing_lines(alloc, &answer, peer, out)
+    let told = closing_lines(alloc, &answer, peer, out);
+    drop(answer);
+    told
 }

@@ -77,7 +77,9 @@ fn take_next<R: Threads + Wait + Sync>(
         → TakenOnce mode backlog s (side pass.old got sent) (side pass.new got sent) result }
 {
     let answer = make(rt, alloc, shared, pass, backlog.step())?;
-    Ok(backlog.is_cleared_by(&answer))
+    let cleared = backlog.is_cleared_by(&answer);
+    drop(answer);
+    Ok(cleared)
 }
 
 /// Takes what is left to do until nothing is left.

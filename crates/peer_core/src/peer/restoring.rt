@@ -45,15 +45,25 @@ fn journal_of(alloc: Global, messages: &[Message]) -> Result<Journal, RestoreFai
     ensures fail { IfErr result (IsRestoreFailOf messages.now) }
 {
     let mut journal = Journal::new(alloc)?;
+    take_all(&mut journal, messages)?;
+    let _ = journal.len();
+    Ok(journal)
+}
+
+// Puts messages last in an empty journal, up to the first that may not be the next.
+fn take_all(journal: &mut Journal, messages: &[Message]) -> Result<(), RestoreFail>
+    requires { journal.old ≡ [] }
+    ensures taken { OnOk result (journal.new ≡ messages.now) }
+    ensures fail { IfErr result (IsRestoreFailOf messages.now) }
+{
     for place in 0..messages.len() {
         let _before = journal.len();
-        let taken = take_next(&mut journal, &messages[place])?;
+        let taken = take_next(journal, &messages[place])?;
         if !taken {
             return Err(RestoreFail::NotJournal(place));
         }
     }
-    let _ = journal.len();
-    Ok(journal)
+    Ok(())
 }
 
 // Puts a message last if it may be the next, and says whether it may.

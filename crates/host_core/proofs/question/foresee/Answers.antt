@@ -1,15 +1,26 @@
-use Rattle.std.proofs.Common.{◌∙◌}
+use Rattle.std.proofs.Common.{◌≡◌, ◌∙◌}
+use Rattle.std.proofs.lemmas.Result.{IfOk-weaker}
+use Rattle.peer_step.specs.declared.step.Step.TheVariants.{Administer}
+use Rattle.host_core.specs.declared.question.Outlook.{Outlook}
+use Rattle.host_core.specs.Questions.{IsTried, names_undone}
 use Rattle.host_core.proofs.Questions.{second_of, answer_alike, after_alike, names_told, as_many}
 use Rattle.host_core.proofs.question.foresee.Goals as goal
 
-pub returns : goal.returns
-returns c =
+pub returns-in-Ok : goal.returns-in-Ok
+returns-in-Ok c =
     let p = c.args.peer.now in
     let op = c.args.op.now in
     let second = c.in-Ok.second in
+    let after = c.tried-outlook.new.second in
     let copy = c.in_ok-copied.field-0 in
+    let own = c.restored.ensures.own in
     let is = second_of p second c.site.result c.in_ok-messages.messages.items c.deref.result.now c.site.ensures.site c.in_ok-messages.ensures c.deref.ensures.value c.in-Ok.ensures.peer in
-    let answered = c.in_ok-answer.ensures.answer ∙ answer_alike p second op copy c.restored.ensures.own is c.in_ok-copied.ensures in
-    let undone = names_told p c.step.new.self op c.in_ok-undone.undone.items c.site.ensures.sound
-    (after_alike p second op copy c.restored.ensures.own is c.in_ok-copied.ensures c.step.new.self c.in_ok-answer.ensures.after) c.in_ok-undone.ensures in
-    record { answer = answered; undone = undone; count = as_many p op c.in_ok-answer.answer c.in_ok-undone.undone.items answered undone }
+    let alike = answer_alike p second op copy own is c.in_ok-copied.ensures in
+    let Told : Outlook → Type 0 = λ (o : Outlook). IsTried p second after (Administer copy) o.answer o.undone.items in
+    let names : (o : Outlook) → Told o → o.undone.items ≡ names_undone p op =
+    λ o t. names_told p after op o.undone.items c.site.ensures.sound (after_alike p second op copy own is c.in_ok-copied.ensures after t.after) t.undone in
+    record {
+      answer = IfOk-weaker c.tried-outlook.result Told _ (λ o t. t.answered ∙ alike) c.tried-outlook.ensures;
+      undone = IfOk-weaker c.tried-outlook.result Told _ names c.tried-outlook.ensures;
+      count = IfOk-weaker c.tried-outlook.result Told _ (λ o t. as_many p op o.answer o.undone.items (t.answered ∙ alike) (names o t)) c.tried-outlook.ensures;
+    }

@@ -11,7 +11,7 @@ returns-clause-talk g c = λ mode s got sent.
     let before = in_phase (clearing c.args.backlog) s in
     talked_made mode before _ c.args.pass.now c.make.new.pass got sent c.step.result c.in_ok-answer.answer c.make.ensures.keeps.same c.in_ok-answer.ensures.makes.steps_are c.in_ok-answer.ensures.makes.answers_are
     (rw c.step.ensures (subst (λ (q : Bool). MayStep mode (clearing c.args.backlog) before (next_step c.args.backlog) c.in_ok-answer.answer (after_clearing mode c.args.backlog q s))
-    (sym c.is_cleared_by.ensures) (may_take mode c.args.backlog s c.in_ok-answer.answer)))
+    (sym c.is_cleared_by-cleared.ensures) (may_take mode c.args.backlog s c.in_ok-answer.answer)))
 
 pub returns-in_err-answer-clause-talk : goal.returns-in_err-answer-clause-talk
 returns-in_err-answer-clause-talk g c =

@@ -12,7 +12,7 @@ invariant_of-self-2 g c =
     let e = call c.args.caller c.in_ok-kept.kept in
     c.in_ok-answer.ensures.after
     ∙ ap (λ p. peer_after p c.args.step) c.self.invariant
-    ∙ ap (λ s. peer_after (peer_after_run start run) s) (sym (c.in_ok-kept.ensures ∙ c.in_ok-copy.ensures))
+    ∙ ap (λ s. peer_after (peer_after_run start run) s) (sym c.in_ok-kept.ensures.copy)
     ∙ sym (peer_after_run-push start run e)
-    ∙ ap (λ r. peer_after_run start (r ++ e ∷ [])) (sym c.reserve.ensures.items)
+    ∙ ap (λ r. peer_after_run start (r ++ e ∷ [])) (sym c.packed_copy.ensures.run)
     ∙ ap (peer_after_run start) (sym c.push_reserved.ensures.items)

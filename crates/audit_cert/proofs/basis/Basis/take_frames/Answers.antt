@@ -7,7 +7,7 @@ use Rattle.audit_cert.specs.Basis.{IsBasisOf}
 use Rattle.audit_cert.specs.Audit.{messages_of_frames}
 use Rattle.audit_cert.proofs.Prefixes.{one_further}
 use Rattle.audit_cert.proofs.Audits.{breaks_here, messages_append, one_item_more, same_item}
-use Rattle.audit_cert.proofs.basis.Basis.of_frames.Goals as goal
+use Rattle.audit_cert.proofs.basis.Basis.take_frames.Goals as goal
 
 pub returns-in_default : goal.returns-in_default
 returns-in_default g c =

@@ -2,7 +2,7 @@ use Rattle.std.proofs.Common.{◌≡◌, ◌++◌, ◌∷◌, [], List, length, 
 use Rattle.std.proofs.lemmas.List.{take_more}
 use Rattle.edit_message.specs.declared.message.Message.{Message}
 use Rattle.peer_tables.specs.Journal.{IsWithin}
-use Rattle.peer_core.proofs.peer.restoring.journal_of.Goals as goal
+use Rattle.peer_core.proofs.peer.restoring.take_all.Goals as goal
 
 -- `search` gives up here, past what it is told of each part of the journal that is let go
 pub returns-then-not-taken-clause-fail : goal.returns-then-not-taken-clause-fail

@@ -4,7 +4,7 @@ use Rattle.edit_message.specs.declared.message.Message.{Message}
 use Rattle.peer_tables.specs.Journal.{IsWithin}
 use Rattle.audit_cert.specs.Basis.{IsBasisOf}
 use Rattle.audit_cert.proofs.Prefixes.{one_further}
-use Rattle.audit_cert.proofs.basis.Basis.of.Goals as goal
+use Rattle.audit_cert.proofs.basis.Basis.take_items.Goals as goal
 
 pub returns-then-not-taken-clause-fail : goal.returns-then-not-taken-clause-fail
 returns-then-not-taken-clause-fail g c =
@@ -35,4 +35,4 @@ pub returns-clause-ok : goal.returns-clause-ok
 returns-clause-ok g c =
     let now = c.loop-place in
     let J = c.args.journal.now in
-    subst (λ (K : List Message). IsBasisOf K now.basis.log (g.E.Elements.names now.basis.elements) now.basis.ids) (take_all now.place J (omega (arith, c.loop-place-test.false))) now.invariant
+    subst (λ (K : List Message). IsBasisOf K now.self.log (g.E.Elements.names now.self.elements) now.self.ids) (take_all now.place J (omega (arith, c.loop-place-test.false))) now.invariant
