@@ -18,7 +18,7 @@ pub(crate) fn granting_auth<P: Places>(places: &P, policy: &Policy, request: Req
 {
     let judged = Judged::There(request.element());
     match first_match(policy, request.user(), request.right(), judged, places) {
-        Some(a) if a.auth.grant => Some(a.number),
+        Some(a) if a.auth.get().grant => Some(a.number),
         _ => None,
     }
 }

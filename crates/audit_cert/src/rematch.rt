@@ -107,7 +107,7 @@ impl RematchTable {
     {
         match op {
             AdminOp::AddUser(user) | AdminOp::DelUser(user) => self.note_user(version, *user),
-            AdminOp::AddAuth(_, auth) => self.note_set(version, &auth.users),
+            AdminOp::AddAuth(_, auth) => self.note_set(version, &auth.get().users),
             AdminOp::DelAuth(place) => match policy.auth(u32::from(*place)) {
                 Some((_, auth)) => self.note_set(version, &auth.users),
                 None => self.note_all(version),

@@ -23,8 +23,8 @@ use crate::numbers::{
 };
 use bytes::Buf;
 use coop_request::{Edit, Piece};
-use element_name::Name;
-use policy_book::{AdminOp, Auth, Extent, NameList, NumList, Rights, UserSet};
+use element_name::{Name, NoMemory};
+use policy_book::{AdminOp, Auth, Extent, NameList, NumList, Rights, SharedAuth, UserSet};
 use std::alloc::Global;
 
 #[tactic(auto, unfolding(crate::specs::Fields::byte_at))]
@@ -150,19 +150,23 @@ fn objects_of(alloc: Global, rest: &mut &[u8]) -> Result<NumList, FieldFail>
 }
 
 #[tactic(auto, unfolding(crate::specs::Fields::auth_at))]
-fn auth_of(alloc: Global, rest: &mut &[u8]) -> Result<Auth, FieldFail>
+fn auth_of(alloc: Global, rest: &mut &[u8]) -> Result<SharedAuth, FieldFail>
     ensures { MayGive result rest.new.now (auth_at rest.old.now) }
 {
     let grant = sign_of(rest)?;
     let rights = rights_of(rest)?;
     let users = user_set_of(alloc, rest)?;
     let objects = objects_of(alloc, rest)?;
-    Ok(Auth {
+    let auth = Auth {
         users,
         rights,
         objects,
         grant,
-    })
+    };
+    match SharedAuth::new(alloc, auth) {
+        Ok(auth) => Ok(auth),
+        Err(NoMemory) => Err(FieldFail::NoMemory),
+    }
 }
 
 #[tactic(auto, unfolding(crate::specs::Fields::operation_by, crate::specs::Fields::operation_at))]

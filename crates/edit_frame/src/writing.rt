@@ -145,7 +145,7 @@ fn put_operation(out: &mut Vec<u8>, op: &AdminOp) -> Result<(), AllocError>
         }
         AdminOp::AddAuth(place, auth) => {
             put_short(out, *place)?;
-            put_auth(out, auth)
+            put_auth(out, auth.get())
         }
         AdminOp::Validate(n) => put_name(out, *n),
         AdminOp::AddMember { group, user } | AdminOp::DelMember { group, user } => {

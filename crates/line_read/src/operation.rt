@@ -10,7 +10,7 @@ use crate::sets::{read_names, read_numbers, read_rights, read_sign, read_users};
 use crate::words::are_none;
 use element_name::NoMemory;
 use line_spelling::LineFail;
-use policy_book::{AdminOp, Auth, Extent, NameList};
+use policy_book::{AdminOp, Auth, Extent, NameList, SharedAuth};
 use std::alloc::Global;
 
 fn one_name_list(alloc: Global, args: &[&[u8]]) -> Result<NameList, LineFail>
@@ -79,7 +79,10 @@ fn read_auth(alloc: Global, args: &[&[u8]]) -> Result<AdminOp, LineFail>
         objects,
         grant,
     };
-    Ok(AdminOp::AddAuth(place, auth))
+    match SharedAuth::new(alloc, auth) {
+        Ok(auth) => Ok(AdminOp::AddAuth(place, auth)),
+        Err(NoMemory) => Err(LineFail::NoMemory),
+    }
 }
 
 // An operation by its first word and the others.

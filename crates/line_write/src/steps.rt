@@ -87,7 +87,7 @@ fn put_operation(line: &mut Vec<u8>, op: &AdminOp) -> Result<(), NoMemory>
         AdminOp::DelMember { group, user } => put_paired(line, b"delmember", *group, *user),
         AdminOp::AddAuth(place, auth) => {
             put_numbered(line, b"addauth", *place)?;
-            put_auth(line, auth)
+            put_auth(line, auth.get())
         }
         AdminOp::DelAuth(place) => put_numbered(line, b"delauth", *place),
         AdminOp::Validate(name) => {

@@ -1,5 +1,7 @@
 -- What goes to other threads, or is lent to them: type by type, so that each search is short.
 use denote.Param.Send.{IsSend, IsSync, sendable}
+use denote.Enum.Enum.{Enum}
+use denote.Enum.Declared.{shape}
 use Rattle.std.proofs.Crossing.{send, sync, crosses}
 use Rattle.std.proofs.MapsCrossing as maps
 use Rattle.atomic_table.proofs.shared.Seat.TheSendSync as seat
@@ -9,6 +11,7 @@ use Rattle.ghost_list.proofs.ghost_list.GhostList.TheSendSync as ghost_list
 use Rattle.policy_book.specs.contracts.op.AdminOp as AdminOp
 use Rattle.policy_book.specs.contracts.op.Entry as Entry
 use Rattle.policy_book.specs.contracts.policy.Policy as Policy
+use Rattle.edit_message.specs.contracts.message.Message as Message
 use Rattle.edit_message.specs.contracts.packed_message.PackedMessage as PackedMessage
 use Rattle.peer_step.specs.contracts.packed_step.PackedStep as PackedStep
 use Rattle.admin_log.specs.contracts.log.AdminLog as AdminLog
@@ -16,6 +19,7 @@ use Rattle.request_state.specs.contracts.table.StateTable as StateTable
 use Rattle.elem_show.specs.contracts.table.ElemTable as ElemTable
 use Rattle.tomb_seq.specs.contracts.seq.TombSeq as TombSeq
 use Rattle.hold_back.specs.contracts.hold.HoldBack as HoldBack
+use Rattle.peer_step.specs.contracts.step.LocalEdit as LocalEdit
 use Rattle.peer_step.specs.contracts.step.Step as Step
 use Rattle.peer_tables.specs.contracts.journal.Journal as Journal
 use Rattle.peer_core.specs.contracts.peer.Peer as Peer
@@ -28,10 +32,20 @@ ruleset plain = (sendable, crosses, maps.crosses)
 
 -- ---- steps
 
-pub Step-sync : IsSync Step.the_row
-Step-sync = search plain depth 100 fits 100000
+-- as rows of a step
+LocalEdit-sync : IsSync (Enum (shape LocalEdit.the_type))
+LocalEdit-sync = search plain depth 100 fits 100000
 
-AdminOp-send : IsSend AdminOp.the_row
+AdminOp-sync : IsSync (Enum (shape AdminOp.the_type))
+AdminOp-sync = search plain depth 100 fits 100000
+
+Message-sync : IsSync (Enum (shape Message.the_type))
+Message-sync = search plain depth 100 fits 100000
+
+pub Step-sync : IsSync Step.the_row
+Step-sync = search (LocalEdit-sync, AdminOp-sync, Message-sync, plain) depth 100 fits 100000
+
+AdminOp-send : IsSend (Enum (shape AdminOp.the_type))
 AdminOp-send = search plain depth 100 fits 100000
 
 Entry-send : IsSend Entry.the_row

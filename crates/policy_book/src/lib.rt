@@ -16,6 +16,7 @@ mod parts;
 mod policy;
 mod ranges;
 mod reach;
+mod shared;
 mod tables;
 
 pub use auth::{Auth, Extent, Rights, UserSet};
@@ -26,3 +27,4 @@ pub use op::{AdminOp, Entry};
 pub use parts::{Group, Members, NumberedAuth, Object};
 pub use policy::Policy;
 pub use reach::{Reach, UserRow};
+pub use shared::SharedAuth;

@@ -3,8 +3,9 @@ ghost use Rattle.std.specs.Prelude.{◌≡◌, ◌↔◌, IfOk, IsTrue};
 ghost use Rattle.element_name.specs.Cases.{when};
 ghost use Rattle.policy_book.specs.Entry.{is_entry_version, is_entry};
 
-use crate::auth::{Auth, Extent};
+use crate::auth::Extent;
 use crate::ranges::operation_in_range;
+use crate::shared::SharedAuth;
 use element_name::{MAX_VERSION, Name, NoMemory};
 use std::marker::Model;
 
@@ -20,7 +21,7 @@ pub enum AdminOp {
     AddMember { group: u16, user: u16 },
     DelMember { group: u16, user: u16 },
     /// The authorization is put at this place, from 0, and later ones move up.
-    AddAuth(u16, Auth),
+    AddAuth(u16, SharedAuth),
     /// The authorization at this place, from 0, is removed.
     DelAuth(u16),
     /// The request of this name is confirmed. It changes no policy.
@@ -63,14 +64,14 @@ impl AdminOp {
             (AdminOp::DelMember { group, user }, AdminOp::DelMember { group: g, user: u }) => *group
                 == *g
                 && *user == *u,
-            (AdminOp::AddAuth(a, x), AdminOp::AddAuth(b, y)) => *a == *b && x.same(y),
+            (AdminOp::AddAuth(a, x), AdminOp::AddAuth(b, y)) => *a == *b && x.get().same(y.get()),
             (AdminOp::DelAuth(a), AdminOp::DelAuth(b)) => *a == *b,
             (AdminOp::Validate(a), AdminOp::Validate(b)) => *a == *b,
             (_, _) => false,
         }
     }
 
-    /// An operation that equals this one. Its lists have the same allocators.
+    /// An operation that equals this one. Its lists have the same allocators, and an authorization is shared.
     pub fn copied(&self) -> Result<AdminOp, NoMemory>
         ensures { IfOk result (λ c. c ≡ self.now) }
     {
@@ -89,7 +90,7 @@ impl AdminOp {
                 group: *group,
                 user: *user,
             },
-            AdminOp::AddAuth(place, auth) => AdminOp::AddAuth(*place, auth.copied()?),
+            AdminOp::AddAuth(place, auth) => AdminOp::AddAuth(*place, auth.shared()?),
             AdminOp::DelAuth(place) => AdminOp::DelAuth(*place),
             AdminOp::Validate(name) => AdminOp::Validate(*name),
         };
@@ -116,7 +117,7 @@ impl Entry {
         self.version == other.version && self.op.same(&other.op)
     }
 
-    /// An entry that equals this one. Its lists have the same allocators.
+    /// An entry that equals this one, copied as its operation is.
     pub fn copied(&self) -> Result<Entry, NoMemory>
         ensures { IfOk result (λ c. c ≡ self.now) }
     {

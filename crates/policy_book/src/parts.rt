@@ -3,9 +3,10 @@ ghost use Rattle.std.specs.Prelude.{◌≡◌, [], length, OnOk, OnErr};
 ghost use Rattle.element_name.specs.Numbered.{put_by, without};
 ghost use Rattle.policy_book.specs.Lists.{has_number};
 
-use crate::auth::{Auth, Extent};
+use crate::auth::Extent;
 use crate::copied::Copied;
 use crate::numbered::{Numbered, put, take_out};
+use crate::shared::SharedAuth;
 use element_name::NoMemory;
 use std::alloc::Global;
 use std::marker::Model;
@@ -42,7 +43,7 @@ pub struct Group {
 #[derive(Drop)]
 pub struct NumberedAuth {
     pub number: u32,
-    pub auth: Auth,
+    pub auth: SharedAuth,
 }
 
 impl Members {
@@ -122,7 +123,7 @@ impl Copied for NumberedAuth {
     fn copied(&self) -> Result<NumberedAuth, NoMemory> {
         Ok(NumberedAuth {
             number: self.number,
-            auth: self.auth.copied()?,
+            auth: self.auth.shared()?,
         })
     }
 }

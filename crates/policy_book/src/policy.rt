@@ -134,7 +134,7 @@ impl Policy {
         ensures value { option_map (λ a. a.1.now) result ≡ option_map (λ a. a.auth) (slice_get self.now.auths place) }
     {
         match self.tables.auths.get(place as usize) {
-            Some(a) => Some((a.number, &a.auth)),
+            Some(a) => Some((a.number, a.auth.get())),
             None => None,
         }
     }
@@ -299,9 +299,9 @@ impl Policy {
         ensures { result ≡ is_vacuous self.now op.now }
     {
         match op {
-            AdminOp::AddAuth(_, auth) => self.lacks_objects(auth),
+            AdminOp::AddAuth(_, auth) => self.lacks_objects(auth.get()),
             AdminOp::DelAuth(place) => match self.tables.auths.get(usize::from(*place)) {
-                Some(a) => self.lacks_objects(&a.auth),
+                Some(a) => self.lacks_objects(a.auth.get()),
                 None => false,
             },
             AdminOp::AddObj(object, _) => !self.names_object(*object),
@@ -320,7 +320,7 @@ impl Policy {
         ensures { result ≡ names_object self.now object }
     {
         let auths = &self.tables.auths;
-        auths.iter().any(|a| a.auth.objects.has(object))
+        auths.iter().any(|a| a.auth.get().objects.has(object))
     }
 
     fn lacks_objects(&self, auth: &Auth) -> bool
@@ -349,9 +349,9 @@ impl Policy {
             AdminOp::AddMember { user, .. } => Reach::of_one(*user),
             AdminOp::DelMember { user, .. } => Reach::of_one(*user),
             AdminOp::AddObj(..) | AdminOp::DelObj(_) | AdminOp::DelGroup(_) => Reach::Everyone,
-            AdminOp::AddAuth(_, auth) => Reach::of_added(auth),
+            AdminOp::AddAuth(_, auth) => Reach::of_added(auth.get()),
             AdminOp::DelAuth(place) => match self.tables.auths.get(usize::from(*place)) {
-                Some(a) => Reach::of_removed(&a.auth),
+                Some(a) => Reach::of_removed(a.auth.get()),
                 None => Reach::Everyone,
             },
         }

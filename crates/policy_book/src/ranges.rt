@@ -81,7 +81,7 @@ pub fn operation_in_range(op: &AdminOp)
         }
         AdminOp::AddAuth(place, auth) => {
             short_in_range(*place);
-            auth_in_range(auth);
+            auth_in_range(auth.get());
         }
         AdminOp::Validate(name) => name_in_range(*name),
     }

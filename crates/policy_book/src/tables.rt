@@ -4,11 +4,12 @@ ghost use Rattle.element_name.specs.Numbered.{is_rising, put_by, without};
 ghost use Rattle.policy_book.specs.Policy.{IsWithinLimits, IsLegal, policy_after, with_members};
 ghost use Rattle.policy_book.specs.Tables.{policy_in_tables};
 
-use crate::auth::{Auth, Extent};
+use crate::auth::Extent;
 use crate::copied::copies;
 use crate::numbered::{put, take_out};
 use crate::op::AdminOp;
 use crate::parts::{Group, Members, NumberedAuth, Object};
+use crate::shared::SharedAuth;
 use element_name::NoMemory;
 
 /// The lists of a policy: all but the authorizations ascend by their numbers.
@@ -105,13 +106,13 @@ fn put_auth(
     auths: &mut Vec<NumberedAuth>,
     place: u16,
     version: u32,
-    auth: &Auth,
+    auth: &SharedAuth,
 ) -> Result<(), NoMemory>
     requires { place ≤ length auths.old.items }
     ensures ok { OnOk result (auths.new.items ≡ insert auths.old.items place (record { number = version; auth = auth.now })) }
     ensures err { OnErr result (auths.new.items ≡ auths.old.items) }
 {
-    let auth = auth.copied()?;
+    let auth = auth.shared()?;
     let number = version;
     auths.insert(usize::from(place), NumberedAuth { number, auth })?;
     Ok(())
