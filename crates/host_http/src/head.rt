@@ -88,7 +88,7 @@ fn get_of(
 }
 
 /// What these bytes ask for, which are the beginning of what a connection sends. A page of a place that isn't among the
-/// origins is refused a link.
+/// origins is refused a link, and a request of HTTP/1.1 that names no host is none.
 pub fn read_head(
     alloc: Global,
     routes: &Routes,
@@ -102,11 +102,13 @@ pub fn read_head(
         Ok(Parsed::Partial) => return Ok(Asked::Refused(Status::HeadTooLong)),
         Err(_) => return Ok(Asked::Refused(Status::BadRequest)),
     };
+    let fields = spans.get(..found.headers).unwrap_or(&[]);
+    if found.version == 1 && field(head, fields, b"host").is_none() {
+        return Ok(Asked::Refused(Status::BadRequest));
+    }
     let Ok(key) = check_request(head, &found, &spans) else {
-        let fields = spans.get(..found.headers).unwrap_or(&[]);
         return get_of(alloc, routes, head, &found, fields);
     };
-    let fields = spans.get(..found.headers).unwrap_or(&[]);
     if !origins.allow(field(head, fields, b"origin")) {
         return Ok(Asked::Refused(Status::Forbidden));
     }
