@@ -15,6 +15,8 @@ pub enum Status {
     NotFound,
     /// It isn't `GET`.
     MethodNotAllowed,
+    /// A link is asked for by another version of WebSockets.
+    UpgradeRequired,
     /// The head is longer than [`MAX_HEAD`](crate::MAX_HEAD) bytes.
     HeadTooLong,
     /// What stands there can't be had now.
@@ -30,8 +32,23 @@ impl Status {
             Status::Forbidden => "403 Forbidden",
             Status::NotFound => "404 Not Found",
             Status::MethodNotAllowed => "405 Method Not Allowed",
+            Status::UpgradeRequired => "426 Upgrade Required",
             Status::HeadTooLong => "431 Request Header Fields Too Large",
             Status::Unavailable => "503 Service Unavailable",
+        }
+    }
+
+    // The field that says what is to be done instead, with its line end; none of most.
+    fn field(self) -> &'static str {
+        match self {
+            Status::Unauthorized => "WWW-Authenticate: Bearer\r\n",
+            Status::MethodNotAllowed => "Allow: GET\r\n",
+            Status::UpgradeRequired => "Sec-WebSocket-Version: 13\r\n",
+            Status::BadRequest
+            | Status::Forbidden
+            | Status::NotFound
+            | Status::HeadTooLong
+            | Status::Unavailable => "",
         }
     }
 }
@@ -39,8 +56,9 @@ impl Status {
 /// An answer without a body. The connection is closed behind it.
 pub fn status_answer(alloc: Global, status: Status) -> Result<Vec<u8>, AllocError> {
     let words = status.words();
+    let field = status.field();
     let text = format!(in alloc;
-        "HTTP/1.1 {words}\r\nContent-Length: 0\r\nConnection: close\r\n\r\n"
+        "HTTP/1.1 {words}\r\n{field}Content-Length: 0\r\nConnection: close\r\n\r\n"
     )?;
     Ok(text.into_bytes())
 }

@@ -9,6 +9,7 @@ use httparse::Status as Parsed;
 use httparse::spans::{EMPTY_HEADER_SPAN, HeaderSpan, RequestSpans, parse_request};
 use std::alloc::{AllocError, Global};
 use std::str;
+use websocket::handshake::HandshakeError;
 use websocket::handshake::server::check_request;
 
 /// What the head of a request asks for.
@@ -106,8 +107,12 @@ pub fn read_head(
     if found.version == 1 && field(head, fields, b"host").is_none() {
         return Ok(Asked::Refused(Status::BadRequest));
     }
-    let Ok(key) = check_request(head, &found, &spans) else {
-        return get_of(alloc, routes, head, &found, fields);
+    let key = match check_request(head, &found, &spans) {
+        Ok(key) => key,
+        Err(HandshakeError::MissingSecWebSocketVersionHeader) => {
+            return Ok(Asked::Refused(Status::UpgradeRequired));
+        }
+        Err(_) => return get_of(alloc, routes, head, &found, fields),
     };
     if !origins.allow(field(head, fields, b"origin")) {
         return Ok(Asked::Refused(Status::Forbidden));

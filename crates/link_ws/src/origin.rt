@@ -1,10 +1,10 @@
-//! Which pages of a browser may ask for a link.
+//! Who may ask for a link: a program that names a host, and no page from elsewhere.
 ghost use Rattle.std.specs.Prelude.{◌≡◌};
 ghost use Rattle.std.specs.List.{list_all};
 ghost use Rattle.std.specs.Char.{is_ascii_digit};
 ghost use Rattle.link_ws.specs.Origins.{is_port, is_origin_at, is_local_origin};
 
-use http::header::ORIGIN;
+use http::header::{HOST, ORIGIN};
 use http::{Request, Response, StatusCode};
 use std::alloc::Global;
 use tungstenite::Callback;
@@ -13,7 +13,7 @@ use tungstenite::handshake::server::ErrorResponse;
 // What stands between a host and its port.
 const COLON: u8 = b':';
 
-/// Takes a request that no page makes, or a page of this machine, and refuses any other one.
+/// Takes a request that no page makes, or a page of this machine, and refuses any other one, and one that names no host.
 #[derive(Drop)]
 pub(crate) struct LocalPages {
     pub(crate) alloc: Global,
@@ -55,6 +55,13 @@ fn is_local_origin(origin: &[u8]) -> bool
         || is_origin_at(origin, b"https://[::1]")
 }
 
+// The answer of this status to a request that is refused.
+fn refused(alloc: Global, status: StatusCode) -> ErrorResponse {
+    let mut answer = Response::new(alloc, None);
+    *answer.status_mut() = status;
+    answer
+}
+
 impl Callback for LocalPages {
     fn on_request(
         self,
@@ -62,11 +69,12 @@ impl Callback for LocalPages {
         response: Response<()>,
     ) -> Result<Response<()>, ErrorResponse> {
         let LocalPages { alloc } = self;
+        if request.headers().get(HOST).is_none() {
+            return Err(refused(alloc, StatusCode::BAD_REQUEST));
+        }
         for origin in request.headers().get_all(ORIGIN) {
             if !is_local_origin(origin.as_bytes()) {
-                let mut refusal = Response::new(alloc, None);
-                *refusal.status_mut() = StatusCode::FORBIDDEN;
-                return Err(refusal);
+                return Err(refused(alloc, StatusCode::FORBIDDEN));
             }
         }
         Ok(response)
