@@ -2,7 +2,7 @@
 ghost use Rattle.std.specs.Prelude.{◌≡◌, ◌<◌, ◌^◌, length, bytes_eq};
 
 /// Whether the bytes are equal. It passes over all of them, wherever they differ first.
-pub(crate) fn same_bytes(a: &[u8], b: &[u8]) -> bool
+pub fn same_bytes(a: &[u8], b: &[u8]) -> bool
     requires same_length { length a.now ≡ length b.now }
     requires short { length a.now < 2 ^ 32 }
     ensures { result ≡ bytes_eq a.now b.now }

@@ -16,6 +16,7 @@ mod question;
 mod refusal;
 mod register;
 
+pub use digest::same_bytes;
 pub use event::{Device, Hello, HostEvent, LinkId, OpenLink, Role};
 pub use host::Host;
 pub use keeper::{KeepFail, Keeper};
