@@ -1,13 +1,13 @@
-// What a person writes, as edits. Keys are held for a word, or until there was none for a while, as one replacement that shows at once
-// and that the peer doesn't have yet. His own edits can be undone by him, whatever came in between.
+// What a person writes, as edits. Keys are held for a word, a short one together with the next, or until there was none for a while, as one
+// replacement that shows at once and that the peer doesn't have yet. His own edits can be undone by him, whatever came in between.
 import { caretAt, offsetOf } from './caret.mjs';
 import { cut, difference, merged } from './difference.mjs';
 import { MOST_PIECE_BYTES } from './limits.mjs';
 
 const HOLD_MS = 500; // without a key
+const LEAST_HELD = 8; // letters, behind which the end of a word ends what is held
 const MOST_HELD = 120; // letters
 const MOST_UNDO = 200;
-const WORD_ENDS = /\s$/;
 const encoder = new TextEncoder();
 
 /**
@@ -26,6 +26,14 @@ const encoder = new TextEncoder();
 const fits = (piece) => piece !== '' && encoder.encode(piece).length <= MOST_PIECE_BYTES;
 const isBefore = (a, b) => a.stamp < b.stamp || (a.stamp === b.stamp && a.user < b.user);
 const isNear = (a, b) => a.start <= b.end && b.start <= a.end;
+
+/**
+ * Whether what was typed last ends what is held.
+ *
+ * @param {string} text
+ * @param {string} held
+ */
+const isEnough = (text, held) => held.length > MOST_HELD || text === '\n' || (/\s$/.test(text) && held.length >= LEAST_HELD);
 
 export class Writer {
   /**
@@ -125,7 +133,7 @@ export class Writer {
     const to = end > last ? this.inPeer(end, hold) : of.end;
     const held = { from: caretAt(this.copy, from), to: caretAt(this.copy, Math.max(from, to)), text: front + text + back };
     this.held = held;
-    const isDone = !isTyped || WORD_ENDS.test(text) || held.text.length > MOST_HELD || !this.seemsAllowed();
+    const isDone = !isTyped || isEnough(text, held.text) || !this.seemsAllowed();
     if (!isDone) this.wait();
     return isDone && !this.flush() ? from : from + front.length + text.length;
   }

@@ -14,24 +14,50 @@ function keys(side, at, text) {
 test('keys are held for a word', async () => {
   const [administrator, user] = administratorAndUser();
   await timed((pass) => {
-    keys(user, 0, 'Tea');
-    assert.deepEqual([user.text, user.copy.pieces.text, editsOf(user)], ['Tea', '', 0]);
-    keys(user, 3, ' ');
+    keys(user, 0, 'Teacups');
+    assert.deepEqual([user.text, user.copy.pieces.text, editsOf(user)], ['Teacups', '', 0]);
+    keys(user, 7, ' ');
     assert.equal(editsOf(user), 1);
-    keys(user, 4, 'now');
+    keys(user, 8, 'in a'); // short words wait for the next
+    assert.equal(editsOf(user), 1);
+    keys(user, 12, ' box ');
+    assert.equal(editsOf(user), 2);
+    keys(user, 17, 'now');
     pass(400);
-    assert.equal(editsOf(user), 1);
+    assert.equal(editsOf(user), 2);
     pass(200);
-    assert.deepEqual([user.copy.pieces.text, editsOf(user)], ['Tea now', 2]);
-    user.writer.write(1, 3, '', true); // within a word: one change
+    assert.deepEqual([user.copy.pieces.text, editsOf(user)], ['Teacups in a box now', 3]);
+    user.writer.write(1, 7, '', true); // within a word: one change
     keys(user, 1, 'oast');
     pass(600);
-    assert.deepEqual([user.copy.pieces.text, editsOf(user)], ['Toast now', 3]);
-    keys(user, 9, '?');
+    assert.deepEqual([user.copy.pieces.text, editsOf(user)], ['Toast in a box now', 4]);
+    keys(user, 18, '?');
     user.writer.write(0, 0, '', true); // elsewhere: what is held goes
-    assert.equal(user.copy.pieces.text, 'Toast now?');
+    assert.equal(user.copy.pieces.text, 'Toast in a box now?');
   });
   exchange(administrator, user);
+});
+
+test('what is deleted before it goes costs nothing', async () => {
+  const [, user] = administratorAndUser('one ');
+  await timed((pass) => {
+    const before = editsOf(user);
+    keys(user, 4, 'twp');
+    user.writer.write(6, 7, '', true);
+    keys(user, 6, 'o three');
+    assert.equal(editsOf(user), before);
+    keys(user, 13, ' ');
+    assert.deepEqual([user.copy.pieces.text, editsOf(user) - before], ['one two three ', 1]);
+    keys(user, 14, 'no');
+    for (const end of [16, 15]) user.writer.write(end - 1, end, '', true);
+    pass(600);
+    assert.deepEqual([user.text, editsOf(user) - before], ['one two three ', 1]);
+    keys(user, 14, '\n'); // a line's end goes at once
+    assert.equal(editsOf(user) - before, 2);
+    keys(user, 15, 'x'.repeat(300)); // in pieces that fit
+    pass(600);
+    assert.deepEqual([user.copy.pieces.text.length, editsOf(user) - before], [315, 5]);
+  });
 });
 
 test('what others write beside what is held', async () => {
