@@ -2,7 +2,7 @@
 import { offsetOf } from './caret.mjs';
 import { difference } from './difference.mjs';
 
-const MOST_REFUSED = 8;
+const MOST_REFUSED = 8; // words that weren't let in
 const MOST_GONE = 1000; // that were let go
 
 /**
@@ -12,7 +12,7 @@ const MOST_GONE = 1000; // that were let go
  * @typedef {{ key: string, user: number, text: string, denial: Denial | null, answer: string, caret: import('./caret.mjs').Caret }} Refused
  * @typedef {{ key: string, keys: string[], offset: number, user: number, text: string, denial: Denial | null, answer: string,
  *   isRefused: boolean }} Ghost
- * @typedef {{ key: string, offset: number, user: number, text: string, denial: Denial, behind: string | null }} Lost
+ * @typedef {{ key: string, keys: string[], offset: number, user: number, text: string, denial: Denial, behind: string | null }} Lost
  */
 
 export class Ghosts {
@@ -27,9 +27,13 @@ export class Ghosts {
     this.key = key;
     /** @type {Set<string>} the names of those that were let go */
     this.gone = new Set(JSON.parse(storage.getItem(key) ?? '[]'));
-    /** @type {Refused[]} */
-    this.refused = [];
-    this.count = 0;
+    /** @type {Refused[]} they stay where the page is loaded again */
+    this.refused = JSON.parse(storage.getItem(this.refusedKey) ?? '[]');
+    this.count = this.refused.reduce((most, { key }) => Math.max(most, Number(key.split(' ')[1]) + 1), 0);
+  }
+
+  get refusedKey() {
+    return `${this.key}: refused`;
   }
 
   /**
@@ -44,6 +48,11 @@ export class Ghosts {
     const last = this.refused.at(-1);
     if (last && last.answer === answer && last.caret.name === caret.name && last.caret.inside === caret.inside) last.text += text;
     else this.refused = [...this.refused.slice(1 - MOST_REFUSED), { key: `refused ${this.count++}`, user: this.copy.site, text, denial, answer, caret }];
+    this.keepRefused();
+  }
+
+  keepRefused() {
+    this.storage.setItem(this.refusedKey, JSON.stringify(this.refused));
   }
 
   /**
@@ -57,20 +66,34 @@ export class Ghosts {
     return [...shown, ...this.standing()].sort((a, b) => a.offset - b.offset);
   }
 
-  // What was undone and isn't there otherwise, by the names of elements, the last.
+  // What was undone and isn't there otherwise, by the names of elements.
   lost() {
     const { copy } = this;
     /** @type {Map<string, Lost>} */
     const all = new Map();
-    for (const { request, denial } of copy.undone.requests) {
-      const { name, user, edit } = request;
+    for (const it of copy.undone.requests) {
+      const { name, edit } = it.request;
       const element = edit.kind === 'insert' ? name : edit.name;
       if (edit.kind === 'delete' || this.gone.has(name) || copy.deleted.has(element)) continue;
-      const { offset, text } = edit.kind === 'insert' ? this.lostPiece(name, edit.piece) : this.lostChange(element, edit.piece);
-      if (text) all.set(element, { key: name, offset, user, text, denial, behind: edit.kind === 'insert' ? edit.name : null });
+      const lost = this.lostBy(it, all.get(element) ?? null);
+      if (lost.text) all.set(element, lost);
       else all.delete(element);
     }
     return all;
+  }
+
+  /**
+   * What was lost by a request that was undone, behind what was lost of the same element before.
+   *
+   * @param {{ request: import('./lines.mjs').EditRequest, denial: Denial }} undone
+   * @param {Lost | null} before
+   * @returns {Lost}
+   */
+  lostBy({ request: { name, user, edit }, denial }, before) {
+    if (edit.kind === 'insert') return { key: name, keys: [name], ...this.lostPiece(name, edit.piece), user, denial, behind: edit.name };
+    const keys = [...(before?.keys ?? []), name];
+    if (before?.key === edit.name) return { ...before, text: edit.piece, keys }; // of a piece that isn't there either
+    return { key: name, keys, ...this.lostChange(edit.name, edit.piece), user, denial, behind: null };
   }
 
   /**
@@ -107,6 +130,7 @@ export class Ghosts {
   letGo({ keys }) {
     keys.forEach((it) => this.gone.add(it));
     this.refused = this.refused.filter(({ key }) => !this.gone.has(key));
+    this.keepRefused();
     const kept = [...this.gone].filter((it) => !it.startsWith('refused ')).slice(-MOST_GONE);
     this.storage.setItem(this.key, JSON.stringify(kept));
   }
@@ -136,13 +160,13 @@ function ordered(all) {
  * @param {Lost[]} row
  */
 function joined(row) {
-  /** @type {(Lost & { keys: string[] })[]} */
+  /** @type {Lost[]} */
   const all = [];
   for (const it of row) {
     const last = all.at(-1);
     const isSame = last && last.offset === it.offset && last.user === it.user && last.denial.version === it.denial.version && last.denial.by === it.denial.by;
-    if (isSame) Object.assign(last, { text: last.text + it.text, keys: [...last.keys, it.key] });
-    else all.push({ ...it, keys: [it.key] });
+    if (isSame) Object.assign(last, { text: last.text + it.text, keys: [...last.keys, ...it.keys] });
+    else all.push({ ...it });
   }
   return all;
 }

@@ -28,9 +28,25 @@ test('what was undone stands at its place', () => {
   assert.equal(told(again).length, 2);
 });
 
+test('what was undone and had been changed stands as it was last', () => {
+  const [administrator, user] = administratorAndUser('Tea.');
+  const ghosts = new Ghosts(user.copy, storage(), 'let go');
+  user.type(4, 4, ' Milk');
+  user.type(9, 9, ' and sugar'); // behind it
+  user.type(5, 9, 'Cream');
+  user.type(0, 3, 'Tee');
+  user.type(0, 3, 'Thee');
+  administrator.copy.step('admin addauth 0 - 1 idu 0');
+  exchange(administrator, user);
+  assert.deepEqual(told(ghosts), [[3, 'hee', 1, false], [4, ' Cream and sugar', 1, false]]);
+  ghosts.all().forEach((it) => ghosts.letGo(it));
+  assert.deepEqual(told(ghosts), []);
+});
+
 test('words that were not let in', () => {
   const [, user] = administratorAndUser('Tea at four.');
-  const ghosts = new Ghosts(user.copy, storage(), 'let go');
+  const kept = storage();
+  const ghosts = new Ghosts(user.copy, kept, 'let go');
   const at = caretAt(user.copy, 3);
   ghosts.refuse({ at, text: 'n' }, { version: 1, by: 0 }, 'denied 1 none');
   ghosts.refuse({ at, text: 'o' }, { version: 1, by: 0 }, 'denied 1 none'); // behind it: one
@@ -38,6 +54,9 @@ test('words that were not let in', () => {
   assert.deepEqual(told(ghosts), [[3, 'no', 1, true]]);
   user.type(0, 0, 'Hot ');
   assert.deepEqual(told(ghosts), [[7, 'no', 1, true]]);
-  ghosts.letGo(ghosts.all()[0]);
-  assert.deepEqual(told(ghosts), []);
+  const again = new Ghosts(user.copy, kept, 'let go'); // the page is loaded again
+  assert.deepEqual(told(again), [[7, 'no', 1, true]]);
+  again.refuse({ at: caretAt(user.copy, 0), text: 'x' }, null);
+  again.letGo(again.all().at(-1));
+  assert.deepEqual(told(again), [[0, 'x', 1, true]]);
 });

@@ -72,6 +72,7 @@ export class Page {
     this.carets = new Carets(this.presence, this.surface, this.writer);
     this.finder = new Finder(this.editor);
     this.sync = this.linked(marks);
+    this.writer.resume(this.sync.waiting);
     this.rules = new Rules(copy, this.editor, this.sync.line.orders, () => this.settled());
     this.people = new People(this.sync.line.orders, copy.site, this.rules);
     this.keys = new Keys(this.sync.line.orders, copy.site);

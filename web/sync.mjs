@@ -59,6 +59,12 @@ export class Sync {
     return this.own.length - this.back;
   }
 
+  // The places in the journal of this device's requests that aren't known to be saved by the host.
+  get waiting() {
+    this.look();
+    return this.own.slice(this.back);
+  }
+
   get isCaughtUp() {
     return this.isWelcome && this.from >= this.upTo;
   }

@@ -24,6 +24,18 @@ const encoder = new TextEncoder();
 
 /** @param {string} piece */
 const fits = (piece) => piece !== '' && encoder.encode(piece).length <= MOST_PIECE_BYTES;
+
+/**
+ * The parts of a name.
+ *
+ * @param {string} name
+ * @returns {Name}
+ */
+function nameOf(name) {
+  const [stamp, user] = name.split('.').map(Number);
+  return { stamp, user };
+}
+
 const isBefore = (a, b) => a.stamp < b.stamp || (a.stamp === b.stamp && a.user < b.user);
 const isNear = (a, b) => a.start <= b.end && b.start <= a.end;
 
@@ -288,6 +300,41 @@ export class Writer {
     }
   }
 
+  /**
+   * What this person made of pieces by requests that didn't come back before the page was loaded again.
+   *
+   * @param {number[]} places of these in the journal, in order
+   */
+  resume(places) {
+    const { copy } = this;
+    const own = new Set(places);
+    const edits = places.map((it) => copy.requestAt(it).edit);
+    const names = new Set(edits.filter(({ kind }) => kind === 'update').map(({ name }) => name));
+    for (const name of names) this.resumeOf(name, own);
+  }
+
+  /**
+   * The same of one piece. What came of others behind it was looked at when it came.
+   *
+   * @param {string} name
+   * @param {Set<number>} own
+   */
+  resumeOf(name, own) {
+    const { copy } = this;
+    let [shown, under] = [copy.requestAt(copy.placeInJournal(name)).edit.piece, nameOf(name)];
+    /** @type {Mine | null} */
+    let mine = null;
+    for (const it of copy.changes.get(name) ?? []) {
+      const { piece } = copy.requestAt(it.place).edit;
+      if (own.has(it.place)) {
+        mine ??= { base: shown, under, made: [] };
+        mine.made.push({ request: it.name, piece });
+      } else if (mine && !isBefore(it, mine.under)) mine = null;
+      if (isBefore(under, it)) [shown, under] = [piece, it];
+    }
+    if (mine) this.mine.set(name, mine);
+  }
+
   // Looks at what others changed since. Of two changes of one piece at the same time the one that comes to the host second is made
   // anew on the first, by the page that made it: it sees the other before its own comes back, and the other's page doesn't. So one page
   // alone does it, and what both took away is taken away once.
@@ -405,8 +452,7 @@ export class Writer {
    * @returns {Name}
    */
   lastChangeOf(name) {
-    const [stamp, user] = name.split('.').map(Number);
-    return (this.copy.changes.get(name) ?? []).reduce((last, it) => (isBefore(last, it) ? it : last), /** @type {Name} */ ({ stamp, user }));
+    return (this.copy.changes.get(name) ?? []).reduce((last, it) => (isBefore(last, it) ? it : last), nameOf(name));
   }
 
   /**

@@ -230,6 +230,35 @@ test('of two who change one word one stands', () => {
   }
 });
 
+// The page of who comes second was closed in between: it knows again what it made, and nothing is lost without a word.
+test('both of two changes stand over a reload', () => {
+  for (const [text, changes, both] of BOTH) {
+    const [administrator, user] = administratorAndUser(text);
+    [administrator, user].forEach((it, i) => it.type(...changes[i]));
+    const again = reloaded(user);
+    again.copy.receive(lastOf(administrator).frame);
+    again.writer.merge();
+    assert.deepEqual([again.text, again.replaced], [both, []]);
+    const twice = reloaded(again); // what was merged stays so
+    twice.writer.merge();
+    assert.equal(twice.text, both);
+  }
+  const [administrator, user] = administratorAndUser('Meet at nine');
+  [administrator, user].forEach((it, i) => it.type(8, 12, ['seven', 'eight'][i]));
+  const again = reloaded(user);
+  again.copy.receive(lastOf(administrator).frame);
+  again.writer.merge();
+  assert.deepEqual([again.text, again.replaced], ['Meet at seven', ['eight']]);
+});
+
+// A person whose page is loaded again before the host has anything of his.
+function reloaded({ copy }) {
+  const again = new Side(copy.site, copy.journal.slice(0, copy.journal.count));
+  const places = [...framesOf(again).keys()].filter((it) => again.copy.item(it).message.user === copy.site);
+  again.writer.resume(places);
+  return again;
+}
+
 test('a change of what somebody deletes', () => {
   const sides = administratorAndUser('one two');
   sides[0].type(0, 7, '');
