@@ -620,6 +620,37 @@ const tries = {
     await ada.isSaved();
   },
 
+  // Who leaves can't come in any more, and what that person wrote stays, unless an owner wants it undone too.
+  async a_person_leaves(world) {
+    const { ada } = world;
+    await ada.fill('new-name', 'Cy Brandt');
+    await ada.click('#new-person button');
+    await ada.says('invited-label', /Cy Brandt/);
+    const cy = await Sheet.open(world, await ada.value(`document.getElementById('invited-address').value`));
+    await cy.end();
+    await cy.page.type('Cy was here. ');
+    await ada.shows(`${world.text}Cy was here. `);
+    await cy.isSaved();
+    const version = await ada.value('page.copy.policy.version');
+    await ada.press('people', 'Remove Cy Brandt');
+    assert.match(await ada.question(), /^Remove Cy Brandt\? \| All devices and invitations of Cy Brandt are closed\. What is written can stay, .* edits? of Cy Brandt would be undone: “Cy was here\.”$/);
+    assert.equal(await ada.value(`document.querySelector('#question button:not([hidden])').id`), 'question-keep');
+    await ada.click('#question-keep');
+    await cy.says('standing', /^An owner closed this device\./);
+    await ada.says('status', /^Cy Brandt is removed: /);
+    await ada.isSaved();
+    await ada.shows(`${world.text}Cy was here. `);
+    assert.equal(await ada.value('page.copy.policy.version'), version);
+    const keys = await ada.value(`page.sync.line.orders.ask('keys')`); // Cy is the third person
+    assert.deepEqual(keys.filter((it) => / 3 (open|closed)$/.test(it)).map((it) => it.split(' ')[3]), ['closed', 'closed']);
+    await ada.press('people', 'Remove Cy Brandt');
+    await ada.question();
+    await ada.click('#question-yes');
+    await ada.shows(world.text);
+    assert.ok((await ada.ghosts()).includes('Cy was here. '));
+    await cy.close();
+  },
+
   // Whatever the tutorial has in quotation marks, of two people in a browser, a page has said, and it has what is to be pressed.
   async what_the_tutorial_says() {
     const section = readFileSync(TUTORIAL, 'utf8').split('\n## ')[1].replace(/<[^>]*>/g, '');

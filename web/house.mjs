@@ -24,7 +24,7 @@ export class House {
       lost: () => this.showHere([]),
       takesTurns: true, // a page of a document that looks where it is takes this one's place for a moment
     });
-    this.people = new People(this.line.orders, device.site);
+    this.people = new People(this.line.orders, device.site, () => this.keys.show());
     this.keys = new Keys(this.line.orders, device.site);
     this.documents = new Documents(base, (line) => this.people.order(line));
     for (const it of ['documents', 'side']) hide(it, false);

@@ -74,7 +74,7 @@ export class Page {
     this.sync = this.linked(marks);
     this.writer.resume(this.sync.waiting);
     this.rules = new Rules(copy, this.editor, this.sync.line.orders, () => this.settled());
-    this.people = new People(this.sync.line.orders, copy.site, this.rules);
+    this.people = new People(this.sync.line.orders, copy.site, () => this.keys.show(), this.rules);
     this.keys = new Keys(this.sync.line.orders, copy.site);
     this.lists = new Lists(copy, `roastcliff seen ${at.key}`, (place) => this.rules.remove(place));
     this.keeper = new Keeper(copy, store, { marks: () => this.sync.marks, kept: () => this.kept(), failed: (error) => this.stop(error) });

@@ -2,6 +2,7 @@
 import { colourOfPerson } from './colours.mjs';
 import { directory } from './directory.mjs';
 import { button, hide, made, of, say, staying } from './elements.mjs';
+import { Leaving } from './leaving.mjs';
 import { NotDone } from './orders.mjs';
 import { ask, askWords } from './question.mjs';
 import { notDone, role as roleWords } from './told.mjs';
@@ -23,12 +24,14 @@ export class People {
   /**
    * @param {import('./orders.mjs').Orders} orders
    * @param {number} site of this browser's device
+   * @param {() => void} closed is called when devices or invitations were closed
    * @param {import('./rules.mjs').Rules | null} rules of the document, if the page is at one
    */
-  constructor(orders, site, rules = null) {
+  constructor(orders, site, closed, rules = null) {
     this.orders = orders;
     this.site = site;
     this.rules = rules;
+    this.leaving = new Leaving(orders, rules, closed);
     /** @type {Set<number>} the sites that have a link now */
     this.here = new Set();
     this.said = ''; // what the lists were made of
@@ -95,7 +98,7 @@ export class People {
     if (rules && it.role !== 'reader' && !(isSelf && mayWrite)) row.append(button(word, `${word}: ${it.name}`, () => rules.allow(it.person, !mayWrite)));
     row.append(button('Invite again', `Invite again: ${it.name}`, () => this.invite(it.person, it.name)));
     row.append(button('Rename', `Rename ${it.name}`, () => this.rename(it)));
-    if (!isSelf) row.append(this.roles(it));
+    if (!isSelf) row.append(button('Remove', `Remove ${it.name}`, () => this.leaving.ask(it.person)), this.roles(it));
     return row;
   }
 

@@ -108,6 +108,34 @@ export class Rules {
     return this.change(isAllowed ? `Allow ${name} to write?` : `Forbid ${name} to write?`, isAllowed ? 'Allow' : 'Forbid', [operation]);
   }
 
+  /**
+   * The operations by which a person may write nowhere, whatever the other rules say: all that wasn't confirmed goes.
+   *
+   * @param {number} person
+   */
+  forbidding(person) {
+    return [`addauth 0 - @${person} idu 0`];
+  }
+
+  /**
+   * What would be undone by these.
+   *
+   * @param {number} person
+   */
+  wouldForbid(person) {
+    this.editor.writer.flush();
+    return this.copy.wouldUndo(this.forbidding(person));
+  }
+
+  /**
+   * Has them made, without a question.
+   *
+   * @param {number} person
+   */
+  forbid(person) {
+    return this.make(this.forbidding(person));
+  }
+
   /** @param {number} place */
   remove(place) {
     const { policy } = this.copy;

@@ -323,6 +323,28 @@ export function wouldUndo(requests) {
 export const MEANWHILE = 'It is undone for everybody. What somebody writes before hearing of it is undone too.';
 
 /**
+ * What becomes of a person's devices and edits where that person leaves, as a question tells it.
+ *
+ * @param {string} name
+ * @param {import('./copy.mjs').Lost[]} requests that would be undone if the right to write were taken too
+ */
+export function leaving(name, requests) {
+  const closed = `All devices and invitations of ${name} are closed.`;
+  if (!requests.length) return `${closed} No edit is undone.`;
+  return `${closed} What is written can stay, and no edit is undone. Or the right to write goes from the beginning, in this document: ${wouldUndo(requests)}`;
+}
+
+/** @param {string} name */
+export function left(name) {
+  return `What waits in the browsers of ${name} isn’t taken any more. To come back ${name} needs a new invitation.`;
+}
+
+/** @param {string} name */
+export function removed(name) {
+  return `${capital(name)} is removed: no device and no invitation of ${name} is open any more.`;
+}
+
+/**
  * What words are that stand in the text and aren't part of it.
  *
  * @param {Pick<import('./ghosts.mjs').Ghost, 'user' | 'isRefused'>} ghost
