@@ -63,28 +63,35 @@ export class Pieces {
     /** @type {Map<number, import('./authors.mjs').Run[]>} by their places, whose the letters of those are that were changed */
     this.authors = new Map();
     this.count = 0;
+    this.known = 0; // the place that was asked for last, from which others are found, since they are mostly near
+    this.knownStart = 0; // where its piece begins
   }
 
   /**
-   * Where the piece at a place begins.
+   * Where the piece at a place begins. It takes the time of the places between this one and the one that was asked for last.
    *
    * @param {number} place
    */
   startOf(place) {
-    let start = 0;
-    for (let i = 0; i < place; i++) start += this.sizes[i];
+    let [at, start] = [this.known, this.knownStart];
+    while (at > place) start -= this.sizes[--at];
+    while (at < place) start += this.sizes[at++];
+    [this.known, this.knownStart] = [at, start];
     return start;
   }
 
   /**
    * The first piece that ends behind a place of the text: its place, and where it begins and ends. At the text's end the place is the count.
+   * It takes the time that `startOf` does.
    *
    * @param {number} offset
    */
   behind(offset) {
-    let [place, end] = [0, 0];
-    while (place < this.count && end + this.sizes[place] <= offset) end += this.sizes[place++];
-    return { place, start: end, end: end + (place < this.count ? this.sizes[place] : 0) };
+    let [place, start] = [this.known, this.knownStart];
+    while (place > 0 && start > offset) start -= this.sizes[--place];
+    while (place < this.count && start + this.sizes[place] <= offset) start += this.sizes[place++];
+    [this.known, this.knownStart] = [place, start];
+    return { place, start, end: start + (place < this.count ? this.sizes[place] : 0) };
   }
 
   /**

@@ -34,3 +34,24 @@ test('whose letters', () => {
   assert.deepEqual(runsOf(pieces), [[5, 2], [605, 4], [609, 1], [614, 2]]);
   assert.equal(pieces.pieceAt(1), 'x');
 });
+
+test('places near the one that was asked for last', () => {
+  const pieces = new Pieces();
+  /** @type {string[]} */
+  const texts = [];
+  for (let i = 0; i < 400; i++) {
+    const place = (i * 7919) % (texts.length + 1);
+    const removed = i % 3 ? 0 : Math.min(2, texts.length - place);
+    const added = ['x'.repeat(1 + (i % 5)), 'yy'].slice(0, i % 4 ? 2 : 0);
+    pieces.splice(place, removed, added);
+    texts.splice(place, removed, ...added);
+    const asked = (i * 104729) % (texts.length + 1);
+    const start = texts.slice(0, asked).join('').length;
+    assert.equal(pieces.startOf(asked), start);
+    const end = start + (texts[asked]?.length ?? 0);
+    assert.deepEqual(pieces.behind(start), { place: asked, start, end });
+    if (end > start) assert.deepEqual(pieces.behind(end - 1), { place: asked, start, end });
+  }
+  assert.equal(pieces.text, texts.join(''));
+  assert.deepEqual(pieces.behind(-1), { place: 0, start: 0, end: texts[0].length });
+});
