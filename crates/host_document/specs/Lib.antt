@@ -1,5 +1,5 @@
 pub mod Endings
 pub mod Settled
-pub mod Adds
+pub mod HappensAt
 pub mod Admitted
 pub mod Rows

@@ -13,9 +13,9 @@ use Rattle.host_core.specs.declared.event.HostEvent.{HostEvent}
 use Rattle.host_core.specs.declared.event.HostEvent.TheVariants.{Made}
 use Rattle.host_core.specs.Past.{host_peer}
 
--- the steps that the lines of a text say, if each says one
-abbrev pub row_of : List ℕ → Option (List Step)
-row_of text = each_some (map step_line (parts LINE_END text))
+-- the orders of a text, one each line: the steps that these say, if each says one
+abbrev pub orders_of : List ℕ → Option (List Step)
+orders_of text = each_some (map step_line (parts LINE_END text))
 
 -- what has happened once the steps of a row were made for a link, each by the host's peer behind those in front of it
 abbrev pub past_behind : LinkId → List Step → List HostEvent → List HostEvent
@@ -30,7 +30,7 @@ answers_to link (step ∷ row) past = answer_line None (answer_of (host_peer pas
 -- the row of a text was made, whole and in order, and answered by these lines
 pub record IsRowMade (link : LinkId) (text : List ℕ) (old new : List HostEvent) (lines : List ℕ) : Type 0 where
   pub row : List Step
-  pub said : row_of text ≡ Some row
+  pub said : orders_of text ≡ Some row
   pub made : new ≡ past_behind link row old
   pub answers : lines ≡ answers_to link row old
 

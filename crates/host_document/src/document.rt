@@ -9,7 +9,7 @@ ghost use Rattle.host_core.specs.Past.{host_peer, saved_journal, open_link, devi
 ghost use Rattle.host_core.specs.Refusals.{ask_refusal};
 ghost use Rattle.host_document.specs.Endings.{ending_of};
 ghost use Rattle.host_document.specs.Settled.{IsSettled};
-ghost use Rattle.host_document.specs.Adds.{Adds};
+ghost use Rattle.host_document.specs.HappensAt.{HappensAt};
 ghost use Rattle.host_document.specs.Admitted.{IsAdmitted};
 ghost use Rattle.host_document.specs.Rows.{MakesRow, IsForeseen};
 
@@ -231,7 +231,7 @@ impl<'a> Document<'a> {
 
     /// Takes a message that came on a link. Its answer is to be told once it is saved.
     pub fn take(&mut self, link: LinkId, message: Message) -> Result<Answer, Ending>
-        ensures made { OnOk result (Adds self.old self.new (HostEvent.Made (Some link) (Step.Receive message))) }
+        ensures made { OnOk result (HappensAt self.old self.new (HostEvent.Made (Some link) (Step.Receive message))) }
         ensures answer { IfOk result (λ answer. IfSome self.old (λ past. answer ≡ answer_of (host_peer past) (Step.Receive message))) }
         ensures refused { IfSome self.old
             (λ past. IfSome (ask_refusal past link (Step.Receive message)) (λ refusal. result ≡ Err (ending_of refusal))) }
@@ -314,7 +314,7 @@ impl<'a> Document<'a> {
 
     /// The next message for a link, which is saved; none where it has all that is.
     pub fn next_item(&mut self, link: LinkId) -> Result<Option<Message>, Ending>
-        ensures given { IfOk result (λ found. IfSome found (λ m. Adds self.old self.new (HostEvent.Gave link m))) }
+        ensures given { IfOk result (λ found. IfSome found (λ m. HappensAt self.old self.new (HostEvent.Gave link m))) }
         ensures saved { IfOk result (λ found. IfSome found (λ m. IfSome self.old (λ past. Contains (saved_journal past) m))) }
         ensures none { IfOk result (λ found. IsNone found → self.new ≡ self.old) }
         ensures unchanged { OnErr result (self.new ≡ self.old) }

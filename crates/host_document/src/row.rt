@@ -2,7 +2,7 @@
 ghost use Rattle.std.specs.Prelude.{◌≡◌, IfOk, Some, map};
 ghost use Rattle.line_read.specs.Words.{bytes_of, each_some, parts};
 ghost use Rattle.line_read.specs.Step.{step_line};
-ghost use Rattle.host_document.specs.Rows.{row_of};
+ghost use Rattle.host_document.specs.Rows.{orders_of};
 
 use crate::fault::RowFault;
 use line_read::step_line;
@@ -63,7 +63,7 @@ fn read_orders(alloc: Global, lines: &[&[u8]]) -> Result<Vec<Step>, RowFault>
 
 // The orders of a text's lines.
 fn read_text(alloc: Global, text: &[u8]) -> Result<Vec<Step>, RowFault>
-    ensures { IfOk result (λ row. row_of text.now ≡ Some row.items) }
+    ensures { IfOk result (λ row. orders_of text.now ≡ Some row.items) }
 {
     let lines = lines_of(alloc, text)?;
     if lines.len() > MAX_ROW {
@@ -82,7 +82,7 @@ fn edit_among(row: &[Step]) -> Option<usize> {
 
 /// The orders of a text's lines: operations alone, or one edit.
 pub(crate) fn read_row(alloc: Global, text: &[u8]) -> Result<Vec<Step>, RowFault>
-    ensures { IfOk result (λ row. row_of text.now ≡ Some row.items) }
+    ensures { IfOk result (λ row. orders_of text.now ≡ Some row.items) }
 {
     let row = read_text(alloc, text)?;
     match edit_among(&row) {
