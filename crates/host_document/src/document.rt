@@ -24,6 +24,7 @@ use host_people::People;
 use peer_step::{Answer, Step};
 use std::alloc::{AllocError, Global};
 use std::marker::Model;
+use std::mem;
 
 // How a document stands that isn't open.
 #[derive(Clone, Copy)]
@@ -57,13 +58,6 @@ impl<'a> Model for Document<'a> {
 // Where the steps of a document stand.
 fn steps_path(alloc: Global, folder: &str, name: &str) -> Result<String, AllocError> {
     format!(in alloc; "{folder}/{name}/steps")
-}
-
-// Lets a message go that came to a document that isn't open.
-fn let_go(_message: Message) -> Result<Answer, Ending>
-    ensures { result ≡ Err Ending.NoDocument }
-{
-    Err(Ending::NoDocument)
 }
 
 impl<'a> Document<'a> {
@@ -125,6 +119,13 @@ impl<'a> Document<'a> {
         }
     }
 
+    // Puts another host of its text in the place of the one that it has, or none.
+    fn replace_host(&mut self, opened: Option<Opened<'a>>)
+        ensures { self.new ≡ opened.entry }
+    {
+        drop(mem::replace(&mut self.opened, opened));
+    }
+
     // The host of its text, which stands in the folder.
     fn open_text(&self, rt: &'a HostRuntime, folder: &str) -> Result<Opened<'a>, OpenFault> {
         match steps_path(rt.alloc(), folder, self.name.as_str()) {
@@ -140,7 +141,7 @@ impl<'a> Document<'a> {
     {
         match self.open_text(rt, folder) {
             Ok(opened) => {
-                self.opened = Some(opened);
+                self.replace_host(Some(opened));
                 self.standing = Standing::Closed;
                 Ok(())
             }
@@ -170,7 +171,7 @@ impl<'a> Document<'a> {
     pub fn shut(&mut self)
         ensures { self.new ≡ None }
     {
-        self.opened = None;
+        self.replace_host(None);
     }
 
     /// Closes it as one that can't be opened.
@@ -238,7 +239,8 @@ impl<'a> Document<'a> {
         ensures unchanged { OnErr result (self.new ≡ self.old) }
     {
         let Some(opened) = &mut self.opened else {
-            return let_go(message);
+            drop(message);
+            return Err(Ending::NoDocument);
         };
         opened.ask(link, Step::Receive(message))
     }

@@ -16,6 +16,7 @@ use crate::endings::ending_of;
 use crate::fault::{NotMade, OpenFault};
 use crate::rules::Rules;
 use edit_message::Message;
+use element_name::NoMemory;
 use host_core::{Host, LinkId, Refusal};
 use host_link::{Ending, Identity};
 use host_store::StoreKeeper;
@@ -28,6 +29,7 @@ use peer_store::StoreFault;
 use policy_book::AdminOp;
 use std::alloc::Global;
 use std::marker::Model;
+use std::mem;
 
 // The first rule of a new document: every person writes everywhere.
 const FIRST_RULE: &[u8] = b"admin addauth 0 + all idu 0";
@@ -77,7 +79,28 @@ fn open_host<'a>(
 fn first_rule(alloc: Global) -> Option<AdminOp> {
     match step_line(alloc, FIRST_RULE) {
         Ok(Step::Administer(op)) => Some(op),
-        _ => None,
+        Ok(step) => {
+            drop(step);
+            None
+        }
+        Err(_) => None,
+    }
+}
+
+// What a rule that isn't made leaves: want of memory is told, and else it just isn't.
+fn unmade(why: NotMade) -> Result<bool, Ending> {
+    match why {
+        NotMade::NoMemory => Err(Ending::NoMemory),
+        _ => Ok(false),
+    }
+}
+
+// Whether a document is open behind its first rule.
+fn opened_by(rule: Result<bool, Ending>) -> Result<(), OpenFault> {
+    match rule {
+        Ok(_) => Ok(()),
+        Err(Ending::NoMemory) => Err(OpenFault::NoMemory),
+        Err(_) => Err(OpenFault::DiskFault),
     }
 }
 
@@ -89,34 +112,36 @@ impl<'a> Opened<'a> {
         identity: Identity,
     ) -> Result<Opened<'a>, OpenFault> {
         let host = open_host(rt, path, identity)?;
-        Opened::with_rules(rt.alloc(), host)
+        match Rules::of_peer(rt.alloc(), host.peer()) {
+            Ok(rules) => Opened::begun(rt.alloc(), host, rules),
+            Err(NoMemory) => {
+                drop(host);
+                Err(OpenFault::NoMemory)
+            }
+        }
     }
 
-    // A host with the rules of its peer.
-    fn with_rules(
+    // The document of a host with the rules of its peer, which has a first rule if it is new.
+    fn begun(
         alloc: Global,
         host: Host<StoreKeeper<FileDisk<'a>>>,
+        rules: Rules,
     ) -> Result<Opened<'a>, OpenFault>
         requires { IsSettled host.register }
     {
-        let Ok(rules) = Rules::of_peer(alloc, host.peer()) else {
-            return Err(OpenFault::NoMemory);
-        };
-        let opened = Opened {
+        let mut opened = Opened {
             host,
             rules,
             has_changed: false,
             next_person: 0,
             next_site: 1,
         };
-        opened.begun(alloc)
-    }
-
-    // The same document, which has a first rule if it is new.
-    fn begun(mut self, alloc: Global) -> Result<Opened<'a>, OpenFault> {
-        match self.begin(alloc) {
-            Ok(()) => Ok(self),
-            Err(fault) => Err(fault),
+        match opened.begin(alloc) {
+            Ok(()) => Ok(opened),
+            Err(fault) => {
+                drop(opened);
+                Err(fault)
+            }
         }
     }
 
@@ -144,29 +169,35 @@ impl<'a> Opened<'a> {
 
     // Makes an operation of the host's own, behind which these are the rules.
     fn make_rule(&mut self, op: AdminOp, rules: Rules) -> Result<bool, Ending> {
-        let _answer = self.own(Step::Administer(op))?;
-        self.rules = rules;
-        Ok(true)
+        match self.own(Step::Administer(op)) {
+            Ok(answer) => {
+                drop(answer);
+                drop(mem::replace(&mut self.rules, rules));
+                Ok(true)
+            }
+            Err(why) => {
+                drop(rules);
+                Err(why)
+            }
+        }
     }
 
     // Makes an operation of the host's own, if the rules foresee that it can be made, and says whether it was.
     fn rule(&mut self, op: AdminOp) -> Result<bool, Ending> {
         match self.rules.behind(self.host.peer(), &op) {
             Ok(rules) => self.make_rule(op, rules),
-            Err(NotMade::NoMemory) => Err(Ending::NoMemory),
-            Err(_) => Ok(false),
+            Err(why) => {
+                drop(op);
+                unmade(why)
+            }
         }
     }
 
     // Makes the rule that a new document has.
     fn make_first(&mut self, alloc: Global) -> Result<(), OpenFault> {
-        let Some(op) = first_rule(alloc) else {
-            return Err(OpenFault::NoMemory);
-        };
-        match self.rule(op) {
-            Ok(_) => Ok(()),
-            Err(Ending::NoMemory) => Err(OpenFault::NoMemory),
-            Err(_) => Err(OpenFault::DiskFault),
+        match first_rule(alloc) {
+            Some(op) => opened_by(self.rule(op)),
+            None => Err(OpenFault::NoMemory),
         }
     }
 

@@ -1,5 +1,5 @@
 //! Rows of orders to a document, as lines.
-ghost use Rattle.std.specs.Prelude.{◌≡◌, IfOk, Some, map};
+ghost use Rattle.std.specs.Prelude.{◌≡◌, [], IfOk, OnOk, Some, map};
 ghost use Rattle.line_read.specs.Words.{bytes_of, each_some, parts};
 ghost use Rattle.line_read.specs.Step.{step_line};
 ghost use Rattle.host_document.specs.Rows.{orders_of};
@@ -25,6 +25,7 @@ fn order_alone(number: usize, step: Step) -> Result<Step, RowFault>
     if is_order(&step) {
         Ok(step)
     } else {
+        drop(step);
         Err(RowFault::BadLine(number))
     }
 }
@@ -47,18 +48,32 @@ fn lines_of(alloc: Global, text: &[u8]) -> Result<Vec<&[u8]>, AllocError>
     text.split(|b| *b == LINE_END).collect(alloc)
 }
 
-// The orders of these lines, one each.
-fn read_orders(alloc: Global, lines: &[&[u8]]) -> Result<Vec<Step>, RowFault>
-    ensures { IfOk result (λ row. each_some (map step_line (bytes_of lines.now)) ≡ Some row.items) }
+// Puts the orders of these lines into a row, which is empty.
+fn put_orders(alloc: Global, lines: &[&[u8]], row: &mut Vec<Step>) -> Result<(), RowFault>
+    requires { row.old.items ≡ [] }
+    ensures { OnOk result (each_some (map step_line (bytes_of lines.now)) ≡ Some row.new.items) }
 {
-    let mut row = Vec::new(alloc);
     let mut number = 0usize;
     for line in lines {
         number = number.saturating_add(1);
         let step = read_order(alloc, number, line)?;
         row.push(step)?;
     }
-    Ok(row)
+    Ok(())
+}
+
+// The orders of these lines, one each.
+fn read_orders(alloc: Global, lines: &[&[u8]]) -> Result<Vec<Step>, RowFault>
+    ensures { IfOk result (λ row. each_some (map step_line (bytes_of lines.now)) ≡ Some row.items) }
+{
+    let mut row = Vec::new(alloc);
+    match put_orders(alloc, lines, &mut row) {
+        Ok(()) => Ok(row),
+        Err(fault) => {
+            drop(row);
+            Err(fault)
+        }
+    }
 }
 
 // The orders of a text's lines.
@@ -86,7 +101,10 @@ pub(crate) fn read_row(alloc: Global, text: &[u8]) -> Result<Vec<Step>, RowFault
 {
     let row = read_text(alloc, text)?;
     match edit_among(&row) {
-        Some(at) => Err(RowFault::BadLine(at.saturating_add(1))),
+        Some(at) => {
+            drop(row);
+            Err(RowFault::BadLine(at.saturating_add(1)))
+        }
         None => Ok(row),
     }
 }

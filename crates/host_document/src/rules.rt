@@ -24,12 +24,13 @@ fn is_element(missing: &Missing) -> bool {
 
 // Looks whether a peer has what an entry speaks of.
 fn look_for(peer: &Peer, entry: Entry) -> Result<(), NotMade> {
-    if let Some(missing) = peer.missing(&Message::Admin(entry)) {
-        if is_element(&missing) {
-            return Err(NotMade::Misses(missing));
-        }
+    let message = Message::Admin(entry);
+    let missing = peer.missing(&message);
+    drop(message);
+    match missing {
+        Some(missing) if is_element(&missing) => Err(NotMade::Misses(missing)),
+        _ => Ok(()),
     }
-    Ok(())
 }
 
 impl Rules {
@@ -39,18 +40,37 @@ impl Rules {
             policy: Policy::first(alloc)?,
             version: peer.front(),
         };
-        for place in 0..peer.journal_len() {
-            if let Some(item) = peer.journal(place) {
-                rules.follow(&item)?;
+        match rules.follow_journal(peer) {
+            Ok(()) => Ok(rules),
+            Err(NoMemory) => {
+                drop(rules);
+                Err(NoMemory)
             }
         }
-        Ok(rules)
     }
 
-    // Follows the next message of the journal, if it is an entry.
-    fn follow(&mut self, item: &JournalItem<'_>) -> Result<(), NoMemory> {
-        match item.copied()? {
-            Message::Admin(entry) => self.follow_entry(&entry),
+    // Follows all messages of a peer's journal.
+    fn follow_journal(&mut self, peer: &Peer) -> Result<(), NoMemory> {
+        for place in 0..peer.journal_len() {
+            if let Some(item) = peer.journal(place) {
+                self.follow_item(&item)?;
+            }
+        }
+        Ok(())
+    }
+
+    // Follows the next message of the journal.
+    fn follow_item(&mut self, item: &JournalItem<'_>) -> Result<(), NoMemory> {
+        let message = item.copied()?;
+        let followed = self.follow(&message);
+        drop(message);
+        followed
+    }
+
+    // Follows a message, if it is an entry.
+    fn follow(&mut self, message: &Message) -> Result<(), NoMemory> {
+        match message {
+            Message::Admin(entry) => self.follow_entry(entry),
             Message::Coop(_) => Ok(()),
         }
     }
@@ -120,13 +140,8 @@ impl Rules {
         self.change(version, op)
     }
 
-    /// Follows the step of the line of this number in a row, which is to be made at a peer, if it will be.
-    pub(crate) fn foresee_line(
-        &mut self,
-        peer: &Peer,
-        line: usize,
-        step: &Step,
-    ) -> Result<(), RowFault> {
+    // Follows the step of the line of this number in a row, which is to be made at a peer, if it will be.
+    fn foresee_line(&mut self, peer: &Peer, line: usize, step: &Step) -> Result<(), RowFault> {
         let Step::Administer(op) = step else {
             return Ok(());
         };
@@ -136,10 +151,28 @@ impl Rules {
         }
     }
 
+    /// Follows the steps of a row, which are to be made at a peer, if each will be.
+    pub(crate) fn foresee_row(&mut self, peer: &Peer, row: &[Step]) -> Result<(), RowFault> {
+        let mut line = 0usize;
+        for step in row {
+            line = line.saturating_add(1);
+            match self.foresee_line(peer, line, step) {
+                Ok(()) => {}
+                Err(fault) => return Err(fault),
+            }
+        }
+        Ok(())
+    }
+
     /// The rules behind an operation that is to be made at a peer, if it will be.
     pub(crate) fn behind(&self, peer: &Peer, op: &AdminOp) -> Result<Rules, NotMade> {
         let mut rules = self.at_front(peer)?;
-        rules.foresee(peer, op)?;
-        Ok(rules)
+        match rules.foresee(peer, op) {
+            Ok(()) => Ok(rules),
+            Err(why) => {
+                drop(rules);
+                Err(why)
+            }
+        }
     }
 }

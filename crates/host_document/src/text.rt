@@ -37,14 +37,38 @@ fn items_of(alloc: Global, peer: &Peer, count: u32) -> Result<Vec<JournalItem<'_
     Ok(items)
 }
 
-// The frames of these messages.
-fn frames_of(alloc: Global, items: &[JournalItem<'_>]) -> Result<Vec<u8>, NoMemory> {
-    let mut out = Vec::new(alloc);
+// Appends a frame, which goes.
+fn put_frame(alloc: Global, frame: Frame, out: &mut Vec<u8>) -> Result<(), NoMemory> {
+    let put = encode(alloc, &frame, out);
+    drop(frame);
+    put
+}
+
+// Appends the frames of these messages.
+fn put_items(alloc: Global, items: &[JournalItem<'_>], out: &mut Vec<u8>) -> Result<(), NoMemory> {
     for item in items {
-        let frame = Frame::Item(item.copied()?);
-        encode(alloc, &frame, &mut out)?;
+        let message = item.copied()?;
+        put_frame(alloc, Frame::Item(message), out)?;
     }
-    Ok(out)
+    Ok(())
+}
+
+// Appends the frames of these messages, and where it is wanted End and their certificate.
+fn put_journal(
+    alloc: Global,
+    items: &[JournalItem<'_>],
+    is_certified: bool,
+    out: &mut Vec<u8>,
+) -> Result<(), NoMemory> {
+    put_items(alloc, items, out)?;
+    if !is_certified {
+        return Ok(());
+    }
+    put_frame(alloc, Frame::End, out)?;
+    match certify(alloc, items, out) {
+        Ok(()) => Ok(()),
+        Err(_) => Err(NoMemory),
+    }
 }
 
 /// The frames of the first messages of a journal, so many, and where it is wanted End and their certificate behind them.
@@ -56,13 +80,7 @@ pub(crate) fn journal_of(
     is_certified: bool,
 ) -> Result<Vec<u8>, NoMemory> {
     let items = items_of(alloc, peer, count)?;
-    let mut out = frames_of(alloc, &items)?;
-    if !is_certified {
-        return Ok(out);
-    }
-    encode(alloc, &Frame::End, &mut out)?;
-    match certify(alloc, &items, &mut out) {
-        Ok(()) => Ok(out),
-        Err(_) => Err(NoMemory),
-    }
+    let mut out = Vec::new(alloc);
+    put_journal(alloc, &items, is_certified, &mut out)?;
+    Ok(out)
 }

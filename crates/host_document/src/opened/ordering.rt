@@ -11,11 +11,13 @@ use super::Opened;
 use crate::fault::RowFault;
 use crate::row::{read_order, read_row};
 use crate::rules::Rules;
+use element_name::NoMemory;
 use host_core::LinkId;
 use line_write::answer_line;
 use peer_step::{Answer, Step};
 use policy_book::AdminOp;
 use std::alloc::Global;
+use std::mem;
 
 /// Why a row stopped, and whether a part of it was made.
 #[derive(Clone, Copy)]
@@ -34,6 +36,16 @@ impl From<RowFault> for Halt {
             fault,
             is_torn: false,
         }
+    }
+}
+
+impl From<NoMemory> for Halt {
+    ghost use Rattle.std.specs.Prelude.{◌≡◌, false};
+
+    ghost from_gives = { λ _ halt. halt.is_torn ≡ false };
+
+    fn from(_: NoMemory) -> Halt {
+        Halt::from(RowFault::NoMemory)
     }
 }
 
@@ -58,16 +70,28 @@ fn put_answer(alloc: Global, answer: &Answer, lines: &mut Vec<u8>) -> Result<(),
     }
 }
 
+// The line of an answer, which goes.
+fn line_of(alloc: Global, answer: Answer) -> Result<Vec<u8>, NoMemory>
+    ensures { IfOk result (λ line. line.items ≡ answer_line None answer) }
+{
+    let mut line = Vec::new(alloc);
+    let put = answer_line(alloc, None, &answer, &mut line);
+    drop(answer);
+    put?;
+    Ok(line)
+}
+
 impl<'a> Opened<'a> {
     // The rules behind a row, if each of it can be made.
     fn foreseen(&self, row: &[Step]) -> Result<Rules, RowFault> {
         let mut rules = self.rules.at_front(self.host.peer())?;
-        let mut line = 0usize;
-        for step in row {
-            line = line.saturating_add(1);
-            rules.foresee_line(self.host.peer(), line, step)?;
+        match rules.foresee_row(self.host.peer(), row) {
+            Ok(()) => Ok(rules),
+            Err(fault) => {
+                drop(rules);
+                Err(fault)
+            }
         }
-        Ok(rules)
     }
 
     // Makes a step of a row for a link, and appends the line of its answer.
@@ -82,14 +106,13 @@ impl<'a> Opened<'a> {
         ensures answer { OnOk result (lines.new.items ≡ lines.old.items ++ answer_line None (answer_of (host_peer self.old) step.now)) }
         ensures nothing { IfErr result (λ halt. halt.is_torn ≡ false → self.new ≡ self.old) }
     {
-        let Ok(copy) = step.copied() else {
-            return Err(Halt::from(RowFault::NoMemory));
-        };
+        let copy = step.copied()?;
         match self.ask(link, copy) {
-            Ok(answer) => match put_answer(alloc, &answer, lines) {
-                Ok(()) => Ok(()),
-                Err(halt) => Err(halt),
-            },
+            Ok(answer) => {
+                let put = put_answer(alloc, &answer, lines);
+                drop(answer);
+                put
+            }
             Err(why) => Err(Halt::from(RowFault::Ended(why))),
         }
     }
@@ -125,10 +148,13 @@ impl<'a> Opened<'a> {
         let rules = self.foreseen(row)?;
         match self.make_row(alloc, link, row) {
             Ok(lines) => {
-                self.rules = rules;
+                drop(mem::replace(&mut self.rules, rules));
                 Ok(lines)
             }
-            Err(halt) => Err(halt),
+            Err(halt) => {
+                drop(rules);
+                Err(halt)
+            }
         }
     }
 
@@ -144,19 +170,24 @@ impl<'a> Opened<'a> {
     {
         let row = read_row(alloc, text)?;
         match self.make_foreseen(alloc, link, &row) {
-            Ok(lines) => Ok(lines),
-            Err(halt) => Err(halt),
+            Ok(lines) => {
+                drop(row);
+                Ok(lines)
+            }
+            Err(halt) => {
+                drop(row);
+                Err(halt)
+            }
         }
     }
 
     // The line of the answer that an operation would get now.
     fn line_of_would(&self, alloc: Global, op: &AdminOp) -> Result<Vec<u8>, RowFault>
-        ensures { IfOk result (λ lines. lines.items ≡ answer_line None (answer_of (host_peer self.now) (Step.Administer op.now))) }
+        ensures { IfOk result (λ line. line.items ≡ answer_line None (answer_of (host_peer self.now) (Step.Administer op.now))) }
     {
         let answer = self.host.would_answer(alloc, op)?;
-        let mut lines = Vec::new(alloc);
-        answer_line(alloc, None, &answer, &mut lines)?;
-        Ok(lines)
+        let line = line_of(alloc, answer)?;
+        Ok(line)
     }
 
     /// What the operation of a line would do now: the line of the answer that its step would get. It takes the time and
@@ -165,8 +196,15 @@ impl<'a> Opened<'a> {
         ensures { IfOk result (λ lines. IsForeseen line.now self.now lines.items) }
     {
         match read_order(alloc, 1, line)? {
-            Step::Administer(op) => self.line_of_would(alloc, &op),
-            _ => Err(RowFault::BadLine(1)),
+            Step::Administer(op) => {
+                let line = self.line_of_would(alloc, &op);
+                drop(op);
+                line
+            }
+            step => {
+                drop(step);
+                Err(RowFault::BadLine(1))
+            }
         }
     }
 }

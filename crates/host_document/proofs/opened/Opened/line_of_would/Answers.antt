@@ -1,4 +1,4 @@
-use Rattle.std.proofs.Common.{◌≡◌, ◌++◌, ℕ, List, None, ap, ◌∙◌}
+use Rattle.std.proofs.Common.{◌≡◌, List, None, ap, ◌∙◌}
 use Rattle.peer_step.specs.declared.step.Step.TheVariants.{Administer}
 use Rattle.peer_step.specs.declared.answer.Answer.{Answer}
 use Rattle.peer_core.specs.Answers.{answer_of}
@@ -11,6 +11,4 @@ pub returns : goal.returns
 returns c =
     let said : c.in_ok-answer.answer ≡ answer_of (host_peer c.args.self.now) (Administer c.args.op.now) =
     c.in_ok-answer.ensures ∙ ap (λ (es : List HostEvent). answer_of (host_peer es) (Administer c.args.op.now)) c.self.view_is in
-    c.in_ok-answer_line.ensures.ok
-    ∙ ap (λ (front : List ℕ). front ++ answer_line None c.in_ok-answer.answer) c.new-lines.ensures.items
-    ∙ ap (λ (answer : Answer). answer_line None answer) said
+    c.in_ok-line.ensures ∙ ap (λ (answer : Answer). answer_line None answer) said

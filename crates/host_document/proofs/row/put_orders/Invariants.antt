@@ -2,7 +2,7 @@ use Rattle.std.proofs.Common.{◌≡◌, ◌++◌, map, drop}
 use Rattle.std.specs.Prelude.{option_map}
 use Rattle.line_read.specs.Words.{bytes_of, each_some}
 use Rattle.line_read.specs.Step.{step_line}
-use Rattle.host_document.proofs.row.read_orders.Given as goal
+use Rattle.host_document.proofs.row.put_orders.Given as goal
 
 abbrev pub invariant-loop-line : goal.invariant-loop-line
 invariant-loop-line l =
