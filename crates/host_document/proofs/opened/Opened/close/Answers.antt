@@ -1,15 +1,20 @@
-use Rattle.host_document.proofs.Closing.{link_closed, link_saved, link_peer}
+use Rattle.std.proofs.Common.{List, refl}
+use Rattle.host_core.specs.declared.event.HostEvent.{HostEvent}
+use Rattle.host_core.specs.declared.event.HostEvent.TheVariants.{LinkClosed}
+use Rattle.host_core.specs.declared.refusal.Refusal.TheVariants.{NoLink}
+use Rattle.host_core.specs.Past.{open_link}
+use Rattle.host_document.proofs.Closing.{closed_link, none_left, both_left}
 use Rattle.host_document.proofs.opened.Opened.close.Goals as goal
 
-pub returns-clause-closed : goal.returns-clause-closed
-returns-clause-closed c = link_closed c.close.result c.self.inside.host.register c.close.new.self.register c.args.link c.close.ensures.closed c.close.ensures.refused c.close.ensures.unchanged
-
-pub returns-clause-saved : goal.returns-clause-saved
-returns-clause-saved c =
-    let saved = link_saved c.close.result c.self.inside.host.register c.close.new.self.register c.args.link c.close.ensures.closed c.close.ensures.unchanged in
-    cc (saved, c.self.view_is)
-
-pub returns-clause-peer : goal.returns-clause-peer
-returns-clause-peer c =
-    let peer = link_peer c.close.result c.self.inside.host.register c.close.new.self.register c.args.link c.close.ensures.closed c.close.ensures.unchanged in
-    cc (peer, c.self.view_is)
+pub returns : goal.returns
+returns c =
+    let old = c.self.inside.host.register in
+    let new = c.close.new.self.register in
+    let event = LinkClosed c.args.link in
+    let left = both_left c.close.result event old new refl refl c.close.ensures.closed c.close.ensures.unchanged in
+    record {
+      closed = none_left (λ (es : List HostEvent). open_link es c.args.link) c.close.result NoLink event old new (closed_link old c.args.link)
+          c.close.ensures.closed c.close.ensures.refused c.close.ensures.unchanged;
+      saved = cc (left.0, c.self.view_is);
+      peer = cc (left.1, c.self.view_is);
+    }

@@ -1,15 +1,19 @@
-use Rattle.host_document.proofs.Closing.{device_closed, device_saved, device_peer}
+use Rattle.std.proofs.Common.{refl}
+use Rattle.host_core.specs.declared.event.HostEvent.TheVariants.{DeviceClosed}
+use Rattle.host_core.specs.declared.refusal.Refusal.TheVariants.{NoDevice}
+use Rattle.host_core.specs.Past.{device_of}
+use Rattle.host_document.proofs.Closing.{closed_device, none_left, both_left}
 use Rattle.host_document.proofs.opened.Opened.close_device.Goals as goal
 
-pub returns-clause-closed : goal.returns-clause-closed
-returns-clause-closed c = device_closed c.close_device.result c.self.inside.host.register c.close_device.new.self.register c.args.site c.close_device.ensures.closed c.close_device.ensures.refused c.close_device.ensures.unchanged
-
-pub returns-clause-saved : goal.returns-clause-saved
-returns-clause-saved c =
-    let saved = device_saved c.close_device.result c.self.inside.host.register c.close_device.new.self.register c.args.site c.close_device.ensures.closed c.close_device.ensures.unchanged in
-    cc (saved, c.self.view_is)
-
-pub returns-clause-peer : goal.returns-clause-peer
-returns-clause-peer c =
-    let peer = device_peer c.close_device.result c.self.inside.host.register c.close_device.new.self.register c.args.site c.close_device.ensures.closed c.close_device.ensures.unchanged in
-    cc (peer, c.self.view_is)
+pub returns : goal.returns
+returns c =
+    let old = c.self.inside.host.register in
+    let new = c.close_device.new.self.register in
+    let event = DeviceClosed c.args.site in
+    let left = both_left c.close_device.result event old new refl refl c.close_device.ensures.closed c.close_device.ensures.unchanged in
+    record {
+      closed = none_left (device_of c.args.site) c.close_device.result NoDevice event old new (closed_device old c.args.site)
+          c.close_device.ensures.closed c.close_device.ensures.refused c.close_device.ensures.unchanged;
+      saved = cc (left.0, c.self.view_is);
+      peer = cc (left.1, c.self.view_is);
+    }
