@@ -6,6 +6,7 @@ ghost use Rattle.peer_core.specs.Answers.{answer_of};
 ghost use Rattle.host_core.specs.declared.event.HostEvent.{HostEvent};
 ghost use Rattle.host_link.specs.declared.ending.Ending.{Ending};
 ghost use Rattle.host_core.specs.Past.{host_peer, saved_journal, open_link, device_of};
+ghost use Rattle.host_core.specs.Happens.{IsAllSaved};
 ghost use Rattle.host_core.specs.Refusals.{ask_refusal};
 ghost use Rattle.host_document.specs.Endings.{ending_of};
 ghost use Rattle.host_document.specs.Settled.{IsSettled};
@@ -293,6 +294,19 @@ impl<'a> Document<'a> {
         match &mut self.opened {
             Some(opened) => opened.commit(),
             None => Ok(false),
+        }
+    }
+
+    /// Whether a link is told the answers of the steps that it asked for, as it is once all that was made is saved.
+    pub fn tell(&mut self, link: LinkId) -> Result<bool, Ending>
+        ensures told { IfOk result (λ told. IsTrue told → HappensAt self.old self.new (HostEvent.Told link)) }
+        ensures saved { IfOk result (λ told. IsTrue told → IfSome self.old IsAllSaved) }
+        ensures not_yet { IfOk result (λ told. told ≡ false → self.new ≡ self.old) }
+        ensures unchanged { OnErr result (self.new ≡ self.old) }
+    {
+        match &mut self.opened {
+            Some(opened) => opened.tell(link),
+            None => Err(Ending::NoDocument),
         }
     }
 

@@ -1,9 +1,10 @@
 //! A document that is open.
-ghost use Rattle.std.specs.Prelude.{◌≡◌, ◌∷◌, Some, None, OnOk, OnErr, IfOk, IfErr, IfSome, IsNone, Err, Contains, length};
+ghost use Rattle.std.specs.Prelude.{◌≡◌, ◌∷◌, Some, None, Err, false, OnOk, OnErr, IfOk, IfErr, IfSome, IsNone, IsTrue, Contains, length};
 ghost use Rattle.peer_step.specs.declared.step.Step.{Step};
 ghost use Rattle.peer_core.specs.Answers.{answer_of};
 ghost use Rattle.host_core.specs.declared.event.HostEvent.{HostEvent};
 ghost use Rattle.host_core.specs.Past.{host_peer, saved_journal, open_link, device_of};
+ghost use Rattle.host_core.specs.Happens.{IsAllSaved};
 ghost use Rattle.host_core.specs.Refusals.{ask_refusal};
 ghost use Rattle.host_document.specs.Endings.{ending_of};
 ghost use Rattle.host_document.specs.Settled.{IsSettled};
@@ -280,6 +281,23 @@ impl<'a> Opened<'a> {
     {
         match self.give(link) {
             Ok(found) => Ok(found),
+            Err(refusal) => Err(ending_of(refusal)),
+        }
+    }
+
+    /// Whether a link is told the answers of the steps that it asked for, as it is once all that was made is saved. What has
+    /// happened is a past, so that all was.
+    pub(crate) fn tell(&mut self, link: LinkId) -> Result<bool, Ending>
+        ensures told { IfOk result (λ told. IsTrue told → self.new ≡ HostEvent.Told link ∷ self.old) }
+        ensures saved { IfOk result (λ told. IsTrue told → IsAllSaved self.old) }
+        ensures not_yet { IfOk result (λ told. told ≡ false → self.new ≡ self.old) }
+        ensures unchanged { OnErr result (self.new ≡ self.old) }
+    {
+        match self.host.tell(link) {
+            Ok(told) => {
+                self.host.register().past();
+                Ok(told)
+            }
             Err(refusal) => Err(ending_of(refusal)),
         }
     }
