@@ -27,11 +27,16 @@ use std::alloc::{AllocError, Global};
 use std::marker::Model;
 use std::mem;
 
+// What stands for an identity that is lost.
+const NO_IDENTITY: Identity = [0; 16];
+
 // How a document stands that isn't open.
 #[derive(Clone, Copy)]
 enum Standing {
     Closed,
     Broken(OpenFault),
+    // Its identity is lost, so it isn't opened.
+    Lost(OpenFault),
     Gone,
 }
 
@@ -74,12 +79,24 @@ impl<'a> Document<'a> {
         }
     }
 
+    /// A document whose identity can't be read. It is never opened.
+    pub fn lost(name: String, fault: OpenFault) -> Document<'a>
+        ensures { result ≡ None }
+    {
+        Document {
+            name,
+            identity: NO_IDENTITY,
+            opened: None,
+            standing: Standing::Lost(fault),
+        }
+    }
+
     /// Its name.
     pub fn name(&self) -> &str {
         self.name.as_str()
     }
 
-    /// Its identity.
+    /// Its identity: zeros where it is lost.
     pub fn identity(&self) -> Identity {
         self.identity
     }
@@ -113,9 +130,8 @@ impl<'a> Document<'a> {
         match self.standing {
             Standing::Closed if self.opened.is_some() => "open",
             Standing::Closed => "closed",
-            Standing::Broken(OpenFault::Damaged) => "damaged",
-            Standing::Broken(OpenFault::DiskFault) => "disk-fault",
-            Standing::Broken(OpenFault::NoMemory) => "no-memory",
+            Standing::Broken(fault) => fault.word(),
+            Standing::Lost(fault) => fault.word(),
             Standing::Gone => "gone",
         }
     }
@@ -153,7 +169,21 @@ impl<'a> Document<'a> {
         }
     }
 
-    /// Opens it, unless it is open. It takes the time of its steps. What was put away isn't opened.
+    // Why it is never opened, if it isn't.
+    fn bar(&self) -> Option<OpenFault>
+        ensures { IsSome result → self.now ≡ None }
+    {
+        match &self.opened {
+            Some(_) => None,
+            None => match self.standing {
+                Standing::Gone => Some(OpenFault::Damaged),
+                Standing::Lost(fault) => Some(fault),
+                _ => None,
+            },
+        }
+    }
+
+    /// Opens it, unless it is open. It takes the time of its steps. What was put away, or has no identity, isn't opened.
     pub fn open(&mut self, rt: &'a HostRuntime, folder: &str) -> Result<(), OpenFault>
         ensures opened { OnOk result (IsSome self.new) }
         ensures closed { OnErr result (self.new ≡ None) }
@@ -162,10 +192,10 @@ impl<'a> Document<'a> {
         if self.is_open() {
             return Ok(());
         }
-        if self.is_gone() {
-            return Err(OpenFault::Damaged);
+        match self.bar() {
+            Some(fault) => Err(fault),
+            None => self.open_anew(rt, folder),
         }
-        self.open_anew(rt, folder)
     }
 
     /// Closes it. What wasn't saved is lost, so [`commit`](Document::commit) comes first.
@@ -179,11 +209,10 @@ impl<'a> Document<'a> {
     pub fn give_up(&mut self, fault: OpenFault)
         ensures { self.new ≡ None }
     {
-        if self.is_gone() {
-            return;
-        }
         self.shut();
-        self.standing = Standing::Broken(fault);
+        if self.bar().is_none() {
+            self.standing = Standing::Broken(fault);
+        }
     }
 
     /// Closes it, as it was put away.

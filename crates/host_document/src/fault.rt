@@ -9,12 +9,23 @@ use std::alloc::{AllocError, AllocFailed, Global};
 /// Why a document can't be opened.
 #[derive(Clone, Copy, Debug, PartialEq, Eq)]
 pub enum OpenFault {
-    /// Its file is none of its host or is damaged, or it was put away.
+    /// Its file is none of its host or is damaged, it has no identity, or it was put away.
     Damaged,
     /// The disk failed.
     DiskFault,
     /// Memory is wanting.
     NoMemory,
+}
+
+impl OpenFault {
+    // The word for it.
+    pub(crate) fn word(self) -> &'static str {
+        match self {
+            OpenFault::Damaged => "damaged",
+            OpenFault::DiskFault => "disk-fault",
+            OpenFault::NoMemory => "no-memory",
+        }
+    }
 }
 
 /// Why an operation isn't made.

@@ -2,7 +2,7 @@
 //! or put away is named at last, so that it is whole wherever it stands.
 
 use hex::{decode_to_slice, encode};
-use host_document::Document;
+use host_document::{Document, OpenFault};
 use host_link::{Identity, is_document_name};
 use std::alloc::Global;
 use std::fs;
@@ -26,38 +26,81 @@ fn read_identity(rt: &HostRuntime, folder: &str, name: &str) -> io::Result<Ident
     }
 }
 
-// The document of this name, closed, if one stands in the folder.
-fn document_of<'a>(rt: &HostRuntime, folder: &str, name: &str) -> io::Result<Option<Document<'a>>> {
-    if !is_document_name(name) {
-        return Ok(None);
+// Whether a document of this name has steps, as each that was opened once has. Where that can't be told it counts as having some.
+fn has_steps(rt: &HostRuntime, folder: &str, name: &str) -> bool {
+    match format!(in rt.alloc(); "{folder}/{name}/steps") {
+        Ok(path) => fs::exists(rt, path.as_str()).unwrap_or(true),
+        Err(_) => true,
     }
-    let Ok(identity) = read_identity(rt, folder, name) else {
-        return Ok(None);
-    };
-    let name = String::from_str(rt.alloc(), name)?;
-    Ok(Some(Document::new(name, identity)))
 }
 
-// Puts the document of an entry of a folder to the others, if it is one.
+// Why the document of this name can't be opened, whose identity isn't read for this reason. None where there is none.
+fn loss(rt: &HostRuntime, folder: &str, name: &str, why: ErrorKind) -> Option<OpenFault> {
+    match why {
+        ErrorKind::NotADirectory => None,
+        ErrorKind::NotFound if !has_steps(rt, folder, name) => None,
+        ErrorKind::NotFound => Some(OpenFault::Damaged),
+        ErrorKind::InvalidData => Some(OpenFault::Damaged),
+        ErrorKind::OutOfMemory => Some(OpenFault::NoMemory),
+        _ => Some(OpenFault::DiskFault),
+    }
+}
+
+// Puts the document of this name to the others, closed, if one stands in the folder.
 fn put_document(
     rt: &HostRuntime,
     folder: &str,
     name: &str,
     documents: &mut Vec<Document<'_>>,
 ) -> io::Result<()> {
-    if let Some(document) = document_of(rt, folder, name)? {
-        documents.push(document)?;
+    let owned = String::from_str(rt.alloc(), name)?;
+    let document = match read_identity(rt, folder, name) {
+        Ok(identity) => Document::new(owned, identity),
+        Err(error) => match loss(rt, folder, name, error.kind()) {
+            Some(fault) => Document::lost(owned, fault),
+            None => return Ok(()),
+        },
+    };
+    documents.push(document)?;
+    Ok(())
+}
+
+// Puts what stands in an entry of the folder to the documents, if it may be called so.
+fn put_entry(
+    rt: &HostRuntime,
+    folder: &str,
+    name: &str,
+    documents: &mut Vec<Document<'_>>,
+) -> io::Result<()> {
+    if is_document_name(name) {
+        put_document(rt, folder, name, documents)
+    } else {
+        Ok(())
+    }
+}
+
+// Puts the documents that stand in a folder to the others.
+fn put_documents(
+    rt: &HostRuntime,
+    folder: &str,
+    documents: &mut Vec<Document<'_>>,
+) -> io::Result<()> {
+    for entry in fs::read_dir(rt, folder)? {
+        put_entry(rt, folder, entry?.file_name(), documents)?;
     }
     Ok(())
 }
 
-/// The documents that stand in a folder, closed. What lacks an identity is none.
+/// The documents that stand in a folder, closed. One that has steps and no identity is among them, and is never opened.
 pub(crate) fn find_documents<'a>(rt: &HostRuntime, folder: &str) -> io::Result<Vec<Document<'a>>> {
     let mut documents = Vec::new(rt.alloc());
-    for entry in fs::read_dir(rt, folder)? {
-        put_document(rt, folder, entry?.file_name(), &mut documents)?;
+    match put_documents(rt, folder, &mut documents) {
+        Ok(()) => Ok(documents),
+        Err(error) => {
+            drop(documents);
+            Err(error)
+        }
     }
-    Ok(documents)
 }
 
 /// An identity of the system's randomness.
