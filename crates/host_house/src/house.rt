@@ -72,30 +72,16 @@ fn open_book<'a>(rt: &'a HostRuntime, folder: &str) -> Result<(Book, FileDisk<'a
     let alloc = rt.alloc();
     let path = format!(in alloc; "{folder}/{PEOPLE_FILE}")?;
     let mut disk = FileDisk::new(rt, path);
-    let book = Book::open(alloc, &mut disk)?;
-    Ok((book, disk))
+    match Book::open(alloc, &mut disk) {
+        Ok(book) => Ok((book, disk)),
+        Err(fault) => {
+            drop(disk);
+            Err(HouseFault::Book(fault))
+        }
+    }
 }
 
 impl<'a> House<'a> {
-    // The house of a folder that is there, with its documents.
-    fn with_documents(
-        rt: &'a HostRuntime,
-        folder: String,
-        address: String,
-        documents: Vec<Document<'a>>,
-    ) -> Result<House<'a>, HouseFault> {
-        let (book, disk) = open_book(rt, folder.as_str())?;
-        Ok(House {
-            rt,
-            alloc: rt.alloc(),
-            folder,
-            address,
-            book,
-            disk,
-            documents,
-        })
-    }
-
     /// Opens the house of a folder, which is made where it isn't there. The address is that of its first page.
     pub fn open(
         rt: &'a HostRuntime,
@@ -104,8 +90,23 @@ impl<'a> House<'a> {
     ) -> Result<House<'a>, HouseFault> {
         fs::create_dir_all(rt, folder)?;
         let owned = String::from_str(rt.alloc(), folder)?;
-        let documents = find_documents(rt, folder)?;
-        House::with_documents(rt, owned, address, documents)
+        let (book, disk) = open_book(rt, folder)?;
+        match find_documents(rt, folder) {
+            Ok(documents) => Ok(House {
+                rt,
+                alloc: rt.alloc(),
+                folder: owned,
+                address,
+                book,
+                disk,
+                documents,
+            }),
+            Err(error) => {
+                drop(book);
+                drop(disk);
+                Err(HouseFault::from(error))
+            }
+        }
     }
 
     // Makes the owner.
@@ -187,7 +188,7 @@ impl<'a> House<'a> {
         match make_folder(self.rt, self.folder.as_str(), name, identity) {
             Ok(()) => Ok(()),
             Err(_) => {
-                let _ = self.documents.pop();
+                drop(self.documents.pop());
                 Err(HouseFault::Failed)
             }
         }
