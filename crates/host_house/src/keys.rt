@@ -1,7 +1,8 @@
 //! Secrets of invitations and devices.
-ghost use Rattle.std.specs.Prelude.{◌≡◌, ◌<◌, ◌^◌, length, bytes_eq};
+ghost use Rattle.std.specs.Prelude.{◌≡◌, bytes_eq};
 ghost use Rattle.sha2.specs.Sha256.{sha256};
 
+use host_core::same_bytes;
 use host_people::{Digest, SECRET_BYTES, Secret};
 use sha2::{Digest as Hashes, Sha256};
 use std::io;
@@ -19,19 +20,6 @@ pub(crate) fn digest_of(secret: &Secret) -> Digest
     ensures { result ≡ sha256 secret.now }
 {
     Sha256::digest(secret)
-}
-
-// Whether the bytes are equal. It passes over all of them, wherever they differ first.
-fn same_bytes(a: &[u8], b: &[u8]) -> bool
-    requires same_length { length a.now ≡ length b.now }
-    requires short { length a.now < 2 ^ 32 }
-    ensures { result ≡ bytes_eq a.now b.now }
-{
-    let mut differing: u32 = 0;
-    for i in 0..a.len() {
-        differing += u32::from(a[i] != b[i]);
-    }
-    differing == 0
 }
 
 /// Whether two digests are one. It takes the same time wherever they differ.
