@@ -1,7 +1,7 @@
 """The host of a document that is played, with what else is run on its folder.
 
-It is the program $HOST, else out/host, and its follower $FOLLOW, else out/follow, where `bench/hosting/build out/host` and
-`bench/following/build out/follow` put them on request. What isn't built isn't run.
+It is the program $HOST, else the proved one where it stands built, and its follower $FOLLOW, else out/follow, where
+`bench/following/build out/follow` puts it on request. What isn't built isn't run.
 """
 import os
 import re
@@ -24,7 +24,7 @@ class NotRight(Exception):
 
 def program(word):
     """The program that a word begins, None where it isn't built. Copies are made where there is a host."""
-    variable, usual = ("FOLLOW", "out/follow") if word == "follow" else ("HOST", "out/host")
+    variable, usual = ("FOLLOW", "out/follow") if word == "follow" else ("HOST", "crates/host_main/out/host_main")
     path = os.path.join(TOP, os.environ.get(variable, usual))
     return path if os.access(path, os.X_OK) else None
 
