@@ -16,12 +16,19 @@ use host_socket::Limits;
 use log::sink::Console;
 use log::{LevelFilter, Logged};
 use setting::{Setting, Task, task_of};
-use std::env;
-use std::fs;
 use std::sync::Wait;
+use std::{env, fs};
 
 // The number of the owner who was made first.
 const FIRST_PERSON: u16 = 1;
+
+// What a host shows besides its documents.
+#[derive(Drop)]
+struct Front {
+    pages: Pages,
+    routes: Routes,
+    origins: Origins,
+}
 
 // The words that the program was started with.
 fn words(rt: &HostRuntime) -> Result<Vec<String>> {
@@ -93,19 +100,66 @@ fn origins(rt: &HostRuntime, set: &Setting) -> Result<Origins> {
     Ok(origins)
 }
 
-// Serves, until the system fails.
-fn serve(rt: &HostRuntime, wait: &impl Wait, set: &Setting) -> Result<()> {
-    let mut house = open_house(rt, &set.folder, set.address.as_str())?;
-    greet(rt, &mut house, set)?;
-    let pages = Pages::load(rt, set.web.as_str())?;
-    let Ok(routes) = Routes::new(rt.alloc()) else {
-        return Err(anyhow!("no memory"));
-    };
-    let origins = origins(rt, set)?;
-    let mut desk = Desk::new(rt, house, pages, routes, origins, Limits::USUAL);
+// The table of the routes.
+fn routes(rt: &HostRuntime) -> Result<Routes> {
+    match Routes::new(rt.alloc()) {
+        Ok(routes) => Ok(routes),
+        Err(_) => Err(anyhow!("no memory")),
+    }
+}
+
+// Listens, and serves until the system fails.
+fn run_desk(rt: &HostRuntime, wait: &impl Wait, set: &Setting, desk: &mut Desk<'_>) -> Result<()> {
     let log = Logged::new(rt, LevelFilter::Info, Console(rt));
     desk.run(wait, &log, set.listen)?;
     Ok(())
+}
+
+// Serves what stands in a house that was opened.
+fn serve_house(
+    rt: &HostRuntime,
+    wait: &impl Wait,
+    set: &Setting,
+    house: House<'_>,
+    front: Front,
+) -> Result<()> {
+    let Front {
+        pages,
+        routes,
+        origins,
+    } = front;
+    let mut desk = Desk::new(rt, house, pages, routes, origins, Limits::USUAL);
+    let outcome = run_desk(rt, wait, set, &mut desk);
+    drop(desk);
+    outcome
+}
+
+// Greets the owner, and serves. A house is let go in one place, as it takes long to prove what that does.
+fn serve_greeted(
+    rt: &HostRuntime,
+    wait: &impl Wait,
+    set: &Setting,
+    mut house: House<'_>,
+    front: Front,
+) -> Result<()> {
+    match greet(rt, &mut house, set) {
+        Ok(()) => serve_house(rt, wait, set, house, front),
+        Err(error) => {
+            drop(house);
+            Err(error)
+        }
+    }
+}
+
+// Serves, until the system fails.
+fn serve(rt: &HostRuntime, wait: &impl Wait, set: &Setting) -> Result<()> {
+    let front = Front {
+        pages: Pages::load(rt, set.web.as_str())?,
+        routes: routes(rt)?,
+        origins: origins(rt, set)?,
+    };
+    let house = open_house(rt, &set.folder, set.address.as_str())?;
+    serve_greeted(rt, wait, set, house, front)
 }
 
 // Whether a folder has a house, of which nothing is made.
@@ -117,10 +171,22 @@ fn has_house(rt: &HostRuntime, folder: &str) -> Result<bool> {
 // Tells what was found in a house of which some document may not be open.
 fn tell_found(rt: &HostRuntime, house: &House<'_>, text: &str) -> Result<()> {
     print!(rt; "{text}")?;
-    if house.documents().iter().any(|it| it.state_word() != "closed") {
+    if house
+        .documents()
+        .iter()
+        .any(|it| it.state_word() != "closed")
+    {
         return Err(anyhow!("a document can't be opened"));
     }
     Ok(())
+}
+
+// Looks at the documents of a house.
+fn verify_house(rt: &HostRuntime, folder: &String, house: &mut House<'_>) -> Result<()> {
+    match house.verify() {
+        Ok(text) => tell_found(rt, house, text.as_str()),
+        Err(fault) => Err(told(folder, fault)),
+    }
 }
 
 // Looks at the documents of a folder. That one can't be opened is an error.
@@ -130,10 +196,9 @@ fn verify(rt: &HostRuntime, folder: &String) -> Result<()> {
         return Err(anyhow!("there is no house in {place}"));
     }
     let mut house = open_house(rt, folder, "")?;
-    match house.verify() {
-        Ok(text) => tell_found(rt, &house, text.as_str()),
-        Err(fault) => Err(told(folder, fault)),
-    }
+    let outcome = verify_house(rt, folder, &mut house);
+    drop(house);
+    outcome
 }
 
 // What the words say is to be done. None where they are answered, as `--help` is.
