@@ -1,4 +1,5 @@
 //! The desk: a house, its connections, and who sits in which room.
+ghost use Rattle.std.specs.Prelude.{◌≡◌};
 
 use crate::conn::{Closing, Conn, Linked, Place, Stage};
 use crate::room::{Room, Seat, Who};
@@ -35,6 +36,16 @@ pub struct Desk<'a> {
     pub(crate) again: Vec<usize>,
     pub(crate) swept: u64,
     pub(crate) told: u64,
+}
+
+// Adds empty rooms to those that are there, until there are so many.
+fn add_rooms(alloc: Global, rooms: &mut Vec<Room>, count: usize) -> Result<(), Ending> {
+    for _ in rooms.len()..count {
+        if rooms.push(Room::empty(alloc)).is_err() {
+            return Err(Ending::NoMemory);
+        }
+    }
+    Ok(())
 }
 
 impl<'a> Desk<'a> {
@@ -74,13 +85,11 @@ impl<'a> Desk<'a> {
     }
 
     // Has a room for each document.
-    pub(crate) fn make_rooms(&mut self) -> Result<(), Ending> {
-        for _ in self.rooms.len()..self.house.documents().len() {
-            if self.rooms.push(Room::empty(self.alloc)).is_err() {
-                return Err(Ending::NoMemory);
-            }
-        }
-        Ok(())
+    pub(crate) fn make_rooms(&mut self) -> Result<(), Ending>
+        ensures { self.new.house ≡ self.old.house }
+    {
+        let count = self.house.documents().len();
+        add_rooms(self.alloc, &mut self.rooms, count)
     }
 
     // The room of a place.
@@ -128,16 +137,7 @@ impl<'a> Desk<'a> {
         let Some(room) = self.room(place) else {
             return Err(Ending::NoDocument);
         };
-        let older = room.slot_of(seat.site);
-        if older.is_none() && room.links_of(seat.person) >= most {
-            return Err(Ending::TooManyLinks);
-        }
-        if room.seats.push(seat).is_err() {
-            return Err(Ending::NoMemory);
-        }
-        room.here_changed = true;
-        room.must_push = true;
-        if let Some(older) = older {
+        if let Some(older) = room.take_seat(seat, most)? {
             self.end_slot(older, Ending::Replaced);
         }
         Ok(())

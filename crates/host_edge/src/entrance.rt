@@ -1,4 +1,5 @@
 //! The entrance: who connects is taken in.
+ghost use Rattle.std.specs.Prelude.{◌≤◌, vec_len};
 
 use crate::conn::{Asking, Conn, Stage};
 use crate::desk::Desk;
@@ -53,7 +54,9 @@ impl Entrance {
 
 impl<'a> Desk<'a> {
     // A slot for one more connection.
-    fn new_slot(&mut self) -> io::Result<Option<usize>> {
+    fn new_slot(&mut self) -> io::Result<Option<usize>>
+        ensures { vec_len self.old.conns ≤ self.old.limits.connections → vec_len self.new.conns ≤ self.old.limits.connections }
+    {
         if let Some(slot) = self.free.pop() {
             return Ok(Some(slot));
         }

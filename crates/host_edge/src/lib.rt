@@ -7,6 +7,7 @@
 mod conn;
 mod desk;
 mod entrance;
+mod found;
 mod linking;
 mod opening;
 mod pushing;

@@ -1,4 +1,9 @@
 //! Links that were welcomed: what comes on them.
+ghost use Rattle.std.specs.Prelude.{◌≡◌, ◌≢◌, Some, IfSome};
+ghost use Rattle.host_core.specs.declared.event.Role.{Role};
+ghost use Rattle.host_people.specs.Holders.{role_of};
+ghost use Rattle.host_socket.specs.declared.socket.After.{After};
+ghost use Rattle.host_edge.specs.Rooms.{refused_frames};
 
 use crate::conn::{Conn, Linked, Place, Stage};
 use crate::desk::Desk;
@@ -89,14 +94,8 @@ fn take_frame(
     }
 }
 
-// Takes frames, one after another. What came in front of one that isn't taken stays.
-fn take_frames(desk: &mut Desk<'_>, linked: &mut Linked, bytes: &[u8]) -> After {
-    let Place::Document(number) = linked.place else {
-        return After::Ends(Ending::BadMessage);
-    };
-    if !linked.writes {
-        return After::Ends(Ending::OnlyReads);
-    }
+// Takes frames for a document, one after another. What came in front of one that isn't taken stays.
+fn take_all(desk: &mut Desk<'_>, linked: &mut Linked, number: usize, bytes: &[u8]) -> After {
     let mut at = 0usize;
     for _ in 0..bytes.len() {
         let rest = bytes.get(at..).unwrap_or(&[]);
@@ -109,6 +108,19 @@ fn take_frames(desk: &mut Desk<'_>, linked: &mut Linked, bytes: &[u8]) -> After 
         }
     }
     After::More
+}
+
+// Takes frames. A link to the house sends none, and a reader's neither: nothing is changed then.
+fn take_frames(desk: &mut Desk<'_>, linked: &mut Linked, bytes: &[u8]) -> After
+    ensures { IfSome (refused_frames linked.old.place linked.old.writes) (λ why. (result ≡ After.Ends why) × (desk.new ≡ desk.old)) }
+{
+    let Place::Document(number) = linked.place else {
+        return After::Ends(Ending::BadMessage);
+    };
+    if !linked.writes {
+        return After::Ends(Ending::OnlyReads);
+    }
+    take_all(desk, linked, number, bytes)
 }
 
 // Does what comes of an order.
@@ -136,7 +148,9 @@ fn make_order(
     linked: &Linked,
     number: u32,
     lines: &str,
-) -> Result<Done, AllocError> {
+) -> Result<Done, AllocError>
+    ensures { role_of linked.now.person desk.old.house.changes ≢ Some Role.Owner → desk.new ≡ desk.old }
+{
     let place = match linked.place {
         Place::Document(document) => Some((document, linked.link)),
         Place::House => None,

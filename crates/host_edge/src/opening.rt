@@ -1,4 +1,6 @@
 //! Sockets that have to show a secret.
+ghost use Rattle.std.specs.Prelude.{IfOk};
+ghost use Rattle.host_house.specs.Household.{HoldsKey};
 
 use crate::conn::{Conn, Linked, Place, Stage, Unknown};
 use crate::desk::Desk;
@@ -19,7 +21,9 @@ const MOST_AT_ONCE: u32 = 16;
 const NO_NAME: &str = "-";
 
 // Lets a link in to the house.
-fn enter_house(desk: &Desk<'_>, claim: &Claim) -> Result<Admitted, Ending> {
+fn enter_house(desk: &Desk<'_>, claim: &Claim) -> Result<Admitted, Ending>
+    ensures key { IfOk result (λ admitted. HoldsKey admitted.person claim.now.site claim.now.secret desk.entry.now.house.changes) }
+{
     if claim.document.is_some() || claim.from != 0 {
         return Err(Ending::BadMessage);
     }
@@ -37,16 +41,23 @@ fn enter_house(desk: &Desk<'_>, claim: &Claim) -> Result<Admitted, Ending> {
     })
 }
 
+// Lets a link in to the document of a number.
+fn enter_document(desk: &mut Desk<'_>, number: usize, claim: &Claim) -> Result<Admitted, Ending>
+    ensures key { IfOk result (λ admitted. HoldsKey admitted.person claim.now.site claim.now.secret desk.old.house.changes) }
+{
+    desk.make_rooms()?;
+    let admitted = desk.house.admit(number, claim);
+    desk.mark_unsaved(number);
+    admitted
+}
+
 // Lets a link in where it wants to.
-fn enter(desk: &mut Desk<'_>, place: Place, claim: &Claim) -> Result<Admitted, Ending> {
+fn enter(desk: &mut Desk<'_>, place: Place, claim: &Claim) -> Result<Admitted, Ending>
+    ensures key { IfOk result (λ admitted. HoldsKey admitted.person claim.now.site claim.now.secret desk.old.house.changes) }
+{
     match place {
         Place::House => enter_house(desk, claim),
-        Place::Document(number) => {
-            desk.make_rooms()?;
-            let admitted = desk.house.admit(number, claim);
-            desk.mark_unsaved(number);
-            admitted
-        }
+        Place::Document(number) => enter_document(desk, number, claim),
     }
 }
 

@@ -1,53 +1,87 @@
 //! What links are sent: what they lack of what is saved, answers and news.
+ghost use Rattle.std.specs.Prelude.{◌≡◌, ◌++◌, nat_lt, true, false, Ok, IfOk};
+ghost use Rattle.edit_message.specs.declared.message.Message.{Message};
+ghost use Rattle.edit_frame.specs.declared.frame.Frame.TheVariants.{Item};
+ghost use Rattle.edit_frame.specs.Spelling.{spelling};
+ghost use Rattle.host_edge.specs.Gifts.{behind_gift, GivesFrames};
+ghost use Rattle.host_edge.specs.declared.conn.Place.{Place};
 
 use crate::conn::{Conn, Linked, Place, Stage};
 use crate::desk::Desk;
 use crate::linking::left_of;
 use crate::telling::tell_news;
 use edit_frame::{Frame, encode};
+use host_core::LinkId;
+use host_document::Document;
 use host_link::{Ending, FRAMES_AT_ONCE};
 use host_socket::{After, flush, send_frames, send_text};
+use std::alloc::Global;
 use std::mem;
 
 // How many messages are sent on one link before it is the others' turn.
 const MOST_SENT: u32 = 4;
 
-// The frames of the next messages for a link, up to the size at which a message ends.
+// Puts the frame of the next message for a link behind others, if it lacks one that is saved, and says whether it does.
+fn put_next(
+    alloc: Global,
+    document: &mut Document<'_>,
+    link: LinkId,
+    frames: &mut Vec<u8>,
+) -> Result<bool, Ending>
+    ensures put { IfOk result (λ is_put. is_put ≡ true
+        → (m : Message) × (document.new ≡ behind_gift link m document.old) × (frames.new.items ≡ frames.old.items ++ spelling (Item m))) }
+    ensures left { IfOk result (λ is_put. is_put ≡ false
+        → (document.new ≡ document.old) × (frames.new.items ≡ frames.old.items)) }
+{
+    let Some(message) = document.next_item(link)? else {
+        return Ok(false);
+    };
+    match encode(alloc, &Frame::Item(message), frames) {
+        Ok(()) => Ok(true),
+        Err(_) => Err(Ending::NoMemory),
+    }
+}
+
+// Puts the frames of the next messages for a link behind others, up to the size at which a message ends, and says how many.
+fn put_frames(
+    alloc: Global,
+    document: &mut Document<'_>,
+    link: LinkId,
+    frames: &mut Vec<u8>,
+) -> Result<usize, Ending>
+    ensures { IfOk result (λ count. GivesFrames link count document.old document.new frames.old.items frames.new.items) }
+{
+    for count in 0..FRAMES_AT_ONCE {
+        if frames.len() >= FRAMES_AT_ONCE || !put_next(alloc, document, link, frames)? {
+            return Ok(count);
+        }
+    }
+    Ok(FRAMES_AT_ONCE)
+}
+
+// The frames of the next messages for a link, behind others, and how many.
 fn next_frames(
     desk: &mut Desk<'_>,
-    linked: &Linked,
     number: usize,
+    link: LinkId,
     frames: &mut Vec<u8>,
-) -> Result<u64, Ending> {
+) -> Result<usize, Ending> {
     let alloc = desk.alloc;
-    let Some(document) = desk.house.document(number) else {
-        return Err(Ending::NoDocument);
-    };
-    let mut count = 0u64;
-    for _ in 0..FRAMES_AT_ONCE {
-        if frames.len() >= FRAMES_AT_ONCE {
-            return Ok(count);
-        }
-        let Some(message) = document.next_item(linked.link)? else {
-            return Ok(count);
-        };
-        if encode(alloc, &Frame::Item(message), frames).is_err() {
-            return Err(Ending::NoMemory);
-        }
-        count = count.saturating_add(1);
+    match desk.house.document(number) {
+        Some(document) => put_frames(alloc, document, link, frames),
+        None => Err(Ending::NoDocument),
     }
-    Ok(count)
 }
 
 // Sends a link a message of frames. `None` where it lacks nothing.
 fn push_frames(desk: &mut Desk<'_>, linked: &mut Linked, number: usize) -> Option<After> {
     let mut frames = Vec::new(desk.alloc);
-    let count = match next_frames(desk, linked, number, &mut frames) {
+    let count = match next_frames(desk, number, linked.link, &mut frames) {
         Ok(0) => return None,
         Ok(count) => count,
         Err(why) => return Some(After::Ends(why)),
     };
-    desk.counts.items = desk.counts.items.saturating_add(count);
+    desk.counts.items = desk.counts.items.saturating_add(count as u64);
     desk.counts.bytes = desk.counts.bytes.saturating_add(frames.len() as u64);
     Some(send_frames(desk.alloc, &mut linked.socket, &frames))
 }
@@ -79,8 +113,11 @@ pub(crate) fn send_answers(desk: &Desk<'_>, linked: &mut Linked) -> After {
     After::More
 }
 
-// Whether a link is told the answers that are kept for it: at a document once its host says that all is saved.
-fn may_tell(desk: &mut Desk<'_>, linked: &Linked) -> Result<bool, Ending> {
+// Whether a link is told the answers that are kept for it: at a document once its host says that all is saved, at the house
+// behind the turn in which the last one came.
+fn may_tell(desk: &mut Desk<'_>, linked: &Linked) -> Result<bool, Ending>
+    ensures house { linked.now.place ≡ Place.House → result ≡ Ok (nat_lt linked.now.answered desk.old.turn) }
+{
     match linked.place {
         Place::House => Ok(linked.answered < desk.turn),
         Place::Document(number) => match desk.house.document(number) {

@@ -1,5 +1,9 @@
 //! A room: those who are at a document, or at the house.
+ghost use Rattle.std.specs.Prelude.{◌≡◌, [], ◌∷◌, ◌++◌, true, Err, IfOk, OnOk, OnErr};
+ghost use Rattle.host_link.specs.declared.ending.Ending.{Ending};
+ghost use Rattle.host_edge.specs.Rooms.{person_links, device_slot, lacks_seat};
 
+use host_link::Ending;
 use std::alloc::Global;
 
 /// A link that was welcomed to a room.
@@ -74,19 +78,39 @@ impl Room {
         self.idle_since = now;
     }
 
-    /// How many links a person has here.
-    pub(crate) fn links_of(&self, person: u16) -> usize {
+    // How many links a person has here.
+    fn links_of(&self, person: u16) -> usize
+        ensures { result ≡ person_links person self.now.seats.items }
+    {
         self.seats.iter().filter(|it| it.person == person).count()
     }
 
-    /// The slot of the link that a device has here.
-    pub(crate) fn slot_of(&self, site: u16) -> Option<usize> {
-        for seat in &self.seats {
-            if seat.site == site {
-                return Some(seat.slot);
-            }
+    // The slot of the link that a device has here.
+    fn slot_of(&self, site: u16) -> Option<usize>
+        ensures { result ≡ device_slot site self.now.seats.items }
+    {
+        let seat = self.seats.iter().find(|it| it.site == site)?;
+        Some(seat.slot)
+    }
+
+    /// Seats a link, unless its person has as many here as he may. A device's older link doesn't count: its slot is given, and
+    /// it is to end.
+    pub(crate) fn take_seat(&mut self, seat: Seat, most: usize) -> Result<Option<usize>, Ending>
+        ensures older { IfOk result (λ older. older ≡ device_slot seat.site self.old.seats.items) }
+        ensures seated { OnOk result (self.new.seats.items ≡ self.old.seats.items ++ seat ∷ []) }
+        ensures full { lacks_seat most seat self.old.seats.items ≡ true → result ≡ Err Ending.TooManyLinks }
+        ensures left { OnErr result (self.new.seats.items ≡ self.old.seats.items) }
+    {
+        let older = self.slot_of(seat.site);
+        if older.is_none() && self.links_of(seat.person) >= most {
+            return Err(Ending::TooManyLinks);
         }
-        None
+        if self.seats.push(seat).is_err() {
+            return Err(Ending::NoMemory);
+        }
+        self.here_changed = true;
+        self.must_push = true;
+        Ok(older)
     }
 
     /// Keeps the caret of a slot until it is passed on, in place of an older one. Where memory is wanting it is let go.

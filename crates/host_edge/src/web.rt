@@ -2,6 +2,7 @@
 
 use crate::conn::{Answering, Asking, Conn, Place, Stage, Unknown};
 use crate::desk::Desk;
+use crate::found::{Found, found_at};
 use crate::opening::serve_unknown;
 use host_http::{
     Asked, Credential, MAX_HEAD, Part, Route, Status, body_head, moved_answer, read_head,
@@ -37,11 +38,14 @@ fn refused(alloc: Global, status: Status) -> Result<Answer, AllocError> {
     Ok(Answer::Whole(status_answer(alloc, status)?))
 }
 
+// What the host counts.
+fn metrics_answer(desk: &Desk<'_>) -> Result<Answer, AllocError> {
+    let text = desk.counts.text(desk.alloc, desk.open_count())?;
+    with_body(desk.alloc, PLAIN, text.as_str().as_bytes())
+}
+
 // The file of a page.
-fn file_answer(desk: &Desk<'_>, name: &str) -> Result<Answer, AllocError> {
-    let Some(number) = desk.pages.find(name) else {
-        return refused(desk.alloc, Status::NotFound);
-    };
+fn file_answer(desk: &Desk<'_>, number: usize) -> Result<Answer, AllocError> {
     let Some(file) = desk.pages.file(number) else {
         return refused(desk.alloc, Status::NotFound);
     };
@@ -49,32 +53,15 @@ fn file_answer(desk: &Desk<'_>, name: &str) -> Result<Answer, AllocError> {
     Ok(Answer::File(head, number))
 }
 
-// Whether a device's secret is shown.
-fn is_known(desk: &Desk<'_>, credential: Option<Credential>) -> bool {
-    match credential {
-        Some(it) => desk.house.holder(it.site, &it.secret).is_some(),
-        None => false,
-    }
+// What a document's path without its last slash is answered by.
+fn page_answer(desk: &Desk<'_>, name: &str) -> Result<Answer, AllocError> {
+    let path = format!(in desk.alloc; "{name}/")?;
+    Ok(Answer::Whole(moved_answer(desk.alloc, path.as_str())?))
 }
 
-// A part of a document, for who shows a device's secret.
-fn part_answer(
-    desk: &mut Desk<'_>,
-    name: &str,
-    part: Part,
-    credential: Option<Credential>,
-) -> Result<Answer, AllocError> {
+// A part of a document that is open.
+fn part_answer(desk: &mut Desk<'_>, number: usize, part: Part) -> Result<Answer, AllocError> {
     let alloc = desk.alloc;
-    if !is_known(desk, credential) {
-        return refused(alloc, Status::Unauthorized);
-    }
-    let Some(number) = desk.house.find(name) else {
-        return refused(alloc, Status::NotFound);
-    };
-    if desk.house.open_document(number).is_err() {
-        return refused(alloc, Status::Unavailable);
-    }
-    desk.stay(number);
     let Some(document) = desk.house.document(number) else {
         return refused(alloc, Status::NotFound);
     };
@@ -90,36 +77,26 @@ fn part_answer(
     }
 }
 
-// What a document's path without its last slash is answered by.
-fn page_answer(desk: &Desk<'_>, name: &str) -> Result<Answer, AllocError> {
-    let path = format!(in desk.alloc; "{name}/")?;
-    Ok(Answer::Whole(moved_answer(desk.alloc, path.as_str())?))
+// What is found at a route, as an answer.
+fn found_answer(desk: &mut Desk<'_>, found: Found<'_>) -> Result<Answer, AllocError> {
+    match found {
+        Found::Health => with_body(desk.alloc, PLAIN, b"ok\n"),
+        Found::Metrics => metrics_answer(desk),
+        Found::File(number) => file_answer(desk, number),
+        Found::Page(name) => page_answer(desk, name),
+        Found::Part(number, part) => part_answer(desk, number, part),
+    }
 }
 
-// What stands at a route.
+// What a request for a route is answered by.
 fn answer_of(
     desk: &mut Desk<'_>,
-    route: Route,
+    route: &Route,
     credential: Option<Credential>,
 ) -> Result<Answer, AllocError> {
-    match route {
-        Route::Health => with_body(desk.alloc, PLAIN, b"ok\n"),
-        Route::Metrics => {
-            let text = desk.counts.text(desk.alloc, desk.open_count())?;
-            with_body(desk.alloc, PLAIN, text.as_str().as_bytes())
-        }
-        Route::File(name) => file_answer(desk, name.as_str()),
-        Route::Document {
-            name,
-            part: Part::Page,
-        } => page_answer(desk, name.as_str()),
-        Route::Document {
-            name: _,
-            part: Part::Link,
-        } => refused(desk.alloc, Status::BadRequest),
-        Route::Document { name, part } => part_answer(desk, name.as_str(), part, credential),
-        Route::House => refused(desk.alloc, Status::BadRequest),
-        Route::Nothing => refused(desk.alloc, Status::NotFound),
+    match found_at(desk, route, credential) {
+        Ok(found) => found_answer(desk, found),
+        Err(status) => refused(desk.alloc, status),
     }
 }
 
@@ -230,7 +207,7 @@ fn do_asked(
             answer_request(desk, asking, answer, until)
         }
         Asked::Get { route, credential } => {
-            let answer = answer_of(desk, route, credential);
+            let answer = answer_of(desk, &route, credential);
             answer_request(desk, asking, answer, until)
         }
         Asked::Link { route, answer, len } => match place_of(desk, &route) {

@@ -1,0 +1,3 @@
+pub mod Replies
+pub mod Gifts
+pub mod Rooms

@@ -1,0 +1,108 @@
+//! What stands at a route of HTTP, and who may be told of it.
+ghost use Rattle.std.specs.Prelude.{◌≡◌, Err, IfSome, IsOk};
+ghost use Rattle.host_http.specs.declared.route.Route.{Route};
+ghost use Rattle.host_edge.specs.Replies.{shows_device, key_status, part_status, refused_status};
+
+use crate::desk::Desk;
+use host_http::{Credential, Part, Route, Status};
+
+/// What is told of what stands at a route.
+#[derive(Clone, Copy)]
+pub(crate) enum Found<'r> {
+    /// That the host goes on.
+    Health,
+    /// What it counts.
+    Metrics,
+    /// The file of the page of this number.
+    File(usize),
+    /// The page of the document of this name, which stands at another path.
+    Page(&'r str),
+    /// A part of the document of this number, which is open.
+    Part(usize, Part),
+}
+
+// Whether a device that is open is shown by its secret.
+fn shows_device(desk: &Desk<'_>, credential: Option<Credential>) -> bool
+    ensures { result ≡ shows_device credential desk.entry.now.house.changes }
+{
+    match credential {
+        Some(it) => desk.house.holder(it.site, &it.secret).is_some(),
+        None => false,
+    }
+}
+
+// The file of the page of this name.
+fn file_at<'r>(desk: &Desk<'_>, name: &str) -> Result<Found<'r>, Status> {
+    match desk.pages.find(name) {
+        Some(number) => Ok(Found::File(number)),
+        None => Err(Status::NotFound),
+    }
+}
+
+// A part of a document that is opened for it.
+fn opened_part<'r>(desk: &mut Desk<'_>, name: &str, part: Part) -> Result<Found<'r>, Status> {
+    let Some(number) = desk.house.find(name) else {
+        return Err(Status::NotFound);
+    };
+    if desk.house.open_document(number).is_err() {
+        return Err(Status::Unavailable);
+    }
+    desk.stay(number);
+    Ok(Found::Part(number, part))
+}
+
+// A part of a document, for who shows a device's secret.
+fn part_at<'r>(
+    desk: &mut Desk<'_>,
+    name: &str,
+    part: Part,
+    credential: Option<Credential>,
+) -> Result<Found<'r>, Status>
+    ensures { IfSome (key_status (shows_device credential desk.old.house.changes))
+        (λ status. (result ≡ Err status) × (desk.new.house ≡ desk.old.house)) }
+{
+    if shows_device(desk, credential) {
+        opened_part(desk, name, part)
+    } else {
+        Err(Status::Unauthorized)
+    }
+}
+
+// What stands at a part of the document of a name.
+fn document_at<'r>(
+    desk: &mut Desk<'_>,
+    name: &'r str,
+    part: Part,
+    credential: Option<Credential>,
+) -> Result<Found<'r>, Status>
+    ensures refused { IfSome (part_status part (shows_device credential desk.old.house.changes))
+        (λ status. (result ≡ Err status) × (desk.new.house ≡ desk.old.house)) }
+{
+    match part {
+        Part::Page => Ok(Found::Page(name)),
+        Part::Link => Err(Status::BadRequest),
+        Part::Text => part_at(desk, name, Part::Text, credential),
+        Part::Journal => part_at(desk, name, Part::Journal, credential),
+        Part::Certificate => part_at(desk, name, Part::Certificate, credential),
+    }
+}
+
+/// What stands at a route, for who shows this. Where it is refused whatever stands in the folder, nothing is opened.
+pub(crate) fn found_at<'r>(
+    desk: &mut Desk<'_>,
+    route: &'r Route,
+    credential: Option<Credential>,
+) -> Result<Found<'r>, Status>
+    ensures health { route.now ≡ Route.Health → IsOk result }
+    ensures refused { IfSome (refused_status route.now (shows_device credential desk.old.house.changes))
+        (λ status. (result ≡ Err status) × (desk.new.house ≡ desk.old.house)) }
+{
+    match route {
+        Route::Health => Ok(Found::Health),
+        Route::Metrics => Ok(Found::Metrics),
+        Route::House => Err(Status::BadRequest),
+        Route::Document { name, part } => document_at(desk, name.as_str(), *part, credential),
+        Route::File(name) => file_at(desk, name.as_str()),
+        Route::Nothing => Err(Status::NotFound),
+    }
+}
