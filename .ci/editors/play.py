@@ -1,0 +1,345 @@
+"""Plays an editor and another member on one document of a host, by keys in a terminal: what is typed and what comes, undo, pastes, a loss of
+the link, a right that is taken away, letters of every length, and random edits that end in one text.
+
+    python3 .ci/editors/play.py HOST FOLLOW [EDITS] [EDITOR ..]
+"""
+import os
+import random
+import shutil
+import sys
+import tempfile
+import time
+
+sys.dont_write_bytecode = True
+from editor import SECONDS, Emacs, Neovim, Vim, Wrong, wait_for
+from team import Team
+from follower import Follower
+
+EDITORS = {"vim": Vim, "nvim": Neovim, "emacs": Emacs}
+LETTERS = ["a", "b", "c", " ", "\n", "\\", "é", "ß", "€", "漢", "𝄞", "\t", "#", "'", '"', "e\u0301"]
+FEW = 40  # so many edits without a number
+
+tried = 0
+
+
+def short(value):
+    """A value as it is told."""
+    told = repr(value)
+    return told if len(told) < 400 else f"{told[:200]} .. {told[-100:]}"
+
+
+def same(what, got, wanted):
+    global tried
+    tried += 1
+    if got != wanted:
+        raise Wrong(f"{what}: {short(got)} instead of {short(wanted)}")
+
+
+class Stage:
+    """A document on which Ann writes in an editor, and Ben by a follower."""
+
+    def __init__(self, kind, host, follow, folder):
+        self.team = Team(host, folder)
+        self.ann_secret, self.ann = self.team.invite("writer Ann")
+        ben_secret, _ = self.team.invite("writer Ben")
+        self.ben = Follower(follow, self.team.address(ben_secret), os.path.join(folder, "ben"))
+        self.ben.wait_for("a link", lambda: any(line.startswith("linked ") for line in self.ben.news))
+        self.ben.reach(self.team.owner.link(self.team.host, "/d/notes/link").saved)
+        self.ben.begin()
+        address = self.team.address(self.ann_secret, is_cut=True)
+        self.way = self.team.ways[-1]
+        self.editor = EDITORS[kind](kind, folder, follow, address)
+
+    def meet(self, wanted=None):
+        """Waits until all have one text, and gives it."""
+        def one():
+            self.ben.take_all()
+            texts = {self.editor.text, self.ben.text, self.team.text}
+            return len(texts) == 1 and self.ben.unanswered == 0 and (wanted is None or texts == {wanted})
+        try:
+            wait_for("one text", one)
+        except Wrong:
+            texts = {"the editor": self.editor.text, "Ben": self.ben.text, "the host": self.team.text, "wanted": wanted}
+            raise Wrong(f"no one text: {', '.join(f'{who} {short(text)}' for who, text in texts.items())}") from None
+        return self.ben.text
+
+    def begin_with(self, text):
+        """All have this text, which Ben wrote."""
+        self.meet()
+        self.ben.replace(0, len(self.ben.text), text)
+        self.meet(text)
+
+    def settled(self):
+        """Waits until what Ann typed has gone out."""
+        wait_for("what was typed", lambda: self.editor.text == self.team.text)
+
+    def apart(self):
+        self.way.is_down = True
+        self.way.cut()
+
+    def linked(self):
+        self.way.is_down = False
+
+    def end(self):
+        self.editor.end()
+        self.ben.kill()
+        self.team.end()
+
+
+def play_typing(stage):
+    """What is typed comes to the others, and what they write comes here."""
+    stage.editor.write_at_end("Hello, team.")
+    stage.meet("Hello, team.")
+    stage.ben.replace(5, 5, " you")
+    stage.meet("Hello you, team.")
+    stage.editor.write_at_end(" So it goes on")
+    stage.meet("Hello you, team. So it goes on")
+
+
+def play_cursor(stage):
+    """The cursor stays at its letter while others write in front of it, on its line, and behind it."""
+    stage.begin_with("one\ntwo\nthree four\nfive")
+    stage.editor.go(3, 7)
+    stage.ben.replace(0, 0, "zero\nand\n")
+    stage.meet("zero\nand\none\ntwo\nthree four\nfive")
+    same("the cursor behind new lines", stage.editor.place(), [5, 7])
+    start = stage.ben.text.index("three")
+    stage.ben.replace(start, start + 5, "3é")
+    stage.meet("zero\nand\none\ntwo\n3é four\nfive")
+    wide = 1 if isinstance(stage.editor, Vim) else 0  # Vim counts bytes
+    same("the cursor behind another word", stage.editor.place(), [5, 4 + wide])
+    stage.ben.replace(len(stage.ben.text) - 4, len(stage.ben.text), "")
+    stage.ben.replace(0, 9, "")
+    stage.meet("one\ntwo\n3é four\n")
+    same("the cursor in front of what went", stage.editor.place(), [3, 4 + wide])
+
+
+def play_at_once(stage):
+    """Both write at once, Ann without leaving the line that she types."""
+    stage.begin_with("begin\n")
+    stage.editor.write_at_end("mine")
+    for number in range(5):
+        stage.ben.replace(0, 0, f"{number}\n")
+        stage.editor.write_at_end(f" {number}")
+    text = stage.meet()
+    same("what both wrote", text, "4\n3\n2\n1\n0\nbegin\nmine 0 1 2 3 4")
+
+
+def play_paste(stage):
+    """Three thousand letters and many lines are pasted while Ben writes."""
+    stage.begin_with("above\n")
+    pasted = "".join(f"line {number} of what is pasted, é漢𝄞\n" for number in range(100))[:3000]
+    stage.editor.begin_to_type_at_end()
+    stage.editor.terminal.paste(pasted)
+    stage.ben.replace(0, 0, "Ben\n")
+    stage.editor.end_to_type()
+    stage.meet("Ben\nabove\n" + pasted)
+    whole = "".join(f"line {number} of a text that is more than one line of the follower has room for\n" for number in range(400))
+    stage.editor.change(0, len(stage.editor.text), whole)
+    stage.meet(whole)
+
+
+def play_undo(stage):
+    """Undo takes back what Ann wrote, and nothing of what Ben wrote before it, within it and behind it."""
+    stage.begin_with("text")
+    stage.editor.write_at_end(" abcdef")
+    stage.settled()
+    stage.ben.take_all()
+    stage.meet("text abcdef")
+    stage.ben.replace(0, 0, "Ben's ")
+    stage.meet("Ben's text abcdef")
+    stage.ben.replace(14, 14, "-in-")
+    stage.meet("Ben's text abc-in-def")
+    stage.ben.replace(len(stage.ben.text), len(stage.ben.text), "!")
+    stage.meet("Ben's text abc-in-def!")
+    stage.editor.undo()
+    stage.meet("Ben's text-in-!")
+    stage.ben.replace(0, 6, "")
+    stage.meet("text-in-!")
+    stage.editor.redo()
+    text = stage.meet()
+    same("what was made again", sorted(text), sorted("text abcdef-in-!"))
+    stage.editor.undo()
+    stage.meet("text-in-!")
+
+
+def play_many(stage):
+    """A command that changes many lines sends each for itself, so that Ben's lines between them stay his."""
+    stage.begin_with("".join(f"{'this' if number % 3 else 'that'} is line {number}\n" for number in range(30)))
+    wanted = stage.ben.text.replace("this", "This one")
+    stage.editor.replace_all("this", "This one")
+    stage.meet(wanted)
+    stage.editor.undo()
+    stage.meet(wanted.replace("This one", "this"))
+
+
+def play_letters(stage):
+    """Letters of every length, those that compose, control signs, and what lines spell by other letters."""
+    stage.begin_with("a\u0301 ß€\n漢\t𝄞𝄞\\n\\\n\r\u0001 \u2028\U0010ffff")
+    stage.editor.change(1, 3, "ÿ𐍈")
+    stage.meet("aÿ𐍈ß€\n漢\t𝄞𝄞\\n\\\n\r\u0001 \u2028\U0010ffff")
+    stage.ben.replace(1, 2, "é")
+    text = "aé𐍈ß€\n漢\t𝄞𝄞\\n\\\n\r\u0001 \u2028\U0010ffff"
+    stage.meet(text)
+    stage.editor.write_at_end("äöü 漢字 🙂 \\n")
+    stage.meet(text + "äöü 漢字 🙂 \\n")
+
+
+def play_ends(stage):
+    """A text is empty, ends with a line end or without one, and each line end of it is the text's own."""
+    for text in ["", "x", "x\n", "\n", "\n\n", "", "\nx", "x\n\n"]:
+        stage.begin_with(text)
+        start = stage.editor.text
+        same("the text in the editor", start, text)
+        stage.editor.change(0, len(text), text + "\n")
+        stage.meet(text + "\n")
+        stage.editor.change(len(text), len(text) + 1, "")
+        stage.meet(text)
+
+
+def play_apart(stage):
+    """Both write while the link is lost, and meet when it is back."""
+    stage.begin_with("before\nbetween\n")
+    stage.apart()
+    stage.editor.write_at_end("Ann apart")
+    wait_for("that the link is lost", lambda: "apart" in stage.editor.state())
+    stage.ben.replace(0, 0, "Ben apart\n")
+    stage.editor.change(7, 14, "BETWEEN")
+    stage.linked()
+    stage.meet("Ben apart\nbefore\nBETWEEN\nAnn apart")
+
+
+def play_start(stage):
+    """An editor that is killed and started again has what it had, without the host."""
+    stage.begin_with("kept\n")
+    stage.apart()
+    stage.editor.write_at_end("Ann's")
+    wait_for("what she wrote is kept", stage.editor.is_kept)
+    stage.editor.start_again()
+    same("what the file has", stage.editor.text, "kept\nAnn's")
+    stage.linked()
+    stage.meet("kept\nAnn's")
+
+
+def play_rights(stage):
+    """A right goes while Ann is apart: what she wrote is undone, marked at its line, with the reason."""
+    stage.begin_with("first\nsecond\n")
+    stage.apart()
+    stage.editor.write_at_end("written apart")
+    wait_for("what she wrote is kept", stage.editor.is_kept)
+    stage.team.order(f"admin addauth 0 - @{stage.ann} idu 0")
+    stage.linked()
+    stage.meet("first\nsecond\n")
+    same("the lines that are marked", stage.editor.marks()[-1:], [3])
+    same("what was undone, and why", all(it in stage.editor.reasons() for it in ("written apart", "undone", "the rule says: Ann may not write everywhere")), True)
+    same("what the screen shows", "“written apart” undone: the rule says: Ann may not" in stage.editor.screen(), True)
+    stage.editor.go(1, 1)
+    stage.editor.change(0, 0, "denied ")
+    wait_for("what is denied is taken back", lambda: stage.editor.text == "first\nsecond\n")
+    same("what was denied", "denied" in stage.editor.reasons(), True)
+    same("its mark", 1 in stage.editor.marks(), True)
+    stage.editor.change(0, 2, "")
+    wait_for("a deletion that is denied is taken back", lambda: stage.editor.text == "first\nsecond\n")
+    same("who may do what", all(it in stage.editor.who() for it in ("Ann (writer, which is you, is here) may only read", "Ben (writer, is here) may write", "1. Ann may not write everywhere")), True)
+    stage.team.order("admin delauth 0")
+    wait_for("the right comes back", lambda: "Ann may not" not in stage.editor.who())
+    stage.editor.write_at_end("allowed")
+    stage.meet("first\nsecond\nallowed")
+
+
+PARTS = [play_typing, play_cursor, play_at_once, play_undo, play_many, play_letters, play_ends, play_paste, play_apart, play_start, play_rights]
+
+
+def change(dice, text, make):
+    """A random change of a text."""
+    start = dice.randint(0, len(text))
+    end = min(len(text), start + dice.choice([0, 0, 0, 1, 2, 5, 40]))
+    put = "".join(dice.choice(LETTERS) for _ in range(dice.choice([0, 1, 1, 1, 3, 12])))
+    if len(text) > 3000:
+        end = min(len(text), start + 400)
+    make(start, end, put if start < end or put else "z")
+
+
+def play_random(stages, edits, dice):
+    """Random edits of editors and of a follower, with losses of the link, end in one text."""
+    (stage, *others) = stages
+    editors = [it.editor for it in stages]
+    for number in range(edits):
+        who = dice.randint(0, len(editors))
+        if who == len(editors):
+            if dice.random() < 0.5:
+                stage.ben.take_all()
+            change(dice, stage.ben.text, stage.ben.replace)
+        else:
+            editor = editors[who]
+            change(dice, editor.text, editor.change)
+            if dice.random() < 0.05:
+                editor.undo()
+        if dice.random() < 0.02:
+            dice.choice(stages).way.cut()
+    wait_for("all is kept", lambda: all(it.is_kept() for it in editors))
+    text = stage.meet()
+    for other in others:
+        wait_for("the other editor's text", lambda: other.editor.text == text)
+    return text
+
+
+class Guest:
+    """Another editor on the document of a stage."""
+
+    def __init__(self, kind, stage, follow, folder):
+        secret, _ = stage.team.invite(f"writer {kind}")
+        address = stage.team.address(secret, is_cut=True)
+        self.way = stage.team.ways[-1]
+        self.editor = EDITORS[kind](kind + "-guest", folder, follow, address)
+
+
+def play(kinds, host, follow, edits, folder):
+    for kind in kinds:
+        stage = Stage(kind, host, follow, os.path.join(folder, kind))
+        try:
+            for part in PARTS:
+                begun = time.monotonic()
+                part(stage)
+                print(f"editors: {kind}: {part.__name__[5:]} is as it should be, in {time.monotonic() - begun:.1f} s", flush=True)
+        except Wrong:
+            print(stage.editor.terminal.screen())
+            raise
+        finally:
+            stage.end()
+    play_together(kinds, host, follow, edits, folder)
+
+
+def play_together(kinds, host, follow, edits, folder):
+    """All editors that are here write in one document."""
+    first, *rest = kinds
+    stage = Stage(first, host, follow, os.path.join(folder, "together"))
+    guests = []
+    try:
+        guests += [Guest(kind, stage, follow, os.path.join(folder, "together")) for kind in rest]
+        text = play_random([stage, *guests], edits, random.Random(11))
+        print(f"editors: {edits} random edits of {', '.join(kinds)} and a follower ended in one text of {len(text)} letters")
+    finally:
+        for guest in guests:
+            guest.editor.end()
+        stage.end()
+
+
+def main():
+    host, follow, *rest = sys.argv[1:]
+    edits = int(rest.pop(0)) if rest and rest[0].isdigit() else FEW
+    kinds = rest or [kind for kind, made in EDITORS.items() if shutil.which(made.program)]
+    folder = tempfile.mkdtemp(prefix="editors-")
+    for kind in [*kinds, "together"]:
+        os.makedirs(os.path.join(folder, kind))
+    try:
+        play(kinds, os.path.abspath(host), os.path.abspath(follow), edits, folder)
+    except Wrong as wrong:
+        print(f"editors: {wrong}")
+        sys.exit(1)
+    finally:
+        shutil.rmtree(folder, ignore_errors=True)
+    print(f"editors: {tried} answers are as they should be")
+
+
+main()

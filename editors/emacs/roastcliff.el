@@ -1,0 +1,802 @@
+;;; roastcliff.el --- Write in a document of a Roastcliff host  -*- lexical-binding: t -*-
+
+;; Package-Requires: ((emacs "27.1"))
+;; Keywords: comm, text
+
+;;; Commentary:
+
+;; `M-x roastcliff' asks for the address of a document and opens it in a buffer.  What you write goes to the others as you
+;; write, and what they write comes into the buffer, while you are linked; apart you go on, and all of it meets later.
+;; `undo' takes back what you wrote, and nothing of what others wrote.  What the rules denied or undid is marked at its line
+;; with the reason; `roastcliff-why' lists it, and `roastcliff-who' says who may do what.
+;;
+;; A program beside the editor, `roastcliff follow', keeps the document and talks with the host.  This file and the program
+;; say lines to one another: docs/FORMATS.md has them.  A place is counted in letters from the text's begin, from 0.
+
+;;; Code:
+
+(require 'cl-lib)
+(require 'subr-x)
+
+(defgroup roastcliff nil "Writing in documents of a Roastcliff host." :group 'comm)
+
+(defconst roastcliff--top
+  (expand-file-name "../.." (file-name-directory (file-truename (or load-file-name buffer-file-name default-directory))))
+  "The folder of the repository that this file is of.")
+
+(defcustom roastcliff-program
+  (list (or (executable-find "roastcliff") (expand-file-name "roastcliff" roastcliff--top)) "follow")
+  "The follower, as a list of words: usually this repository's front door."
+  :type '(repeat string))
+
+(defcustom roastcliff-folder
+  (expand-file-name "roastcliff" (or (getenv "XDG_DATA_HOME") "~/.local/share"))
+  "The folder of the documents' files."
+  :type 'directory)
+
+(defcustom roastcliff-delay 0.8
+  "How many seconds a word that isn't ended waits, at most, before it goes out."
+  :type 'number)
+
+(defface roastcliff-undone '((t :inherit warning)) "What was denied or undone, and why.")
+
+(defconst roastcliff--most-letters 15000
+  "How many letters go out in one line at most: a line has 65,536 bytes.")
+
+(defconst roastcliff--no-letter "[^\0-\uD7FF\uE000-\U0010FFFF]"
+  "What Emacs has as a letter and UTF-8 hasn't.")
+
+(cl-defstruct (roastcliff--document (:constructor roastcliff--document-of) (:copier nil))
+  "A document: its follower, what that knows of the buffer, and what it told."
+  address file buffer process
+  (rest "")                  ; what of a line has come
+  (lines nil)                ; lines that came and aren't taken yet
+  (is-busy nil)              ; whether lines are being taken
+  (state 'opening)           ; opening, linked, apart or ended
+  (is-open nil)              ; whether the buffer has the text
+  (tick 0)                   ; when the buffer was as the follower takes it to be
+  (shadow nil)               ; a buffer with the text that the follower takes this one to have
+  (pending nil)              ; changes that aren't sent yet, the last in front: (AT OUT PUT)
+  (seen 0) (unanswered 0)
+  (timer nil)
+  (rows nil) (rows-count 0)  ; changes that came and aren't in the buffer yet, the last in front: (AT OUT PUT)
+  (rows-reason nil)          ; why these came
+  (reason nil)               ; why the next change comes, where it takes something back
+  (undoing nil) (rows-undone 0)
+  (marks nil)                ; what was denied or undone: (TEXT DEED WHY)
+  (closed nil)               ; the host's words at a close
+  (person 0)
+  (people nil) (devices nil) (here nil)
+  (rules (roastcliff--rules-of)))
+
+(cl-defstruct (roastcliff--rules (:constructor roastcliff--rules-of) (:copier nil))
+  "The rules, as the entries of the administrator make them."
+  (version 0)
+  (entries (make-hash-table))  ; (KIND WORDS ..), by version
+  (was (make-hash-table))      ; the rule that an entry took away, by version
+  (objects (list (cons "0" '("all"))))
+  (list nil))                  ; the words of the rules: (PLACE SIGN USERS RIGHTS OBJECTS)
+
+(defvar-local roastcliff--document nil "The document of this buffer.")
+
+(defvar-local roastcliff--is-taking nil "Whether what changes this buffer comes from others.")
+
+;;;; Letters
+
+(defun roastcliff--clean (text)
+  "TEXT without what is no letter of UTF-8."
+  (replace-regexp-in-string roastcliff--no-letter "\uFFFD" text t t))
+
+(defun roastcliff--spelled (text)
+  "TEXT as a line says it: a line end is \\n, a backslash is \\\\."
+  (string-replace "\n" "\\n" (string-replace "\\" "\\\\" (roastcliff--clean text))))
+
+(defun roastcliff--read (spelled)
+  "The text that is SPELLED so."
+  (if (string-search "\\" spelled)
+      (mapconcat (lambda (part) (string-replace "\\n" "\n" part)) (split-string spelled "\\\\\\\\") "\\")
+    spelled))
+
+;;;; What was written is sent
+
+(defun roastcliff--say (document line)
+  "Say LINE to the follower of DOCUMENT."
+  (let ((process (roastcliff--document-process document)))
+    (when (process-live-p process)
+      (process-send-string process (concat line "\n")))))
+
+(defun roastcliff--parts (text)
+  "TEXT in parts that a line has room for, at least one."
+  (or (cl-loop for at from 0 below (length text) by roastcliff--most-letters
+               collect (substring text at (min (length text) (+ at roastcliff--most-letters))))
+      (list "")))
+
+(defun roastcliff--say-replace (document at out put)
+  "Say in DOCUMENT that PUT comes in place of OUT letters from place AT on."
+  (when (zerop (roastcliff--document-unanswered document))
+    (setf (roastcliff--document-reason document) (roastcliff--document-rows-reason document)))
+  (roastcliff--forget-rows document)
+  (dolist (part (roastcliff--parts put))
+    (roastcliff--say document (format "seen %d" (roastcliff--document-seen document)))
+    (roastcliff--say document (format "replace %d %d%s" at (+ at out)
+                                      (if (string-empty-p part) "" (concat " " (roastcliff--spelled part)))))
+    (cl-incf (roastcliff--document-unanswered document))
+    (setq at (+ at (length part)) out 0)))
+
+(defun roastcliff--put-in (buffer at out put)
+  "Put in BUFFER the text PUT in place of OUT letters from place AT on."
+  (with-current-buffer buffer
+    (save-excursion
+      (save-restriction
+        (widen)
+        (goto-char (1+ at))
+        ;; What comes is put in front of what goes, so that a point behind that stays behind it.
+        (insert put)
+        (delete-region (point) (+ (point) out))))))
+
+(defun roastcliff--joined (last at out put)
+  "The change LAST with the next one, of OUT letters from AT on by PUT, if they touch."
+  (pcase-let ((`(,last-at ,last-out ,last-put) last))
+    (cond
+     ((null last) nil)
+     ((and (<= last-at at) (<= at (+ last-at (length last-put))))
+      (let* ((from (- at last-at))
+             (in (min out (- (length last-put) from))))
+        (list last-at (+ last-out (- out in))
+              (concat (substring last-put 0 from) put (substring last-put (+ from in))))))
+     ((and (< at last-at) (= (+ at out) last-at))
+      (list at (+ last-out out) (concat put last-put))))))
+
+(defun roastcliff--changed (begin end out)
+  "Note that OUT letters were replaced by those from BEGIN to END."
+  (when (and roastcliff--document (not roastcliff--is-taking))
+    (let* ((document roastcliff--document)
+           (put (buffer-substring-no-properties begin end))
+           (at (- begin 1))
+           (pending (roastcliff--document-pending document))
+           (joined (roastcliff--joined (car pending) at out put)))
+      (setf (roastcliff--document-pending document)
+            (if joined (cons joined (cdr pending)) (cons (list at out put) pending)))
+      (unless (roastcliff--document-timer document)
+        (setf (roastcliff--document-timer document)
+              (run-with-timer roastcliff-delay nil #'roastcliff--send document))))))
+
+(defun roastcliff--difference (shadow)
+  "The change that makes of the text of SHADOW that of this buffer, nil where they are the same."
+  (let* ((case-fold-search nil)
+         (size (1- (point-max)))
+         (old-size (with-current-buffer shadow (1- (point-max))))
+         (found (compare-buffer-substrings shadow nil nil nil nil nil)))
+    (unless (zerop found)
+      (let ((front (1- (abs found))) (end 0))
+        (while (and (< (+ front end) (min size old-size))
+                    (eq (char-before (- (point-max) end)) (with-current-buffer shadow (char-before (- (point-max) end)))))
+          (cl-incf end))
+        (list front (- old-size front end)
+              (buffer-substring-no-properties (1+ front) (- (point-max) end)))))))
+
+(defun roastcliff--say-change (document change)
+  "Say a CHANGE of DOCUMENT, and take it into what the follower is taken to know."
+  (pcase-let ((`(,at ,out ,put) change))
+    (roastcliff--say-replace document at out put)
+    (roastcliff--put-in (roastcliff--document-shadow document) at out (roastcliff--clean put))))
+
+(defun roastcliff--clean-buffer ()
+  "Clean this buffer of what is no letter of UTF-8."
+  (save-excursion
+    (let ((roastcliff--is-taking t))
+      (goto-char (point-min))
+      (while (re-search-forward roastcliff--no-letter nil t)
+        (replace-match "\uFFFD" t t)))))
+
+(defun roastcliff--send (document)
+  "Send what was written in the buffer of DOCUMENT since it was sent last."
+  (when (roastcliff--document-timer document)
+    (cancel-timer (roastcliff--document-timer document))
+    (setf (roastcliff--document-timer document) nil))
+  (when (buffer-live-p (roastcliff--document-buffer document))
+    (with-current-buffer (roastcliff--document-buffer document)
+      (when (and (roastcliff--document-is-open document)
+                 (/= (buffer-chars-modified-tick) (roastcliff--document-tick document))
+                 (process-live-p (roastcliff--document-process document)))
+        (roastcliff--send-pending document)))))
+
+(defun roastcliff--send-pending (document)
+  "Send the changes of DOCUMENT that are known, and what differs nevertheless."
+  (save-restriction
+    (widen)
+    (let ((changes (nreverse (roastcliff--document-pending document))))
+      (setf (roastcliff--document-pending document) nil)
+      (dolist (change changes)
+        (roastcliff--say-change document change))
+      (when (cl-some (lambda (change) (string-match-p roastcliff--no-letter (nth 2 change))) changes)
+        (roastcliff--clean-buffer)))
+    (when-let ((change (roastcliff--difference (roastcliff--document-shadow document))))
+      (roastcliff--say-change document change))
+    (setf (roastcliff--document-tick document) (buffer-chars-modified-tick))))
+
+(defun roastcliff--command-ended ()
+  "Send what a command wrote, unless it is a word that isn't ended."
+  (when-let ((document roastcliff--document))
+    (when (and (roastcliff--document-pending document)
+               (not (and (memq this-command '(self-insert-command delete-backward-char backward-delete-char-untabify))
+                         (char-before)
+                         (not (memq (char-syntax (char-before)) '(?\s ?>))))))
+      (roastcliff--send document))))
+
+(defun roastcliff--show-kept (document)
+  "Show as unmodified what is kept of DOCUMENT."
+  (when (and (zerop (roastcliff--document-unanswered document)) (null (roastcliff--document-pending document)))
+    (with-current-buffer (roastcliff--document-buffer document)
+      (restore-buffer-modified-p nil))))
+
+;;;; Undo
+;;
+;; A row of changes of others is carried over the entries of `buffer-undo-list', so that `undo' takes back what was written
+;; here and nothing else.  A step is (AT OUT PUT): from place AT on OUT letters go, or PUT letters come; one of them is 0.
+
+(defun roastcliff--cross-put (put out)
+  "The steps of PUT and of OUT, each after the other: the first puts letters in, the second takes some out."
+  (pcase-let* ((`(,at ,_ ,size) put) (`(,from ,count ,_) out) (end (+ from count)))
+    (cond
+     ((<= at from) (cons (list put) (list (list (+ from size) count 0))))
+     ((>= at end) (cons (list (list (- at count) 0 size)) (list out)))
+     (t (cons (list (list from 0 size))
+              (list (list from (- at from) 0) (list (+ from size) (- end at) 0)))))))
+
+(defun roastcliff--cross-out (one other)
+  "The steps of ONE after OTHER: both take letters out."
+  (pcase-let* ((`(,at ,out ,_) one) (`(,from ,count ,_) other)
+               (common (max 0 (- (min (+ at out) (+ from count)) (max at from))))
+               (before (max 0 (- (min at (+ from count)) from))))
+    (when (> out common)
+      (list (list (- at before) (- out common) 0)))))
+
+(defun roastcliff--cross-two (one other)
+  "The steps of ONE and of OTHER, which were meant for one text, each after the other."
+  (pcase-let ((`(,at ,_ ,put) one) (`(,other-at ,_ ,other-put) other))
+    (cond
+     ((and (> put 0) (> other-put 0))
+      (if (<= at other-at)
+          (cons (list one) (list (list (+ other-at put) 0 other-put)))
+        (cons (list (list (+ at other-put) 0 put)) (list other))))
+     ((> put 0) (roastcliff--cross-put one other))
+     ((> other-put 0) (let ((crossed (roastcliff--cross-put other one))) (cons (cdr crossed) (car crossed))))
+     (t (cons (roastcliff--cross-out one other) (roastcliff--cross-out other one))))))
+
+(defun roastcliff--cross (ones others)
+  "The steps of ONES and of OTHERS, each after the other."
+  (cond
+   ((or (null ones) (null others)) (cons ones others))
+   ((and (null (cdr ones)) (null (cdr others))) (roastcliff--cross-two (car ones) (car others)))
+   ((cdr ones)
+    (let* ((first (roastcliff--cross (list (car ones)) others))
+           (rest (roastcliff--cross (cdr ones) (cdr first))))
+      (cons (append (car first) (car rest)) (cdr rest))))
+   (t
+    (let* ((first (roastcliff--cross ones (list (car others))))
+           (rest (roastcliff--cross (car first) (cdr others))))
+      (cons (car rest) (append (cdr first) (cdr rest)))))))
+
+(defun roastcliff--moved (place steps)
+  "Where the position PLACE of a buffer is after STEPS."
+  (dolist (step steps place)
+    (pcase-let* ((`(,at ,out ,put) step) (start (1+ at)))
+      (setq place (cond ((< place start) place)
+                        ((> put 0) (if (> place start) (+ place put) place))
+                        (t (max start (- place out))))))))
+
+(defun roastcliff--step-of (entry)
+  "The step that an ENTRY of the list of undo makes, nil where it changes no text."
+  (pcase entry
+    (`(,(and begin (pred integerp)) . ,(and end (pred integerp))) (list (1- begin) (- end begin) 0))
+    (`(,(and text (pred stringp)) . ,(and place (pred integerp))) (list (1- (abs place)) 0 (length text)))))
+
+(defun roastcliff--put-steps (cell text steps)
+  "Make of the entry in CELL the one of STEPS, which put in TEXT or take letters out."
+  (let ((entries (mapcar (lambda (step)
+                           (pcase-let ((`(,at ,out ,_) step))
+                             (if text (cons text (1+ at)) (cons (1+ at) (+ 1 at out)))))
+                         steps)))
+    (setcar cell (or (car entries) '(apply cdr nil)))
+    (setcdr cell (append (cdr entries) (cdr cell)))))
+
+(defun roastcliff--carry-entry (cell steps)
+  "Carry the entry of undo in CELL over STEPS of others, and give these after it."
+  (let* ((entry (car cell)) (step (roastcliff--step-of entry)))
+    (pcase entry
+      ((guard (and step (= 0 (nth 1 step) (nth 2 step)))) steps)
+      ((guard step)
+       (let ((crossed (roastcliff--cross (list step) steps)))
+         (roastcliff--put-steps cell (and (stringp (car entry)) (car entry)) (car crossed))
+         (cdr crossed)))
+      ((pred integerp) (setcar cell (roastcliff--moved entry steps)) steps)
+      (`(nil ,property ,value ,begin . ,end)
+       (setcar cell `(nil ,property ,value ,(roastcliff--moved begin steps) . ,(roastcliff--moved end steps)))
+       steps)
+      (`(apply ,(and delta (pred integerp)) ,begin ,end . ,call)
+       (setcar cell `(apply ,delta ,(roastcliff--moved begin steps) ,(roastcliff--moved end steps) . ,call))
+       steps)
+      (_ steps))))
+
+(defun roastcliff--carry-undo (at out put)
+  "Carry what undo knows of this buffer over a change of others, of OUT letters from AT on by PUT letters."
+  (let ((steps (append (and (> out 0) (list (list at out 0))) (and (> put 0) (list (list at 0 put)))))
+        (cell (and (consp buffer-undo-list) buffer-undo-list)))
+    (while (and cell steps)
+      (let ((next (cdr cell)))
+        (setq steps (roastcliff--carry-entry cell steps)
+              cell next)))))
+
+;;;; What comes
+
+(defun roastcliff--take-text (document spelled)
+  "The whole text of DOCUMENT comes, SPELLED."
+  (let ((text (roastcliff--read spelled)) (roastcliff--is-taking t) (inhibit-read-only t))
+    (with-current-buffer (roastcliff--document-shadow document)
+      (erase-buffer)
+      (insert text))
+    (erase-buffer)
+    (insert text)
+    (goto-char (point-min))
+    (roastcliff--forget-rows document)
+    (setq buffer-undo-list nil buffer-read-only nil)
+    (setf (roastcliff--document-is-open document) t
+          (roastcliff--document-tick document) (buffer-chars-modified-tick)
+          (roastcliff--document-seen document) 0
+          (roastcliff--document-unanswered document) 0
+          (roastcliff--document-pending document) nil)
+    (restore-buffer-modified-p nil)))
+
+(defun roastcliff--take-replaced (document rest)
+  "A range of DOCUMENT was replaced, or not all of it, as REST says."
+  (cl-decf (roastcliff--document-unanswered document))
+  (when (string-match " but \\(.*\\)" rest)
+    (let ((answer (match-string 1 rest)))
+      (setf (roastcliff--document-reason document) (cons 'denied answer))
+      (message "roastcliff: not written: %s" (roastcliff--refusal document answer))))
+  (roastcliff--show-kept document))
+
+(defun roastcliff--take-changed (document rest)
+  "A change of DOCUMENT comes, as REST says.
+One that comes before what was sent is answered was meant for another text,
+and comes again."
+  (when (roastcliff--document-is-open document)
+    (roastcliff--send document)
+    (when (> (roastcliff--document-rows-undone document) 0)
+      (cl-decf (roastcliff--document-rows-undone document))
+      (setf (roastcliff--document-reason document) (roastcliff--document-undoing document)))
+    (when (zerop (roastcliff--document-unanswered document))
+      (roastcliff--keep-row document rest))))
+
+(defun roastcliff--keep-row (document rest)
+  "Keep the change of DOCUMENT that REST says, until all of them are made."
+  (unless (equal (roastcliff--document-reason document) (roastcliff--document-rows-reason document))
+    (roastcliff--show-rows document))
+  (when (string-match "\\`\\([0-9]+\\) \\([0-9]+\\) ?" rest)
+    (let* ((at (string-to-number (match-string 1 rest)))
+           (out (string-to-number (match-string 2 rest)))
+           (put (roastcliff--read (substring rest (match-end 0))))
+           (rows (roastcliff--document-rows document))
+           ;; A piece that is replaced comes as two changes.
+           (joined (roastcliff--joined (car rows) at out put)))
+      (setf (roastcliff--document-rows document)
+            (if joined (cons joined (cdr rows)) (cons (list at out put) rows)))))
+  (cl-incf (roastcliff--document-rows-count document))
+  (setf (roastcliff--document-rows-reason document) (roastcliff--document-reason document)
+        (roastcliff--document-reason document) nil))
+
+(defun roastcliff--show-rows (document)
+  "Make the changes of DOCUMENT that came in its buffer."
+  (when (roastcliff--document-rows document)
+    (roastcliff--send document)
+    (let ((rows (reverse (roastcliff--document-rows document)))
+          (reason (roastcliff--document-rows-reason document)))
+      (cl-incf (roastcliff--document-seen document) (roastcliff--document-rows-count document))
+      (roastcliff--forget-rows document)
+      (pcase-dolist (`(,at ,out ,put) rows)
+        (roastcliff--show-row document at out put reason))
+      (roastcliff--show-kept document))))
+
+(defun roastcliff--forget-rows (document)
+  "Leave out the changes of DOCUMENT that came and aren't in its buffer yet."
+  (setf (roastcliff--document-rows document) nil
+        (roastcliff--document-rows-count document) 0
+        (roastcliff--document-rows-reason document) nil))
+
+(defun roastcliff--alike (one other)
+  "How many letters ONE and OTHER begin with alike."
+  (let ((found (compare-strings one nil nil other nil nil)))
+    (if (eq found t) (length one) (1- (abs found)))))
+
+(defun roastcliff--show-row (document at out put reason)
+  "Make a change in DOCUMENT: PUT in place of OUT letters from AT on, for a REASON."
+  (save-restriction
+    (widen)
+    (let* ((gone (buffer-substring-no-properties (1+ at) (+ 1 at out)))
+           (front (roastcliff--alike gone put))
+           (end (roastcliff--alike (reverse (substring gone front)) (reverse (substring put front)))))
+      (roastcliff--make-row document (+ at front)
+                            (substring gone front (- (length gone) end))
+                            (substring put front (- (length put) end))
+                            reason))))
+
+(defun roastcliff--make-row (document at gone put reason)
+  "Make a change in DOCUMENT: PUT in place of GONE at AT; mark it if there is a REASON."
+  (let ((roastcliff--is-taking t) (buffer-undo-list t) (inhibit-read-only t) (deactivate-mark nil))
+    (roastcliff--put-in (current-buffer) at (length gone) put))
+  (roastcliff--put-in (roastcliff--document-shadow document) at (length gone) put)
+  (roastcliff--carry-undo at (length gone) (length put))
+  (setf (roastcliff--document-tick document) (buffer-chars-modified-tick))
+  (when reason
+    (roastcliff--mark document (1+ at) gone put reason)))
+
+(defun roastcliff--take-undone (document rest)
+  "How many edits of DOCUMENT the last entry undid, and in how many rows, as REST says."
+  (pcase-let ((`(,edits ,rows) (split-string rest " ")))
+    (let ((undoing (cons 'undone (roastcliff--rules-version (roastcliff--document-rules document)))))
+      (setf (roastcliff--document-undoing document) undoing
+            (roastcliff--document-rows-undone document) (string-to-number rows))
+      (message "roastcliff: %s %s undone: %s" edits (if (equal edits "1") "edit was" "edits were")
+               (roastcliff--why document undoing)))))
+
+(defun roastcliff--take-linked (document rest)
+  "The host let DOCUMENT in, as REST says."
+  (setf (roastcliff--document-state document) 'linked
+        (roastcliff--document-person document) (string-to-number (nth 1 (split-string rest " "))))
+  (force-mode-line-update))
+
+(defun roastcliff--take-person (document rest)
+  "A person of DOCUMENT, as REST says: PERSON ROLE NAME."
+  (when (string-match "\\`\\([0-9]+\\) \\([a-z]+\\) \\(.*\\)" rest)
+    (push (list (string-to-number (match-string 1 rest)) (match-string 2 rest) (match-string 3 rest))
+          (roastcliff--document-people document))))
+
+(defun roastcliff--numbers (words)
+  "The numbers that stand in WORDS."
+  (mapcar #'string-to-number (split-string words " " t)))
+
+(defun roastcliff--take (document line)
+  "Take a LINE of the follower of DOCUMENT."
+  (let* ((space (string-search " " line))
+         (rest (if space (substring line (1+ space)) "")))
+    (pcase (substring line 0 space)
+      ("text" (roastcliff--take-text document rest))
+      ("replaced" (roastcliff--take-replaced document rest))
+      ("changed" (roastcliff--take-changed document rest))
+      ("entry" (roastcliff--take-entry (roastcliff--document-rules document) (split-string rest " ")))
+      ("undone" (roastcliff--take-undone document rest))
+      ("linked" (roastcliff--take-linked document rest))
+      ("apart" (setf (roastcliff--document-state document) 'apart) (force-mode-line-update))
+      ("closed" (setf (roastcliff--document-closed document) rest) (message "roastcliff: the host closed the link: %s" rest))
+      ("people" (setf (roastcliff--document-people document) nil (roastcliff--document-devices document) nil))
+      ("person" (roastcliff--take-person document rest))
+      ("device" (push (apply #'cons (roastcliff--numbers rest)) (roastcliff--document-devices document)))
+      ("here" (setf (roastcliff--document-here document) (roastcliff--numbers rest)))
+      ("told" (message "roastcliff: the host did not take an edit: %s" rest)))))
+
+(defun roastcliff--take-all (document)
+  "Take the lines of DOCUMENT that have come."
+  (unless (or (roastcliff--document-is-busy document) (not (buffer-live-p (roastcliff--document-buffer document))))
+    (setf (roastcliff--document-is-busy document) t)
+    (unwind-protect
+        (with-current-buffer (roastcliff--document-buffer document)
+          (while (roastcliff--document-lines document)
+            (roastcliff--take document (pop (roastcliff--document-lines document))))
+          (roastcliff--show-rows document))
+      (setf (roastcliff--document-is-busy document) nil))))
+
+(defun roastcliff--filter (document some)
+  "Take SOME letters of the follower of DOCUMENT."
+  (let ((lines (split-string (concat (roastcliff--document-rest document) some) "\n")))
+    (setf (roastcliff--document-rest document) (car (last lines))
+          (roastcliff--document-lines document) (nconc (roastcliff--document-lines document) (butlast lines)))
+    (roastcliff--take-all document)))
+
+;;;; The rules
+
+(defun roastcliff--insert-rule (rules place rule)
+  "Put RULE at PLACE of the list of RULES."
+  (let ((list (roastcliff--rules-list rules)))
+    (setf (roastcliff--rules-list rules) (append (seq-take list place) (list rule) (seq-drop list place)))))
+
+(defun roastcliff--delete-rule (rules place version)
+  "Take the rule at PLACE out of the list of RULES, by the entry of VERSION."
+  (let ((list (roastcliff--rules-list rules)))
+    (puthash version (nth place list) (roastcliff--rules-was rules))
+    (setf (roastcliff--rules-list rules) (append (seq-take list place) (seq-drop list (1+ place))))))
+
+(defun roastcliff--take-entry (rules words)
+  "Take an entry into RULES, which comes once or again, as WORDS: VERSION OP."
+  (pcase-let* ((`(,number . ,op) words) (version (string-to-number number)))
+    (when (= version (1+ (roastcliff--rules-version rules)))
+      (setf (roastcliff--rules-version rules) version)
+      (puthash version op (roastcliff--rules-entries rules))
+      (pcase op
+        (`("addauth" . ,rule) (roastcliff--insert-rule rules (string-to-number (car rule)) rule))
+        (`("delauth" ,place) (roastcliff--delete-rule rules (string-to-number place) version))
+        (`("addobj" ,object . ,extent) (setf (alist-get object (roastcliff--rules-objects rules) nil nil #'equal) extent))))))
+
+(defun roastcliff--person (document person)
+  "What PERSON is called, by number, in DOCUMENT."
+  (let ((known (assq person (roastcliff--document-people document))))
+    (if known (nth 2 known) (format "group %d" person))))
+
+(defun roastcliff--user (document user)
+  "Who USER of the rules is in DOCUMENT: the person whose device it is."
+  (let ((device (assq user (roastcliff--document-devices document))))
+    (cond ((zerop user) "the administrator")
+          (device (roastcliff--person document (cdr device)))
+          (t (format "user %d" user)))))
+
+(defun roastcliff--users (document word)
+  "Who WORD of a rule of DOCUMENT names."
+  (let ((numbers (mapcar #'string-to-number (split-string (string-remove-prefix "@" word) ","))))
+    (cond ((equal word "all") "everybody")
+          ((string-prefix-p "@" word) (mapconcat (lambda (it) (roastcliff--person document it)) numbers ", "))
+          (t (mapconcat (lambda (it) (roastcliff--user document it)) numbers ", ")))))
+
+(defun roastcliff--where (document object)
+  "Where the OBJECT of a rule of DOCUMENT is."
+  (pcase (alist-get object (roastcliff--rules-objects (roastcliff--document-rules document)) nil nil #'equal)
+    (`("all" . ,_) "everywhere")
+    (`("by" ,user) (format "in what %s wrote" (roastcliff--user document (string-to-number user))))
+    (_ (format "in part %s" object))))
+
+(defun roastcliff--deed (right)
+  "What one may do by a RIGHT."
+  (pcase right (?i "add words") (?d "delete") (?u "change words")))
+
+(defun roastcliff--rule (document rule)
+  "A RULE of DOCUMENT as a sentence."
+  (pcase-let ((`(,_ ,sign ,users ,rights ,objects) rule))
+    (let ((deeds (if (equal rights "idu") "write" (mapconcat #'roastcliff--deed rights " or ")))
+          (where (mapconcat (lambda (it) (roastcliff--where document it)) (split-string objects ",") " or ")))
+      (if (equal (list sign users) '("-" "all"))
+          (format "nobody may %s %s" deeds where)
+        (format "%s %s %s %s" (roastcliff--users document users) (if (equal sign "+") "may" "may not") deeds where)))))
+
+(defun roastcliff--entry (document version)
+  "What the entry of VERSION changed in DOCUMENT, as a sentence."
+  (let ((rules (roastcliff--document-rules document)))
+    (pcase (gethash version (roastcliff--rules-entries rules))
+      (`("addauth" . ,rule) (format "the rule says: %s" (roastcliff--rule document rule)))
+      (`("delauth" . ,_)
+       (format "this rule was taken away: %s" (roastcliff--rule document (gethash version (roastcliff--rules-was rules)))))
+      (`("delmember" ,_ ,user) (format "%s is no member any more" (roastcliff--user document (string-to-number user))))
+      (`("deluser" ,user) (format "%s is no user any more" (roastcliff--user document (string-to-number user))))
+      (op (format "the rules changed: %s" (string-join op " "))))))
+
+(defun roastcliff--refusal (document answer)
+  "Why an edit of DOCUMENT wasn't made, in words: ANSWER is as `denied 4 by 3'."
+  (cond ((string-match "\\`denied [0-9]+ by \\([0-9]+\\)\\'" answer)
+         (roastcliff--entry document (string-to-number (match-string 1 answer))))
+        ((string-match-p "\\`denied [0-9]+ none\\'" answer) "no rule allows it")
+        (t answer)))
+
+(defun roastcliff--why (document reason)
+  "A REASON of DOCUMENT in words."
+  (if (eq (car reason) 'denied)
+      (roastcliff--refusal document (cdr reason))
+    (roastcliff--entry document (cdr reason))))
+
+;;;; What was denied or undone is marked
+
+(defun roastcliff--shown (text)
+  "TEXT in one short row."
+  (string-replace "\n" "⏎" (if (> (length text) 40) (concat (substring text 0 40) "…") text)))
+
+(defun roastcliff--mark (document place gone put reason)
+  "Mark the line at PLACE of DOCUMENT, where GONE went and PUT came, for a REASON."
+  (let* ((text (if (string-empty-p gone) put gone))
+         (deed (pcase (cons (car reason) (string-empty-p gone))
+                 ('(denied . nil) "not written") ('(denied . t) "not deleted")
+                 ('(undone . nil) "undone") (_ "came back")))
+         (why (roastcliff--why document reason))
+         (end (save-excursion (save-restriction (widen) (goto-char place) (line-end-position))))
+         (overlay (make-overlay end end nil t nil))
+         (words (format "  ✗ “%s” %s: %s" (roastcliff--shown text) deed why)))
+    (push (list text deed why) (roastcliff--document-marks document))
+    (overlay-put overlay 'roastcliff t)
+    (overlay-put overlay 'before-string (propertize "✗" 'display '((margin left-margin) "✗")))
+    ;; The point stands in front of the words, not behind them.
+    (overlay-put overlay 'after-string (propertize words 'face 'roastcliff-undone 'cursor t))))
+
+(defun roastcliff-why (&optional forget)
+  "Show what was denied or undone in this document, and why.
+With a prefix argument, FORGET it: the marks go."
+  (interactive "P")
+  (let ((marks (reverse (roastcliff--document-marks (roastcliff--here)))))
+    (when forget
+      (remove-overlays (point-min) (point-max) 'roastcliff t)
+      (setf (roastcliff--document-marks (roastcliff--here)) nil))
+    (with-help-window "*Roastcliff why*"
+      (if (null marks)
+          (princ "Nothing was denied or undone.\n")
+        (pcase-dolist (`(,text ,deed ,why) marks)
+          (princ (format "%s: %s\n    %s\n" deed why (string-replace "\n" "\n    " text))))))))
+
+;;;; What is shown
+
+(defun roastcliff--here ()
+  "The document of this buffer."
+  (or roastcliff--document (user-error "This buffer is no document of a host")))
+
+(defun roastcliff--is-for (document person word)
+  "Whether the users WORD of a rule of DOCUMENT are PERSON or have a device of his."
+  (let ((numbers (mapcar #'string-to-number (split-string (string-remove-prefix "@" word) ","))))
+    (cond ((equal word "all") t)
+          ((string-prefix-p "@" word) (memq person numbers))
+          (t (cl-some (lambda (it) (eql person (alist-get it (roastcliff--document-devices document)))) numbers)))))
+
+(defun roastcliff--may (document person right)
+  "Whether PERSON has a RIGHT everywhere in DOCUMENT: what the first rule says that is for him."
+  (cl-loop for (_ sign users rights objects) in (roastcliff--rules-list (roastcliff--document-rules document))
+           when (and (cl-find right rights) (member "0" (split-string objects ",")) (roastcliff--is-for document person users))
+           return (equal sign "+")))
+
+(defun roastcliff--may-words (document person)
+  "What PERSON may do everywhere in DOCUMENT."
+  (let ((rights (cl-remove-if-not (lambda (it) (roastcliff--may document person it)) '(?i ?d ?u))))
+    (pcase (length rights)
+      (3 "may write")
+      (0 "may only read")
+      (_ (concat "may " (mapconcat #'roastcliff--deed rights " and "))))))
+
+(defun roastcliff--person-line (document known)
+  "A line of a person KNOWN in DOCUMENT, and what he may do."
+  (pcase-let ((`(,person ,role ,name) known))
+    (format "  %s (%s%s%s) %s\n" name role
+            (if (eql person (roastcliff--document-person document)) ", which is you" "")
+            (if (cl-some (lambda (it) (eql person (alist-get it (roastcliff--document-devices document))))
+                         (roastcliff--document-here document))
+                ", is here" "")
+            (roastcliff--may-words document person))))
+
+(defun roastcliff-who ()
+  "Show who may do what in this document."
+  (interactive)
+  (let* ((document (roastcliff--here)) (rules (roastcliff--document-rules document)) (number 0))
+    (with-help-window "*Roastcliff who*"
+      (princ (format "Who may do what, in version %d of the rules:\n" (roastcliff--rules-version rules)))
+      (dolist (known (reverse (roastcliff--document-people document)))
+        (princ (roastcliff--person-line document known)))
+      (princ "The rules, of which the first that is for somebody and for the place decides:\n")
+      (dolist (rule (roastcliff--rules-list rules))
+        (princ (format "  %d. %s\n" (cl-incf number) (roastcliff--rule document rule)))))))
+
+(defun roastcliff--lighter ()
+  "How it stands with the document of this buffer."
+  (if roastcliff--document
+      (format " Roastcliff:%s%s" (roastcliff--document-state roastcliff--document)
+              (if (buffer-modified-p) ", not kept yet" ""))
+    ""))
+
+;;;; The follower
+
+(defun roastcliff--words (document)
+  "The words that start the follower of DOCUMENT.
+It is to send what it has when Emacs ends, and not to be ended by that."
+  (append (and (executable-find "nohup") '("nohup"))
+          roastcliff-program
+          (list (roastcliff--document-address document) (roastcliff--document-file document))))
+
+(defun roastcliff--start (document ended)
+  "Start the follower of DOCUMENT, and call ENDED with that and with its status when it has ended."
+  (let ((buffer (roastcliff--document-buffer document)))
+    (setf (roastcliff--document-rest document) ""
+          (roastcliff--document-process document)
+          (make-process
+           :name "roastcliff" :command (roastcliff--words document) :connection-type 'pipe
+           :coding 'utf-8-unix :noquery t
+           :stderr (get-buffer-create " *roastcliff errors*")
+           :filter (lambda (_ some) (roastcliff--filter document some))
+           :sentinel (lambda (process _)
+                       (when (and (memq (process-status process) '(exit signal)) (buffer-live-p buffer))
+                         (with-current-buffer buffer
+                           (funcall ended document (process-exit-status process)))))))))
+
+(defun roastcliff--fetched (document status)
+  "All that the host had is in the file of DOCUMENT, or can't be had, as STATUS says."
+  (if (zerop status)
+      (roastcliff--follow document)
+    (roastcliff--ended document status)))
+
+(defun roastcliff--follow (document)
+  "Follow DOCUMENT, from its file on."
+  (roastcliff--start document #'roastcliff--ended)
+  (roastcliff--say document "text")
+  (roastcliff--say document "rules"))
+
+(defun roastcliff--ended (document status)
+  "The follower of DOCUMENT has ended with STATUS, so nothing that is written would be kept."
+  (setf (roastcliff--document-state document) 'ended
+        (roastcliff--document-is-open document) nil)
+  (setq buffer-read-only t)
+  (message "roastcliff: the follower ended with status %d%s" status
+           (pcase status
+             (10 ": the disk failed, or another program has this document open here")
+             (_ (if (roastcliff--document-closed document) (concat ": " (roastcliff--document-closed document)) "")))))
+
+(defun roastcliff--leave ()
+  "Send what was written, and end the follower's input: it ends when all of it is at the host."
+  (when-let ((document roastcliff--document))
+    (roastcliff--send document)
+    (let ((process (roastcliff--document-process document)))
+      (when (process-live-p process)
+        (set-process-sentinel process #'ignore)
+        (process-send-eof process)))
+    (when (buffer-live-p (roastcliff--document-shadow document))
+      (kill-buffer (roastcliff--document-shadow document)))
+    (setq roastcliff--document nil)))
+
+(defun roastcliff--leave-all ()
+  "Leave all documents."
+  (dolist (buffer (buffer-list))
+    (with-current-buffer buffer
+      (roastcliff--leave))))
+
+;;;; Commands
+
+(defun roastcliff--write ()
+  "Say that nothing has to be written: the follower keeps it."
+  (when roastcliff--document
+    (roastcliff--send roastcliff--document)
+    (roastcliff--show-kept roastcliff--document)
+    (message "The document is kept as you write")
+    t))
+
+(defvar roastcliff-mode-map
+  (let ((map (make-sparse-keymap)))
+    (define-key map [remap save-buffer] #'roastcliff-save)
+    map)
+  "Keys of a document.")
+
+(defun roastcliff-save ()
+  "Send what was written.  The follower keeps it as you write."
+  (interactive)
+  (roastcliff--write))
+
+(define-minor-mode roastcliff-mode
+  "Write in a document of a Roastcliff host.  `M-x roastcliff' opens one."
+  :lighter (:eval (roastcliff--lighter))
+  :keymap roastcliff-mode-map
+  (if (not roastcliff-mode)
+      (roastcliff--leave)
+    (setq left-margin-width 2 buffer-read-only t)
+    (add-hook 'after-change-functions #'roastcliff--changed nil t)
+    (add-hook 'post-command-hook #'roastcliff--command-ended nil t)
+    (add-hook 'kill-buffer-hook #'roastcliff--leave nil t)
+    (add-hook 'kill-emacs-hook #'roastcliff--leave-all)))
+
+(defun roastcliff--open (place address)
+  "Open the document of ADDRESS, whose place without a secret is PLACE, in this buffer."
+  (make-directory roastcliff-folder t)
+  (let* ((file (expand-file-name (replace-regexp-in-string "[^A-Za-z0-9.-]" "_" place) roastcliff-folder))
+         (document (roastcliff--document-of
+                    :address address :file file :buffer (current-buffer)
+                    :shadow (generate-new-buffer " *roastcliff text*" t))))
+    (with-current-buffer (roastcliff--document-shadow document)
+      (setq buffer-undo-list t))
+    (setq roastcliff--document document)
+    (roastcliff-mode 1)
+    (if (file-exists-p (concat file ".device"))
+        (roastcliff--follow document)
+      (roastcliff--start document #'roastcliff--fetched)
+      (process-send-eof (roastcliff--document-process document)))))
+
+;;;###autoload
+(defun roastcliff (address)
+  "Open the document at ADDRESS, as http://HOST:PORT/d/DOCUMENT/#SECRET, in a buffer."
+  (interactive "sAddress: ")
+  (unless (string-match "\\`http://\\([^/#]+\\(?:/[^#]*\\)?/d/[a-z0-9-]+\\)/?\\(?:#.*\\)?\\'" address)
+    (user-error "An address is http://HOST:PORT/d/DOCUMENT/#SECRET"))
+  (let ((place (match-string 1 address)))
+    (pop-to-buffer-same-window (get-buffer-create (format "*roastcliff %s*" place)))
+    (unless (and roastcliff--document (process-live-p (roastcliff--document-process roastcliff--document)))
+      (roastcliff--leave)
+      (roastcliff--open place address))
+    (set-window-buffer nil (current-buffer))))
+
+(provide 'roastcliff)
+;;; roastcliff.el ends here
