@@ -27,8 +27,8 @@
 (defun driver-change (begin end put)
   "Put a text in place of what stands from BEGIN to END, as a command does it."
   (undo-boundary)
-  (goto-char begin)
-  (delete-region begin end)
+  (goto-char begin) ; or to the end
+  (delete-region (point) (max (point) (min end (point-max))))
   (insert put)
   (let ((this-command nil))
     (run-hooks 'post-command-hook))

@@ -3,6 +3,20 @@
 
 let s:rest = ''
 
+" Puts lines in place of the letters from one place up to another, as a command does it.
+function! DriverChange(start, end, lines) abort
+  let text = join(getline(1, '$'), "\n")
+  let front = strcharpart(text, 0, a:start)
+  let behind = strcharpart(text, a:end) . "\n"
+  let first = count(front, "\n") + 1
+  let last = line('$') - count(behind, "\n") + 1
+  let a:lines[0] = strpart(front, strridx(front, "\n") + 1) . a:lines[0]
+  let a:lines[-1] .= strpart(behind, 0, stridx(behind, "\n"))
+  call append(last, a:lines)
+  call deletebufline('', first, last)
+  doautocmd TextChanged
+endfunction
+
 function! s:answer(line) abort
   let [word, words] = json_decode(a:line)
   try

@@ -59,6 +59,10 @@ class Terminal:
     def screen(self, *words):
         return self.run("capture-pane", "-p", "-t", "main", *words)
 
+    def runs(self):
+        """Whether its program runs."""
+        return subprocess.run([*self.server, "has-session"], check=False, capture_output=True).returncode == 0
+
     def end(self):
         subprocess.run([*self.server, "kill-server"], check=False, capture_output=True)
 
@@ -106,10 +110,10 @@ class Editor:
         return " ".join(self.terminal.screen().split())
 
     def start_again(self):
-        """Kills the editor, and starts it anew."""
-        self.terminal.end()
+        """Ends the editor by its keys, and starts it anew."""
+        self.leave()
+        wait_for(f"the end of {self.name}", lambda: not self.terminal.runs())
         self.link.close()
-        time.sleep(0.2)  # its follower ends
         self.start(is_linked=False)
 
     def end(self):
@@ -125,7 +129,7 @@ class Vim(Editor):
 
     def words(self):
         plugin = os.path.join(TOP, "editors", "vim")
-        setting = f"let g:roastcliff_program = [$FOLLOW] | set nocompatible encoding=utf-8 shortmess+=I nomore runtimepath^={plugin}"
+        setting = f"let g:roastcliff_program = [$FOLLOW] | set nocompatible encoding=utf-8 shortmess+=I nomore ttimeout ttimeoutlen=10 runtimepath^={plugin}"
         return [self.program, "-u", "NONE", "-i", "NONE", "-N", "--cmd", setting,
                 "-S", os.path.join(plugin, "plugin", "roastcliff.vim"), "-S", os.path.join(HERE, "driver.vim")]
 
@@ -157,14 +161,7 @@ class Vim(Editor):
 
     def change(self, start, end, put):
         """Puts a text in place of letters, as a command does it."""
-        text = self.text
-        new = text[:start] + put + text[end:]
-        old_lines, new_lines = text.split("\n"), new.split("\n")
-        first = text[:start].count("\n")
-        last = text[:end].count("\n")
-        behind = len(old_lines) - 1 - last
-        lines = new_lines[first : len(new_lines) - behind]
-        self.tell(f"[append({last + 1}, {spelled(lines)}), deletebufline('', {first + 1}, {last + 1})]")
+        self.tell(f"DriverChange({start}, {end}, {json.dumps(put.split(chr(10)), ensure_ascii=False)})")
 
     def place(self):
         """Where the cursor is: a line, and a column in bytes, from 1."""
@@ -195,10 +192,10 @@ class Vim(Editor):
         self.terminal.keys("Enter")
 
     def undo(self):
-        self.terminal.keys("Escape", "u")
+        self.terminal.keys("u")
 
     def redo(self):
-        self.terminal.keys("Escape", "C-r")
+        self.terminal.keys("C-r")
 
     def write_at_end(self, text):
         """Types at the end of the text."""
@@ -206,22 +203,23 @@ class Vim(Editor):
         self.terminal.type(text)
         self.end_to_type()
 
+    def leave(self):
+        self.terminal.type(":qa")
+        self.terminal.keys("Enter")
+
     def begin_to_type_at_end(self):
-        self.terminal.keys("Escape", "G", "A")
+        self.terminal.keys("G", "A")
+        wait_for(f"{self.name}'s insert mode", lambda: self.tell("mode()") == "i")
 
     def end_to_type(self):
         self.terminal.keys("Escape")
+        wait_for(f"{self.name}'s normal mode", lambda: self.tell("mode()") == "n")
 
 
 class Neovim(Vim):
     """Neovim."""
 
     program = "nvim"
-
-
-def spelled(lines):
-    """Lines as a list of Vim."""
-    return "[" + ", ".join("'" + line.replace("'", "''") + "'" for line in lines) + "]"
 
 
 class Emacs(Editor):
@@ -295,6 +293,9 @@ class Emacs(Editor):
         """Types at the end of the text."""
         self.begin_to_type_at_end()
         self.terminal.type(text)
+
+    def leave(self):
+        self.terminal.keys("C-x", "C-c")
 
     def begin_to_type_at_end(self):
         self.terminal.keys("M->")

@@ -18,18 +18,22 @@ class Team:
     def __init__(self, program, folder):
         self.host = Host(program, os.path.join(folder, "notes"), web=os.path.join(TOP, "web"))
         self.owner = Device(self.host, DOCUMENT, self.host.line().rsplit("#", 1)[1])
-        self.link = self.owner.link(self.host, DOCUMENT)
-        self.orders = 0
         self.ways = []
 
     def order(self, *lines):
-        """Orders of the owner, and the lines that answer them."""
-        self.orders += 1
-        self.link.say(f"order {self.orders}\n" + "\n".join(lines))
-        while True:
-            head, _, rest = self.link.text("answer").partition("\n")
-            if head == f"answer {self.orders}":
-                return rest.split("\n")
+        """Orders of the owner, on a link of their own, and the lines that answer them."""
+        link = self.owner.link(self.host, DOCUMENT)
+        link.say("order 1\n" + "\n".join(lines))
+        _, _, rest = link.text("answer").partition("\n")
+        link.hang_up()
+        return rest.split("\n")
+
+    @property
+    def saved(self):
+        """How many messages the host has."""
+        link = self.owner.link(self.host, DOCUMENT)
+        link.hang_up()
+        return link.saved
 
     def invite(self, words):
         """The secret of an invitation of a new person, and his number."""

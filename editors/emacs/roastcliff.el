@@ -43,6 +43,12 @@
 (defconst roastcliff--most-letters 15000
   "How many letters go out in one line at most: a line has 65,536 bytes.")
 
+(defconst roastcliff--is-locked 10
+  "The status with which a follower ends whose file another one has open.")
+
+(defconst roastcliff--most-tries 10
+  "How often a follower is started again whose file another one has open.")
+
 (defconst roastcliff--no-letter "[^\0-\uD7FF\uE000-\U0010FFFF]"
   "What Emacs has as a letter and UTF-8 hasn't.")
 
@@ -65,6 +71,7 @@
   (undoing nil) (rows-undone 0)
   (marks nil)                ; what was denied or undone: (TEXT DEED WHY)
   (closed nil)               ; the host's words at a close
+  (tries 0)                  ; how often it was started again
   (person 0)
   (people nil) (devices nil) (here nil)
   (rules (roastcliff--rules-of)))
@@ -226,7 +233,9 @@
 
 (defun roastcliff--show-kept (document)
   "Show as unmodified what is kept of DOCUMENT."
-  (when (and (zerop (roastcliff--document-unanswered document)) (null (roastcliff--document-pending document)))
+  (when (and (roastcliff--document-is-open document)
+             (zerop (roastcliff--document-unanswered document))
+             (null (roastcliff--document-pending document)))
     (with-current-buffer (roastcliff--document-buffer document)
       (restore-buffer-modified-p nil))))
 
@@ -674,20 +683,15 @@ With a prefix argument, FORGET it: the marks go."
 
 ;;;; The follower
 
-(defun roastcliff--words (document)
-  "The words that start the follower of DOCUMENT.
-It is to send what it has when Emacs ends, and not to be ended by that."
-  (append (and (executable-find "nohup") '("nohup"))
-          roastcliff-program
-          (list (roastcliff--document-address document) (roastcliff--document-file document))))
-
 (defun roastcliff--start (document ended)
   "Start the follower of DOCUMENT, and call ENDED with that and with its status when it has ended."
   (let ((buffer (roastcliff--document-buffer document)))
     (setf (roastcliff--document-rest document) ""
           (roastcliff--document-process document)
           (make-process
-           :name "roastcliff" :command (roastcliff--words document) :connection-type 'pipe
+           :name "roastcliff" :connection-type 'pipe
+           :command (append roastcliff-program
+                            (list (roastcliff--document-address document) (roastcliff--document-file document)))
            :coding 'utf-8-unix :noquery t
            :stderr (get-buffer-create " *roastcliff errors*")
            :filter (lambda (_ some) (roastcliff--filter document some))
@@ -709,23 +713,50 @@ It is to send what it has when Emacs ends, and not to be ended by that."
   (roastcliff--say document "rules"))
 
 (defun roastcliff--ended (document status)
-  "The follower of DOCUMENT has ended with STATUS, so nothing that is written would be kept."
-  (setf (roastcliff--document-state document) 'ended
-        (roastcliff--document-is-open document) nil)
-  (setq buffer-read-only t)
-  (message "roastcliff: the follower ended with status %d%s" status
-           (pcase status
-             (10 ": the disk failed, or another program has this document open here")
-             (_ (if (roastcliff--document-closed document) (concat ": " (roastcliff--document-closed document)) "")))))
+  "The follower of DOCUMENT has ended with STATUS.
+So nothing that is written would be kept."
+  (let ((was-open (roastcliff--document-is-open document)))
+    (setf (roastcliff--document-state document) 'ended
+          (roastcliff--document-is-open document) nil)
+    (if (and (= status roastcliff--is-locked) (not was-open) (< (roastcliff--document-tries document) roastcliff--most-tries))
+        (progn
+          (cl-incf (roastcliff--document-tries document))
+          (run-with-timer 0.5 nil #'roastcliff--follow-again document))
+      (setq buffer-read-only t)
+      (message "roastcliff: %s%s"
+               (if (= status roastcliff--is-locked)
+                   "the disk failed, or another program has this document open here"
+                 (format "the follower ended with status %d" status))
+               (if (roastcliff--document-closed document) (concat ": " (roastcliff--document-closed document)) "")))))
+
+(defun roastcliff--follow-again (document)
+  "Follow DOCUMENT, if it is still there."
+  (when (buffer-live-p (roastcliff--document-buffer document))
+    (with-current-buffer (roastcliff--document-buffer document)
+      (when (eq document roastcliff--document)
+        (roastcliff--follow document)))))
+
+(defun roastcliff--wait-while (process is-so)
+  "Wait while IS-SO, for what PROCESS says, but for 3 seconds at most."
+  (let ((last (+ (float-time) 3)))
+    (while (and (funcall is-so) (process-live-p process) (< (float-time) last))
+      (accept-process-output process 0.02))))
 
 (defun roastcliff--leave ()
-  "Send what was written, and end the follower's input: it ends when all of it is at the host."
+  "Send what was written, and end the follower.
+It ends once all is at the host, or at least in its file: what a lost link keeps
+back goes out when the document is opened again."
   (when-let ((document roastcliff--document))
     (roastcliff--send document)
     (let ((process (roastcliff--document-process document)))
       (when (process-live-p process)
         (set-process-sentinel process #'ignore)
-        (process-send-eof process)))
+        (when (roastcliff--document-is-open document)
+          (setf (roastcliff--document-is-open document) nil)
+          (roastcliff--wait-while process (lambda () (> (roastcliff--document-unanswered document) 0)))
+          (process-send-eof process)
+          (roastcliff--wait-while process (lambda () (eq 'linked (roastcliff--document-state document)))))
+        (delete-process process)))
     (when (buffer-live-p (roastcliff--document-shadow document))
       (kill-buffer (roastcliff--document-shadow document)))
     (setq roastcliff--document nil)))

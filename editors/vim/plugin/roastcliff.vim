@@ -29,6 +29,10 @@ let s:most_remembered = 4000
 " How far the lines of two texts are searched for the next that is in both.
 let s:most_lines_ahead = 40
 
+" The status with which a follower ends whose file another one has open, and how often it is started again then.
+let s:is_locked = 10
+let s:most_tries = 10
+
 let s:has_virtual_text = has('nvim') || (has('textprop') && has('patch-9.0.0067'))
 
 " The documents that are open, by the numbers of their buffers.
@@ -38,6 +42,31 @@ let s:documents = {}
 let s:addresses = {}
 
 " ---- texts, by bytes
+"
+" Patterns see a letter with those that compose with it, so that a line end in front of such a one is none to them. What has to
+" be exact is looked for by bytes.
+
+" The parts of a text between separators.
+function! s:parts(text, separator) abort
+  let [parts, start] = [[], 0]
+  let end = stridx(a:text, a:separator)
+  while end >= 0
+    call add(parts, strpart(a:text, start, end - start))
+    let start = end + len(a:separator)
+    let end = stridx(a:text, a:separator, start)
+  endwhile
+  return add(parts, strpart(a:text, start))
+endfunction
+
+" The lines of a text.
+function! s:lines(text) abort
+  return len(a:text) == strchars(a:text) ? split(a:text, "\n", 1) : s:parts(a:text, "\n")
+endfunction
+
+" A text with another separator.
+function! s:separated(text, old, new) abort
+  return stridx(a:text, a:old) < 0 ? a:text : join(s:parts(a:text, a:old), a:new)
+endfunction
 
 " How many bytes two texts begin with alike.
 function! s:alike_in_front(one, other) abort
@@ -154,13 +183,13 @@ endfunction
 
 " A text as a line says it: a line end is \n, a backslash is \\.
 function! s:spelled(text) abort
-  return substitute(escape(a:text, '\'), "\n", '\\n', 'g')
+  return s:separated(s:separated(a:text, '\', '\\'), "\n", '\n')
 endfunction
 
 " The text that is spelled so. Vim has no letter of number 0 in a text, so its picture stands for it.
 function! s:read(spelled) abort
-  let spelled = substitute(a:spelled, "\n", "\u2400", 'g')
-  return stridx(spelled, '\') < 0 ? spelled : join(map(split(spelled, '\\\\', 1), 'substitute(v:val, ''\\n'', ''\n'', ''g'')'), '\')
+  let spelled = s:separated(a:spelled, "\n", "\u2400")
+  return stridx(spelled, '\') < 0 ? spelled : join(map(s:parts(spelled, '\\'), 's:separated(v:val, ''\n'', "\n")'), '\')
 endfunction
 
 " ---- the buffer
@@ -168,7 +197,7 @@ endfunction
 " The text of a buffer.
 function! s:buffer_text(buffer) abort
   let lines = getbufline(a:buffer, 1, '$')
-  return stridx(join(lines, ''), "\n") < 0 ? join(lines, "\n") : join(map(lines, 'substitute(v:val, "\n", "\u2400", "g")'), "\n")
+  return stridx(join(lines, ''), "\n") < 0 ? join(lines, "\n") : join(map(lines, 's:separated(v:val, "\n", "\u2400")'), "\n")
 endfunction
 
 " Puts lines in place of lines: those that are the same at the ends stay untouched, with their signs.
@@ -201,8 +230,8 @@ function! s:lines_of(text, change) abort
   let tail = end < 0 ? strpart(a:text, behind) : strpart(a:text, behind, end - behind)
   return {
         \ 'first': count(front, "\n") + 1,
-        \ 'old': split(head . a:change.gone . tail, "\n", 1),
-        \ 'new': split(head . a:change.put . tail, "\n", 1),
+        \ 'old': s:lines(head . a:change.gone . tail),
+        \ 'new': s:lines(head . a:change.put . tail),
         \ 'begins': len(head),
         \ 'tail': len(tail) }
 endfunction
@@ -251,7 +280,7 @@ endfunction
 
 " Whether all that stands in the buffer is kept shows as that it isn't modified.
 function! s:show_kept(document) abort
-  if a:document.unanswered == 0 && getbufvar(a:document.buffer, 'changedtick') == a:document.tick && getbufvar(a:document.buffer, '&modified')
+  if a:document.is_open && a:document.unanswered == 0 && getbufvar(a:document.buffer, 'changedtick') == a:document.tick && getbufvar(a:document.buffer, '&modified')
     call setbufvar(a:document.buffer, '&modified', 0)
     let a:document.tick = getbufvar(a:document.buffer, 'changedtick')
   endif
@@ -542,7 +571,7 @@ function! s:take_text(document, spelled) abort
   let [a:document.seen, a:document.unanswered] = [0, 0]
   call s:forget_rows(a:document)
   call setbufvar(a:document.buffer, '&modifiable', 1)
-  call s:put_lines(a:document.buffer, 1, getbufline(a:document.buffer, 1, '$'), split(a:document.text, "\n", 1))
+  call s:put_lines(a:document.buffer, 1, getbufline(a:document.buffer, 1, '$'), s:lines(a:document.text))
   let a:document.is_open = 1
   call setbufvar(a:document.buffer, '&modified', 0)
   let a:document.tick = getbufvar(a:document.buffer, 'changedtick')
@@ -574,8 +603,10 @@ function! s:take_changed(document, rest) abort
   if a:document.reason != a:document.rows_reason
     call s:show_rows(a:document)
   endif
-  let [at, out; put] = split(a:rest, ' ', 1)
-  call s:join_row(a:document.rows, [str2nr(at), str2nr(out), empty(put) ? '' : s:read(join(put, ' '))])
+  let space = stridx(a:rest, ' ')
+  let end = stridx(a:rest, ' ', space + 1)
+  let put = end < 0 ? '' : s:read(strpart(a:rest, end + 1))
+  call s:join_row(a:document.rows, [str2nr(a:rest), str2nr(strpart(a:rest, space + 1)), put])
   let a:document.rows_count += 1
   let [a:document.rows_reason, a:document.reason] = [a:document.reason, {}]
 endfunction
@@ -689,8 +720,8 @@ let s:takers = {
       \ 'told': function('s:take_told') }
 
 function! s:take(document, line) abort
-  let word = matchstr(a:line, '^[^ ]*')
-  let rest = strpart(a:line, len(word) + 1)
+  let end = stridx(a:line, ' ')
+  let [word, rest] = end < 0 ? [a:line, ''] : [strpart(a:line, 0, end), strpart(a:line, end + 1)]
   if word ==# 'entry'
     call s:take_entry(a:document.rules, rest)
   elseif has_key(s:takers, word)
@@ -832,7 +863,7 @@ function! s:mark(document, line, change, reason) abort
   let deeds = a:reason.kind ==# 'denied' ? ['not deleted', 'not written'] : ['came back', 'undone']
   let deed = deeds[!empty(a:change.gone)]
   let why = s:why(a:document, a:reason)
-  let shown = substitute(strcharpart(text, 0, 40) . (strchars(text) > 40 ? '…' : ''), "\n", '⏎', 'g')
+  let shown = s:separated(strcharpart(text, 0, 40) . (strchars(text) > 40 ? '…' : ''), "\n", '⏎')
   call add(a:document.marks, {'line': a:line, 'text': text, 'deed': deed, 'why': why})
   call sign_place(0, 'roastcliff', 'RoastcliffUndone', a:document.buffer, {'lnum': a:line, 'priority': 20})
   call s:show_behind(a:document.buffer, a:line, '“' . shown . '” ' . deed . ': ' . why)
@@ -908,7 +939,7 @@ function! s:reasons(is_forgotten) abort
   let document = s:here()
   let lines = []
   for mark in document.marks
-    let lines += ['“' . mark.deed . '”: ' . mark.why] + map(split(mark.text, "\n", 1), '"    " . v:val')
+    let lines += ['“' . mark.deed . '”: ' . mark.why] + map(s:lines(mark.text), '"    " . v:val')
   endfor
   if a:is_forgotten
     call s:unmark(document)
@@ -930,7 +961,6 @@ function! s:start(document, has_input, Ended) abort
   let [document, partial] = [a:document, ['']]
   if has('nvim')
     return jobstart(words, {
-          \ 'detach': 1,
           \ 'stdin': a:has_input ? 'pipe' : 'null',
           \ 'on_stdout': {_, lines, event -> s:take_lines(document, partial, lines)},
           \ 'on_stderr': {_, lines, event -> s:take_error(document, join(lines, ' '))},
@@ -939,7 +969,6 @@ function! s:start(document, has_input, Ended) abort
   return job_start(words, {
         \ 'in_io': a:has_input ? 'pipe' : 'null',
         \ 'noblock': 1,
-        \ 'stoponexit': '',
         \ 'out_cb': {channel, line -> s:take_line(document, line, ch_canread(channel))},
         \ 'err_cb': {_, line -> s:take_error(document, line)},
         \ 'exit_cb': {_, status -> timer_start(50, {-> a:Ended(document, status)})} })
@@ -979,6 +1008,9 @@ function! s:fetched(document, status) abort
 endfunction
 
 function! s:follow(document) abort
+  if a:document.is_left
+    return
+  endif
   let a:document.job = s:start(a:document, 1, function('s:ended'))
   call s:say(a:document, 'text')
   call s:say(a:document, 'rules')
@@ -986,29 +1018,63 @@ endfunction
 
 " The follower has ended, so nothing that is written would be kept.
 function! s:ended(document, status) abort
-  let [a:document.job, a:document.state, a:document.is_open] = [v:null, 'ended', 0]
-  if !a:document.is_left && bufexists(a:document.buffer)
-    call setbufvar(a:document.buffer, '&modifiable', 0)
-    call s:tell(join(filter(['the follower ended with status ' . a:status, a:document.closed, a:document.error], '!empty(v:val)'), ': '))
+  let [was_open, a:document.job, a:document.state, a:document.is_open] = [a:document.is_open, v:null, 'ended', 0]
+  if a:document.is_left || !bufexists(a:document.buffer)
+    return
+  elseif a:status == s:is_locked && !was_open && a:document.tries < s:most_tries
+    let a:document.tries += 1
+    call timer_start(500, {-> s:follow(a:document)})
+    return
+  endif
+  call setbufvar(a:document.buffer, '&modifiable', 0)
+  let words = a:status == s:is_locked ? 'the disk failed, or another program has this document open here' : 'the follower ended with status ' . a:status
+  call s:tell(join(filter([words, a:document.closed, a:document.error], '!empty(v:val)'), ': '))
+endfunction
+
+" Waits while something is so, but for 3 seconds at most.
+function! s:wait_while(Is_so) abort
+  for _ in range(150)
+    if !a:Is_so()
+      return
+    endif
+    sleep 20m
+  endfor
+endfunction
+
+function! s:end_input(job) abort
+  if has('nvim')
+    call chanclose(a:job, 'stdin')
+  else
+    call ch_close_in(a:job)
   endif
 endfunction
 
-" Sends what was written, and ends the follower's input: it ends when all of it is at the host.
+function! s:stop(job) abort
+  if has('nvim')
+    call jobstop(a:job)
+  else
+    call job_stop(a:job)
+  endif
+endfunction
+
+" Sends what was written, and ends the follower, once all is at the host, or at least in its file: what a lost link keeps back
+" goes out when the document is opened again.
 function! s:leave(buffer) abort
   let document = get(s:documents, a:buffer, {})
   if empty(document)
     return
   endif
-  let document.is_left = 1
   call s:send(document)
-  if document.job isnot v:null
-    if has('nvim')
-      call chanclose(document.job, 'stdin')
-    else
-      call ch_close_in(document.job)
-    endif
-  endif
   unlet s:documents[a:buffer]
+  let [was_open, document.is_open, document.is_left] = [document.is_open, 0, 1]
+  if was_open
+    call s:wait_while({-> document.unanswered > 0})
+    call s:end_input(document.job)
+    call s:wait_while({-> document.state ==# 'linked'})
+  endif
+  if document.job isnot v:null
+    call s:stop(document.job)
+  endif
 endfunction
 
 " ---- commands
@@ -1016,7 +1082,7 @@ endfunction
 function! s:document(buffer, address, file) abort
   return {
         \ 'buffer': a:buffer, 'address': a:address, 'file': a:file, 'job': v:null,
-        \ 'is_open': 0, 'is_left': 0, 'state': 'opening', 'closed': '', 'error': '',
+        \ 'is_open': 0, 'is_left': 0, 'tries': 0, 'state': 'opening', 'closed': '', 'error': '',
         \ 'text': '', 'tick': 0, 'seen': 0, 'unanswered': 0, 'timer': -1,
         \ 'past': [], 'undone': [], 'is_typing': 0,
         \ 'rows': [], 'rows_count': 0, 'rows_reason': {},
