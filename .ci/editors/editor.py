@@ -8,6 +8,7 @@ import time
 
 HERE = os.path.dirname(os.path.abspath(__file__))
 TOP = os.path.abspath(os.path.join(HERE, "..", ".."))
+COLUMNS, ROWS = 92, 20
 SECONDS = float(os.environ.get("EDITOR_SECONDS", "20"))
 
 
@@ -31,7 +32,7 @@ class Terminal:
 
     def __init__(self, name, words, folder, **variables):
         self.server = ["tmux", "-f", "/dev/null", "-S", os.path.join(folder, name + ".tmux")]
-        size = ["-x", "92", "-y", "20"]
+        size = ["-x", str(COLUMNS), "-y", str(ROWS)]
         settings = [f"{key}={value}" for key, value in variables.items()]
         command = shlex.join(["env", *settings, *words])
         self.run("new-session", "-d", *size, "-s", "main", command)

@@ -86,6 +86,12 @@
 
 (defvar-local roastcliff--document nil "The document of this buffer.")
 
+;; A document outlasts a change of the major mode.
+(dolist (variable '(roastcliff--document roastcliff-mode))
+  (put variable 'permanent-local t))
+(dolist (hook '(roastcliff--changed roastcliff--command-ended roastcliff--leave))
+  (put hook 'permanent-local-hook t))
+
 (defvar-local roastcliff--is-taking nil "Whether what changes this buffer comes from others.")
 
 ;;;; Letters
@@ -142,7 +148,7 @@
         (delete-region (point) (+ (point) out))))))
 
 (defun roastcliff--joined (last at out put)
-  "The change LAST with the next one, of OUT letters from AT on by PUT, if they touch."
+  "The change LAST with the next one, if they touch: OUT letters from AT by PUT."
   (pcase-let ((`(,last-at ,last-out ,last-put) last))
     (cond
      ((null last) nil)
@@ -169,7 +175,7 @@
               (run-with-timer roastcliff-delay nil #'roastcliff--send document))))))
 
 (defun roastcliff--difference (shadow)
-  "The change that makes of the text of SHADOW that of this buffer, nil where they are the same."
+  "The change that makes of the text of SHADOW that of this buffer, if any."
   (let* ((case-fold-search nil)
          (size (1- (point-max)))
          (old-size (with-current-buffer shadow (1- (point-max))))
@@ -245,7 +251,8 @@
 ;; here and nothing else.  A step is (AT OUT PUT): from place AT on OUT letters go, or PUT letters come; one of them is 0.
 
 (defun roastcliff--cross-put (put out)
-  "The steps of PUT and of OUT, each after the other: the first puts letters in, the second takes some out."
+  "The steps of PUT and of OUT, each after the other.
+The first puts letters in, the second takes some out."
   (pcase-let* ((`(,at ,_ ,size) put) (`(,from ,count ,_) out) (end (+ from count)))
     (cond
      ((<= at from) (cons (list put) (list (list (+ from size) count 0))))
@@ -262,7 +269,8 @@
       (list (list (- at before) (- out common) 0)))))
 
 (defun roastcliff--cross-two (one other)
-  "The steps of ONE and of OTHER, which were meant for one text, each after the other."
+  "The steps of ONE and of OTHER, each after the other.
+They were meant for one text."
   (pcase-let ((`(,at ,_ ,put) one) (`(,other-at ,_ ,other-put) other))
     (cond
      ((and (> put 0) (> other-put 0))
@@ -302,7 +310,7 @@
     (`(,(and text (pred stringp)) . ,(and place (pred integerp))) (list (1- (abs place)) 0 (length text)))))
 
 (defun roastcliff--put-steps (cell text steps)
-  "Make of the entry in CELL the one of STEPS, which put in TEXT or take letters out."
+  "Make of the entry in CELL that of STEPS, which put in TEXT or take letters out."
   (let ((entries (mapcar (lambda (step)
                            (pcase-let ((`(,at ,out ,_) step))
                              (if text (cons text (1+ at)) (cons (1+ at) (+ 1 at out)))))
@@ -329,7 +337,8 @@
       (_ steps))))
 
 (defun roastcliff--carry-undo (at out put)
-  "Carry what undo knows of this buffer over a change of others, of OUT letters from AT on by PUT letters."
+  "Carry what undo knows of this buffer over a change of others.
+That puts PUT letters in place of OUT letters from AT on."
   (let ((steps (append (and (> out 0) (list (list at out 0))) (and (> put 0) (list (list at 0 put)))))
         (cell (and (consp buffer-undo-list) buffer-undo-list)))
     (while (and cell steps)
@@ -431,7 +440,7 @@ and comes again."
                             reason))))
 
 (defun roastcliff--make-row (document at gone put reason)
-  "Make a change in DOCUMENT: PUT in place of GONE at AT; mark it if there is a REASON."
+  "Put in DOCUMENT the text PUT in place of GONE at AT, and mark it for a REASON."
   (let ((roastcliff--is-taking t) (buffer-undo-list t) (inhibit-read-only t) (deactivate-mark nil))
     (roastcliff--put-in (current-buffer) at (length gone) put))
   (roastcliff--put-in (roastcliff--document-shadow document) at (length gone) put)
@@ -441,7 +450,7 @@ and comes again."
     (roastcliff--mark document (1+ at) gone put reason)))
 
 (defun roastcliff--take-undone (document rest)
-  "How many edits of DOCUMENT the last entry undid, and in how many rows, as REST says."
+  "How many edits of DOCUMENT the last entry undid, and in how many rows, by REST."
   (pcase-let ((`(,edits ,rows) (split-string rest " ")))
     (let ((undoing (cons 'undone (roastcliff--rules-version (roastcliff--document-rules document)))))
       (setf (roastcliff--document-undoing document) undoing
@@ -545,10 +554,10 @@ and comes again."
           ((string-prefix-p "@" word) (mapconcat (lambda (it) (roastcliff--person document it)) numbers ", "))
           (t (mapconcat (lambda (it) (roastcliff--user document it)) numbers ", ")))))
 
-(defun roastcliff--where (document object)
-  "Where the OBJECT of a rule of DOCUMENT is."
+(defun roastcliff--where (document object sign)
+  "Where the OBJECT of a rule of DOCUMENT is, which SIGN allows or forbids."
   (pcase (alist-get object (roastcliff--rules-objects (roastcliff--document-rules document)) nil nil #'equal)
-    (`("all" . ,_) "everywhere")
+    (`("all" . ,_) (if (equal sign "+") "everywhere" "anywhere"))
     (`("by" ,user) (format "in what %s wrote" (roastcliff--user document (string-to-number user))))
     (_ (format "in part %s" object))))
 
@@ -560,7 +569,7 @@ and comes again."
   "A RULE of DOCUMENT as a sentence."
   (pcase-let ((`(,_ ,sign ,users ,rights ,objects) rule))
     (let ((deeds (if (equal rights "idu") "write" (mapconcat #'roastcliff--deed rights " or ")))
-          (where (mapconcat (lambda (it) (roastcliff--where document it)) (split-string objects ",") " or ")))
+          (where (mapconcat (lambda (it) (roastcliff--where document it sign)) (split-string objects ",") " or ")))
       (if (equal (list sign users) '("-" "all"))
           (format "nobody may %s %s" deeds where)
         (format "%s %s %s %s" (roastcliff--users document users) (if (equal sign "+") "may" "may not") deeds where)))))
@@ -639,7 +648,8 @@ With a prefix argument, FORGET it: the marks go."
           (t (cl-some (lambda (it) (eql person (alist-get it (roastcliff--document-devices document)))) numbers)))))
 
 (defun roastcliff--may (document person right)
-  "Whether PERSON has a RIGHT everywhere in DOCUMENT: what the first rule says that is for him."
+  "Whether PERSON has a RIGHT everywhere in DOCUMENT.
+The first rule says it that is for him."
   (cl-loop for (_ sign users rights objects) in (roastcliff--rules-list (roastcliff--document-rules document))
            when (and (cl-find right rights) (member "0" (split-string objects ",")) (roastcliff--is-for document person users))
            return (equal sign "+")))
@@ -684,7 +694,8 @@ With a prefix argument, FORGET it: the marks go."
 ;;;; The follower
 
 (defun roastcliff--start (document ended)
-  "Start the follower of DOCUMENT, and call ENDED with that and with its status when it has ended."
+  "Start the follower of DOCUMENT.
+When it has ended ENDED is called with the document and with the status."
   (let ((buffer (roastcliff--document-buffer document)))
     (setf (roastcliff--document-rest document) ""
           (roastcliff--document-process document)
@@ -701,7 +712,7 @@ With a prefix argument, FORGET it: the marks go."
                            (funcall ended document (process-exit-status process)))))))))
 
 (defun roastcliff--fetched (document status)
-  "All that the host had is in the file of DOCUMENT, or can't be had, as STATUS says."
+  "All that the host had is in the file of DOCUMENT, or not, as STATUS says."
   (if (zerop status)
       (roastcliff--follow document)
     (roastcliff--ended document status)))
@@ -801,7 +812,8 @@ back goes out when the document is opened again."
     (add-hook 'kill-emacs-hook #'roastcliff--leave-all)))
 
 (defun roastcliff--open (place address)
-  "Open the document of ADDRESS, whose place without a secret is PLACE, in this buffer."
+  "Open the document of ADDRESS in this buffer.
+PLACE is the address without its secret."
   (make-directory roastcliff-folder t)
   (let* ((file (expand-file-name (replace-regexp-in-string "[^A-Za-z0-9.-]" "_" place) roastcliff-folder))
          (document (roastcliff--document-of
@@ -809,6 +821,7 @@ back goes out when the document is opened again."
                     :shadow (generate-new-buffer " *roastcliff text*" t))))
     (with-current-buffer (roastcliff--document-shadow document)
       (setq buffer-undo-list t))
+    (text-mode)
     (setq roastcliff--document document)
     (roastcliff-mode 1)
     (if (file-exists-p (concat file ".device"))

@@ -785,10 +785,10 @@ function! s:users(document, word) abort
   return join(map(split(a:word, ','), 's:user(a:document, v:val)'), ', ')
 endfunction
 
-function! s:object(document, number) abort
+function! s:object(document, number, sign) abort
   let extent = get(a:document.rules.objects, a:number, [''])
   if extent[0] ==# 'all'
-    return 'everywhere'
+    return a:sign ==# '+' ? 'everywhere' : 'anywhere'
   elseif extent[0] ==# 'by'
     return 'in what ' . s:user(a:document, extent[1]) . ' wrote'
   endif
@@ -804,7 +804,7 @@ endfunction
 " A rule as a sentence: `PLACE SIGN USERS RIGHTS OBJECTS`.
 function! s:rule(document, entry) abort
   let [_, sign, users, rights, objects] = a:entry.words
-  let where = join(map(split(objects, ','), 's:object(a:document, v:val)'), ' or ')
+  let where = join(map(split(objects, ','), 's:object(a:document, v:val, sign)'), ' or ')
   if sign ==# '-' && users ==# 'all'
     return 'nobody may ' . s:deeds(rights) . ' ' . where
   endif
@@ -881,8 +881,9 @@ endfunction
 
 " ---- what is shown
 
+" Tells something in one row, so that nobody has to press a key for it.
 function! s:tell(words) abort
-  echohl WarningMsg | echomsg 'roastcliff: ' . a:words | echohl None
+  echohl WarningMsg | echomsg strcharpart('roastcliff: ' . a:words, 0, v:echospace) | echohl None
 endfunction
 
 " Shows lines in a window of their own.
@@ -1098,13 +1099,12 @@ function! s:set_options() abort
   nmap <buffer> U u
   nmap <buffer> g- u
   nmap <buffer> g+ <C-R>
-  autocmd! * <buffer>
-  autocmd TextChanged <buffer> call s:changed()
-  autocmd TextChangedI,TextChangedP <buffer> call s:typed()
-  autocmd InsertLeave <buffer> call s:insert_left()
-  autocmd BufLeave,FocusLost <buffer> call s:changed()
-  autocmd BufWriteCmd <buffer> call s:written()
-  autocmd BufUnload <buffer> call s:leave(str2nr(expand('<abuf>')))
+  autocmd! roastcliff * <buffer>
+  autocmd roastcliff TextChanged,BufLeave,FocusLost <buffer> call s:changed()
+  autocmd roastcliff TextChangedI,TextChangedP <buffer> call s:typed()
+  autocmd roastcliff InsertLeave <buffer> call s:insert_left()
+  autocmd roastcliff BufWriteCmd <buffer> call s:written(expand('<afile>'))
+  autocmd roastcliff BufUnload <buffer> call s:leave(str2nr(expand('<abuf>')))
 endfunction
 
 function! s:changed() abort
@@ -1120,10 +1120,14 @@ function! s:insert_left() abort
   endif
 endfunction
 
-" What is written is kept by the follower, so that `:write` has nothing more to do.
-function! s:written() abort
+" What is written is kept by the follower, so that `:write` has nothing more to do, unless it names a file of its own.
+function! s:written(file) abort
   call s:changed()
-  setlocal nomodified
+  if a:file ==# bufname()
+    setlocal nomodified
+  else
+    execute 'noautocmd write' . (v:cmdbang ? '!' : '') fnameescape(a:file)
+  endif
 endfunction
 
 function! s:undo_times(count, is_redo) abort
@@ -1139,11 +1143,9 @@ function! s:open(address) abort
     return s:tell('an address is http://HOST:PORT/d/DOCUMENT/#SECRET')
   endif
   let s:addresses[place] = a:address
-  let buffer = bufnr('roastcliff' . place)
-  if get(get(s:documents, buffer, {}), 'job', v:null) is v:null
-    execute 'edit!' fnameescape('roastcliff' . place)
-  else
-    execute 'buffer' buffer
+  execute 'edit' fnameescape('roastcliff' . place)
+  if get(get(s:documents, bufnr(), {}), 'job', v:null) is v:null
+    call s:read_buffer(bufnr(), bufname())
   endif
 endfunction
 
