@@ -81,7 +81,12 @@ class Editor:
             "DRIVER_PORT": str(self.door.getsockname()[1]), "HOME": home, "XDG_DATA_HOME": home, "XDG_CONFIG_HOME": home,
             "XDG_STATE_HOME": home, "FOLLOW": follow, "LANG": "C.UTF-8", "TERM": "screen-256color",
         }
-        self.start()
+        self.terminal = self.link = None
+        try:
+            self.start()
+        except (Wrong, OSError):
+            self.end()
+            raise
 
     def start(self, is_linked=True):
         self.terminal = Terminal(self.name, self.words(), self.folder, **self.variables)
@@ -118,8 +123,10 @@ class Editor:
         self.start(is_linked=False)
 
     def end(self):
-        self.terminal.end()
-        self.link.close()
+        if self.terminal:
+            self.terminal.end()
+        if self.link:
+            self.link.close()
         self.door.close()
 
 

@@ -14,10 +14,14 @@ sys.dont_write_bytecode = True
 from editor import SECONDS, Emacs, Neovim, Vim, Wrong, wait_for
 from team import Team
 from follower import Follower
+from follower import Wrong as WrongFollower
+from host_peer import Ended
+from link_peer import Broken
 
 EDITORS = {"vim": Vim, "nvim": Neovim, "emacs": Emacs}
 LETTERS = ["a", "b", "c", " ", "\n", "\\", "é", "ß", "€", "漢", "𝄞", "\t", "#", "'", '"', "e\u0301"]
 FEW = 40  # so many edits without a number
+FAULTS = (Wrong, WrongFollower, Ended, Broken, OSError)
 
 tried = 0
 
@@ -40,13 +44,21 @@ class Stage:
 
     def __init__(self, kind, host, follow, folder):
         self.team = Team(host, folder)
-        self.ann_secret, self.ann = self.team.invite("writer Ann")
+        self.editor = self.ben = None
+        try:
+            self.begin(kind, follow, folder)
+        except FAULTS:
+            self.end()
+            raise
+
+    def begin(self, kind, follow, folder):
+        ann_secret, self.ann = self.team.invite("writer Ann")
         ben_secret, _ = self.team.invite("writer Ben")
         self.ben = Follower(follow, self.team.address(ben_secret), os.path.join(folder, "ben"))
         self.ben.wait_for("a link", lambda: any(line.startswith("linked ") for line in self.ben.news))
         self.ben.reach(self.team.saved)
         self.ben.begin()
-        address = self.team.address(self.ann_secret, is_cut=True)
+        address = self.team.address(ann_secret, is_cut=True)
         self.way = self.team.ways[-1]
         self.editor = EDITORS[kind](kind, folder, follow, address)
 
@@ -81,9 +93,11 @@ class Stage:
         self.way.is_down = False
 
     def end(self):
-        self.editor.end()
-        self.ben.kill()
-        self.team.end()
+        for it in (self.editor, self.team):
+            if it:
+                it.end()
+        if self.ben:
+            self.ben.kill()
 
 
 def play_typing(stage):
@@ -303,7 +317,7 @@ def play(kinds, host, follow, edits, folder):
                 begun = time.monotonic()
                 part(stage)
                 print(f"editors: {kind}: {part.__name__[5:]} is as it should be, in {time.monotonic() - begun:.1f} s", flush=True)
-        except Wrong:
+        except FAULTS:
             print(stage.editor.terminal.screen())
             raise
         finally:
@@ -335,8 +349,8 @@ def main():
         os.makedirs(os.path.join(folder, kind))
     try:
         play(kinds, os.path.abspath(host), os.path.abspath(follow), edits, folder)
-    except Wrong as wrong:
-        print(f"editors: {wrong}")
+    except FAULTS as wrong:
+        print(f"editors: {wrong!r}" if isinstance(wrong, OSError) else f"editors: {wrong}")
         sys.exit(1)
     finally:
         shutil.rmtree(folder, ignore_errors=True)
