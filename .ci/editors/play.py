@@ -138,6 +138,19 @@ def play_at_once(stage):
         stage.editor.write_at_end(f" {number}")
     text = stage.meet()
     same("what both wrote", text, "4\n3\n2\n1\n0\nbegin\nmine 0 1 2 3 4")
+    stage.begin_with("line\n")
+    stage.editor.begin_to_type_at_end()
+    stage.editor.terminal.type("one word ")
+    stage.meet("line\none word ")
+    stage.ben.replace(5, 5, "Ben: ")
+    stage.meet("line\nBen: one word ")
+    stage.editor.terminal.type("and another ")
+    stage.meet("line\nBen: one word and another ")
+    stage.ben.replace(0, 5, "")
+    stage.meet("Ben: one word and another ")
+    stage.editor.terminal.type("third ")
+    stage.editor.end_to_type()
+    stage.meet("Ben: one word and another third ")
 
 
 def play_paste(stage):
