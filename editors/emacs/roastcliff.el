@@ -491,7 +491,9 @@ and comes again."
       ("person" (roastcliff--take-person document rest))
       ("device" (push (apply #'cons (roastcliff--numbers rest)) (roastcliff--document-devices document)))
       ("here" (setf (roastcliff--document-here document) (roastcliff--numbers rest)))
-      ("told" (message "roastcliff: the host did not take an edit: %s" rest)))))
+      ("told" (message "roastcliff: the host did not take an edit: %s" rest))
+      ;; What is written as an error comes among the lines.
+      ((or "quick:" "roastcliff:" "usage:") (message "%s" line)))))
 
 (defun roastcliff--take-all (document)
   "Take the lines of DOCUMENT that have come."
@@ -701,10 +703,10 @@ When it has ended ENDED is called with the document and with the status."
           (roastcliff--document-process document)
           (make-process
            :name "roastcliff" :connection-type 'pipe
-           :command (append roastcliff-program
+           ;; The end of Emacs by a signal isn't that of the follower, which has lines to read then.
+           :command (append (and (executable-find "nohup") '("nohup")) roastcliff-program
                             (list (roastcliff--document-address document) (roastcliff--document-file document)))
            :coding 'utf-8-unix :noquery t
-           :stderr (get-buffer-create " *roastcliff errors*")
            :filter (lambda (_ some) (roastcliff--filter document some))
            :sentinel (lambda (process _)
                        (when (and (memq (process-status process) '(exit signal)) (buffer-live-p buffer))
@@ -753,30 +755,45 @@ So nothing that is written would be kept."
     (while (and (funcall is-so) (process-live-p process) (< (float-time) last))
       (accept-process-output process 0.02))))
 
-(defun roastcliff--leave ()
-  "Send what was written, and end the follower.
+(defun roastcliff--end-follower (document process)
+  "End PROCESS, the follower of DOCUMENT.
 It ends once all is at the host, or at least in its file: what a lost link keeps
 back goes out when the document is opened again."
+  (when (roastcliff--document-is-open document)
+    (setf (roastcliff--document-is-open document) nil)
+    (roastcliff--wait-while process (lambda () (> (roastcliff--document-unanswered document) 0)))
+    (process-send-eof process)
+    (roastcliff--wait-while process (lambda () (eq 'linked (roastcliff--document-state document)))))
+  (delete-process process))
+
+(defun roastcliff--leave (&optional at-once)
+  "Send what was written, and end the follower: AT-ONCE by the end of its input."
   (when-let ((document roastcliff--document))
     (roastcliff--send document)
     (let ((process (roastcliff--document-process document)))
       (when (process-live-p process)
         (set-process-sentinel process #'ignore)
-        (when (roastcliff--document-is-open document)
-          (setf (roastcliff--document-is-open document) nil)
-          (roastcliff--wait-while process (lambda () (> (roastcliff--document-unanswered document) 0)))
-          (process-send-eof process)
-          (roastcliff--wait-while process (lambda () (eq 'linked (roastcliff--document-state document)))))
-        (delete-process process)))
+        (if at-once
+            (process-send-eof process)
+          (roastcliff--end-follower document process))))
     (when (buffer-live-p (roastcliff--document-shadow document))
       (kill-buffer (roastcliff--document-shadow document)))
     (setq roastcliff--document nil)))
+
+(defvar roastcliff--may-wait nil
+  "Whether Emacs ends by a command.
+By a signal it isn't told of its children's ends any more, so that waiting for
+one wouldn't end.")
+
+(defun roastcliff--note-end ()
+  "Note that Emacs ends by a command, which may go on."
+  (setq roastcliff--may-wait t))
 
 (defun roastcliff--leave-all ()
   "Leave all documents."
   (dolist (buffer (buffer-list))
     (with-current-buffer buffer
-      (roastcliff--leave))))
+      (roastcliff--leave (not roastcliff--may-wait)))))
 
 ;;;; Commands
 
@@ -809,6 +826,7 @@ back goes out when the document is opened again."
     (add-hook 'after-change-functions #'roastcliff--changed nil t)
     (add-hook 'post-command-hook #'roastcliff--command-ended nil t)
     (add-hook 'kill-buffer-hook #'roastcliff--leave nil t)
+    (add-hook 'kill-emacs-query-functions #'roastcliff--note-end)
     (add-hook 'kill-emacs-hook #'roastcliff--leave-all)))
 
 (defun roastcliff--open (place address)

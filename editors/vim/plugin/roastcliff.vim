@@ -996,6 +996,7 @@ endfunction
 function! s:take_error(document, words) abort
   if a:words =~# '\S'
     let a:document.error = a:words
+    call s:tell(a:words)
   endif
 endfunction
 
