@@ -362,11 +362,10 @@ endfunction
 
 " Something was typed: it goes out at the end of a word, or soon.
 function! s:typed() abort
-  let document = s:documents[bufnr()]
+  let document = get(s:documents, bufnr(), {'is_open': 0})
   if !document.is_open
     return
-  endif
-  if col('.') < 2 || getline('.')[col('.') - 2] =~# '\s'
+  elseif col('.') < 2 || getline('.')[col('.') - 2] =~# '\s'
     call s:send(document)
   elseif document.timer < 0
     let document.timer = timer_start(g:roastcliff_delay, {-> s:send(document)})
