@@ -24,7 +24,7 @@
 (ert-deftest undo-tests-cross ()
   "What becomes of two rows of steps gives one text."
   (random "roastcliff")
-  (dotimes (_ 1000)
+  (dotimes (_ 400)
     (let* ((size (random 12))
            (text (number-sequence 1 size))
            (ones (undo-tests-row size))
@@ -32,6 +32,26 @@
            (crossed (roastcliff--cross ones others)))
       (should (equal (undo-tests-made (undo-tests-made text ones 'one) (cdr crossed) 'other)
                      (undo-tests-made (undo-tests-made text others 'other) (car crossed) 'one))))))
+
+(defun undo-tests-entry (step)
+  "The entry of undo that makes STEP."
+  (pcase-let ((`(,at ,out ,put) step))
+    (if (> put 0) (cons (make-string put ?x) (1+ at)) (cons (1+ at) (+ 1 at out)))))
+
+(ert-deftest undo-tests-in-place ()
+  "Entries that are changed in place become what their steps become."
+  (random "roastcliff")
+  (dotimes (_ 400)
+    (let* ((size (random 12))
+           (ones (undo-tests-row size))
+           (at (random (1+ size)))
+           (out (random (1+ (- size at))))
+           (put (random 3))
+           (others (append (and (> out 0) (list (list at out 0))) (and (> put 0) (list (list at 0 put)))))
+           (buffer-undo-list (mapcar #'undo-tests-entry ones)))
+      (roastcliff--carry-undo at out put)
+      (should (equal (delq nil (mapcar #'roastcliff--step-of buffer-undo-list))
+                     (car (roastcliff--cross ones others)))))))
 
 (ert-deftest undo-tests-entries ()
   "An undo takes back what was written here, and leaves what others wrote in front of it, within it and behind it."

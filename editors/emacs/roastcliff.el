@@ -336,15 +336,55 @@ They were meant for one text."
        steps)
       (_ steps))))
 
+(defun roastcliff--carry-inserted (entry at out by)
+  "Carry ENTRY, that text was inserted, over a step of OUT letters at AT.
+That step moves what is behind it BY so many letters.  Give the place of the
+step after it, nil where they meet."
+  (let ((begin (1- (car entry))) (end (1- (cdr entry))))
+    (cond
+     ((<= end at) (- at (- end begin)))
+     ((>= begin (+ at out))
+      (setcar entry (+ (car entry) by))
+      (setcdr entry (+ (cdr entry) by))
+      at))))
+
+(defun roastcliff--carry-deleted (entry at out by)
+  "The same of ENTRY, that text was deleted: AT, OUT and BY are as there."
+  (let* ((place (cdr entry)) (before (1- (abs place))))
+    (cond
+     ((<= before at) (+ at (length (car entry))))
+     ((>= before (+ at out))
+      (setcdr entry (if (< place 0) (- place by) (+ place by)))
+      at))))
+
+(defun roastcliff--carry-step (cell at out put)
+  "Carry the entries of undo from CELL on over a step (AT OUT PUT) of others.
+Most of them don't meet it, and are changed in place, since there are thousands."
+  (let ((by (- put out)))
+    (while (and cell at)
+      (let* ((entry (car cell)) (next (cdr cell)) (first (car-safe entry))
+             (place (cond
+                     ((and (integerp first) (integerp (cdr entry))) (roastcliff--carry-inserted entry at out by))
+                     ((and (stringp first) (integerp (cdr entry))) (roastcliff--carry-deleted entry at out by))
+                     ((or (null entry) (markerp first) (eq first t)) at))))
+        (unless place
+          (dolist (step (roastcliff--carry-entry cell (list (list at out put))))
+            (apply #'roastcliff--carry-step next step)))
+        (setq at place cell next)))))
+
 (defun roastcliff--carry-undo (at out put)
   "Carry what undo knows of this buffer over a change of others.
 That puts PUT letters in place of OUT letters from AT on."
-  (let ((steps (append (and (> out 0) (list (list at out 0))) (and (> put 0) (list (list at 0 put)))))
-        (cell (and (consp buffer-undo-list) buffer-undo-list)))
-    (while (and cell steps)
-      (let ((next (cdr cell)))
-        (setq steps (roastcliff--carry-entry cell steps)
-              cell next)))))
+  (when (consp buffer-undo-list)
+    (when (> out 0)
+      (roastcliff--carry-step buffer-undo-list at out 0))
+    (when (> put 0)
+      (roastcliff--carry-step buffer-undo-list at 0 put))))
+
+;; A file that isn't compiled has at least these compiled: a change of others passes thousands of entries.
+(dolist (function '(roastcliff--carry-inserted roastcliff--carry-deleted roastcliff--carry-step))
+  (unless (byte-code-function-p (symbol-function function))
+    (byte-compile function)))
 
 ;;;; What comes
 
