@@ -1,3 +1,4 @@
 pub mod WalkLemmas
 pub mod SeenLemmas
 pub mod ToldLemmas
+pub mod AheadLemmas

@@ -1,3 +1,4 @@
 pub mod Rows
 pub mod Seen
 pub mod Told
+pub mod Ahead

@@ -4,8 +4,10 @@
 //! It must not know how a row is spelled, and who reads it.
 #![tactic(auto)]
 
+mod ahead;
 mod row;
 mod seen;
 mod told;
 
+pub use ahead::Ahead;
 pub use told::{Told, step_told};

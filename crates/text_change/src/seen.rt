@@ -31,15 +31,16 @@ fn packed(alloc: Global, piece: Option<Piece>) -> Result<Option<PackedPiece>, No
 }
 
 impl Seen {
-    fn of(alloc: Global, peer: &Peer, element: Name) -> Result<Seen, NoMemory>
+    /// An element, with what shows of it now.
+    pub(crate) fn of(alloc: Global, peer: &Peer, element: Name) -> Result<Seen, NoMemory>
         ensures { IfOk result (λ seen. seen ≡ seen_of peer.now element) }
     {
         let piece = packed(alloc, piece_at(peer, element))?;
         Ok(Seen { element, piece })
     }
 
-    // Its row, by what shows of it now.
-    fn row(&self, peer: &Peer) -> Option<LocalEdit>
+    /// Its row, by what shows of it now.
+    pub(crate) fn row(&self, peer: &Peer) -> Option<LocalEdit>
         ensures { result ≡ row_of peer.now self.now.element self.now.piece }
     {
         let old = match &self.piece {

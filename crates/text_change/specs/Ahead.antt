@@ -1,12 +1,10 @@
 -- What a step may change, as it shows before the step.
-use Rattle.std.specs.Prelude.{◌≡◌, ℕ, ◌≤◌, true, List, [], Some, None, vec_capacity}
+use Rattle.std.specs.Prelude.{◌≡◌, ℕ, true, List, Some, None}
 use Rattle.std.specs.BTreeMap.{btree_map_len, IsOrdered}
 use Rattle.std.specs.Ordering.{nat_cmp}
-use Rattle.std.specs.Global.{Vec}
 use Rattle.element_name.specs.Name.{Name}
 use Rattle.coop_request.specs.Request.{Request, element_of}
 use Rattle.peer_tables.specs.Undoing.{HaveUndone}
-use Rattle.peer_step.specs.declared.step.LocalEdit.{LocalEdit}
 use Rattle.peer_step.specs.declared.step.Step.{Step}
 use Rattle.peer_step.specs.declared.step.Step.TheVariants.{Edit}
 use Rattle.peer_core.specs.After.{peer_after}
@@ -23,11 +21,6 @@ abbrev pub most_rows : Touched → ℕ
 most_rows (Own edit) = 1
 most_rows (One seen) = 1
 most_rows (Many seen) = btree_map_len seen
-
--- no row is there yet, and there is room for all
-pub record RoomFor (touched : Touched) (rows : Vec LocalEdit) : Type 0 where
-  pub none : rows.items ≡ []
-  pub room : most_rows touched ≤ vec_capacity rows
 
 -- this may change at a step: an own edit is its row, a request changes its element, an entry those of the requests that it undoes
 abbrev pub Touches : Peer → Step → Touched → Type 0

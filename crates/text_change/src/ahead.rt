@@ -1,5 +1,5 @@
 //! What a step may change in the shown text, as it stands before the step.
-ghost use Rattle.std.specs.Prelude.{◌≡◌, None, Some, IfOk};
+ghost use Rattle.std.specs.Prelude.{◌≡◌, ◌≤◌, None, Some, IfOk, length, vec_capacity};
 ghost use Rattle.edit_message.specs.Formed.{is_message};
 ghost use Rattle.edit_message.specs.Message.{request_in};
 ghost use Rattle.std.specs.Prelude.{IsTrue};
@@ -9,7 +9,7 @@ ghost use Rattle.peer_core.specs.Answers.{answer_of};
 ghost use Rattle.peer_core.specs.After.{peer_after};
 ghost use Rattle.peer_core.specs.Changes.{is_received};
 ghost use Rattle.text_change.specs.Told.{step_edit, is_done, request_by, AreRowsOf};
-ghost use Rattle.text_change.specs.Ahead.{IsAheadOf};
+ghost use Rattle.text_change.specs.Ahead.{most_rows, IsAheadOf};
 
 use crate::seen::{Seen, put_rows, seen_at};
 use coop_request::Request;
@@ -19,7 +19,6 @@ use peer_core::Peer;
 use peer_step::{Answer, LocalEdit, Step};
 use std::alloc::Global;
 use std::collections::BTreeMap;
-use std::marker::Model;
 
 /// What may change at a step.
 #[derive(Drop)]
@@ -39,18 +38,9 @@ pub(crate) enum Touched {
 pub struct Ahead {
     touched: Touched,
     rows: Vec<LocalEdit>,
-}
-
-impl Model for Ahead {
-    ghost use Rattle.std.specs.Prelude.{◌≡◌, ◌≤◌, [], vec_capacity};
-    ghost use Rattle.text_change.specs.declared.ahead.Touched.{Touched};
-    ghost use Rattle.text_change.specs.Ahead.{RoomFor};
-
-    ghost Value = { Touched };
-
-    ghost view = { λ a. a.touched };
-
-    ghost invariant = { λ a. RoomFor a.touched a.rows };
+    // No row is there yet, and there is room for all.
+    ghost none: { length rows.items ≡ 0 },
+    ghost room: { most_rows touched ≤ vec_capacity rows },
 }
 
 // The edit of a step that edits.
@@ -108,7 +98,7 @@ impl Ahead {
         requires other { step_edit step.now ≡ None }
         requires entry { request_by peer.now step.now ≡ None }
         requires formed { IsTrue (is_received step.now) }
-        ensures { IfOk result (IsAheadOf peer.now step.now) }
+        ensures { IfOk result (λ ahead. IsAheadOf peer.now step.now ahead.touched) }
     {
         // a peer that has a site is sound
         let _ = peer.site();
@@ -130,7 +120,7 @@ impl Ahead {
     ) -> Result<Ahead, NoMemory>
         requires request { request_by peer.now step.now ≡ Some request }
         requires formed { IsTrue (is_received step.now) }
-        ensures { IfOk result (IsAheadOf peer.now step.now) }
+        ensures { IfOk result (λ ahead. IsAheadOf peer.now step.now ahead.touched) }
     {
         // a peer that has a site is sound
         let _ = peer.site();
@@ -145,7 +135,7 @@ impl Ahead {
     // What an edit of the peer's own may change.
     fn of_edit(alloc: Global, peer: &Peer, step: &Step, edit: LocalEdit) -> Result<Ahead, NoMemory>
         requires edit { step.now ≡ Step.Edit edit }
-        ensures { IfOk result (IsAheadOf peer.now step.now) }
+        ensures { IfOk result (λ ahead. IsAheadOf peer.now step.now ahead.touched) }
     {
         // a peer that has a site is sound
         let _ = peer.site();
@@ -163,7 +153,7 @@ impl Ahead {
     /// Memory: room for as many rows as elements have a Tentative request within the entry's reach, and for a while what
     /// shows of these, about 400 bytes for each; of another step, room for one row.
     pub fn of(alloc: Global, peer: &Peer, step: &Step) -> Result<Ahead, NoMemory>
-        ensures { IfOk result (IsAheadOf peer.now step.now) }
+        ensures { IfOk result (λ ahead. IsAheadOf peer.now step.now ahead.touched) }
     {
         if let Some(edit) = step_edit(step) {
             return Ahead::of_edit(alloc, peer, step, edit);
@@ -177,7 +167,7 @@ impl Ahead {
     /// The rows that tell what the step changed, of the peer after it and of its answer. Takes no memory, and for each
     /// row the time of `Peer::shown_up_to`.
     pub fn rows(self, peer: &Peer, answer: &Answer) -> Vec<LocalEdit>
-        ensures { (old : Peer) (step : Step) → IsAheadOf old step self → answer.now ≡ answer_of old step → peer.now ≡ peer_after old step
+        ensures { (old : Peer) (step : Step) → IsAheadOf old step self.touched → answer.now ≡ answer_of old step → peer.now ≡ peer_after old step
             → AreRowsOf old peer.now result.items }
     {
         let Ahead { touched, mut rows } = self;

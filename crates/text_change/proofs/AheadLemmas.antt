@@ -1,5 +1,5 @@
 -- Rows of what stood before a step.
-use Rattle.std.proofs.Common.{◌≡◌, ℕ, List, [], ◌∷◌, ap, sym, subst, ◌∙◌}
+use Rattle.std.proofs.Common.{◌≡◌, ℕ, List, [], ◌∷◌, length, refl, ap, sym, subst, ◌∙◌}
 use Rattle.std.specs.Prelude.{if◌then◌else◌, filter_map}
 use Rattle.std.specs.List.{cons_option}
 use Rattle.std.specs.List.Sorted.{IsStrictlySortedBy}
@@ -22,6 +22,11 @@ use Rattle.text_change.specs.Seen.{seen_of, seen_at, row_by}
 use Rattle.text_change.specs.Told.{is_done, AreRowsOf}
 use Rattle.text_change.proofs.ToldLemmas.{told_own, told_by_request, told_by_entry}
 
+-- a list of no length is empty
+pub empty : (rows : List LocalEdit) → length rows ≡ 0 → rows ≡ []
+empty [] h = refl
+empty (row ∷ rows) h = absurd cc
+
 -- an own edit is its row, where it is made
 pub own_told : (p q : Peer) (step : Step) (edit : LocalEdit) (a : Answer) (rows : List LocalEdit) → IsAheadOf p step (Own edit) → a ≡ answer_of p step → q ≡ peer_after p step
     → rows ≡ (if is_done a then edit ∷ [] else []) → AreRowsOf p q rows
@@ -36,8 +41,8 @@ pub one_told : (p q : Peer) (step : Step) (seen : Seen) (rows : List LocalEdit) 
     → rows ≡ cons_option (row_of q seen.element seen.piece) [] → AreRowsOf p q rows
 one_told p q step seen rows ahead after is =
     let r : Request = ahead.touches.0 in
-    let told = told_by_request p step r ahead.formed ahead.sound ahead.touches.1.0 in
-    let same : rows ≡ cons_option (row_of q (element_of r) (seen_of p (element_of r)).piece) [] = is ∙ ap (λ (s : Seen). cons_option (row_of q s.element s.piece) []) ahead.touches.1.1 in
+    let told = told_by_request p step r ahead.formed ahead.sound ahead.touches.1 in
+    let same : rows ≡ cons_option (row_of q (element_of r) (seen_of p (element_of r)).piece) [] = is ∙ ap (λ (s : Seen). cons_option (row_of q s.element s.piece) []) ahead.touches.2 in
     subst (λ (v : List LocalEdit). AreRowsOf p q v) (sym same)
     (subst (λ (x : Peer). AreRowsOf p x (cons_option (row_of x (element_of r) (seen_of p (element_of r)).piece) [])) (sym after) told)
 
@@ -45,8 +50,8 @@ one_told p q step seen rows ahead after is =
 pub many_told : (p q : Peer) (step : Step) (seen : BTreeMap ℕ Seen) (rows : List LocalEdit) → IsAheadOf p step (Many seen) → q ≡ peer_after p step
     → rows ≡ filter_map (row_by q) seen.entries → AreRowsOf p q rows
 many_told p q step seen rows ahead after is =
-    let some = ahead.touches.1.1 in
-    let sorted = subst (λ (es : List (ℕ × Seen)). IsStrictlySortedBy nat_cmp (keys_of es)) some.1.1.0 some.1.1.1 in
-    let told = told_by_entry p step some.0 ahead.formed ahead.sound ahead.touches.0 ahead.touches.1.0 some.1.0 sorted in
-    subst (λ (v : List LocalEdit). AreRowsOf p q v) (sym (is ∙ ap (λ (es : List (ℕ × Seen)). filter_map (row_by q) es) some.1.1.0))
+    let some = ahead.touches.2 in
+    let sorted = subst (λ (es : List (ℕ × Seen)). IsStrictlySortedBy nat_cmp (keys_of es)) some.2 some.3 in
+    let told = told_by_entry p step some.0 ahead.formed ahead.sound ahead.touches.0 ahead.touches.1 some.1 sorted in
+    subst (λ (v : List LocalEdit). AreRowsOf p q v) (sym (is ∙ ap (λ (es : List (ℕ × Seen)). filter_map (row_by q) es) some.2))
     (subst (λ (x : Peer). AreRowsOf p x (filter_map (row_by x) (seen_at p some.0))) (sym after) told)
