@@ -1,0 +1,4 @@
+pub mod Edges
+pub mod Cutting
+pub mod Rows
+pub mod Edits

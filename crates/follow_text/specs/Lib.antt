@@ -1,0 +1,5 @@
+pub mod Letters
+pub mod Rows
+pub mod Shown
+pub mod Edits
+pub mod Tracked

@@ -1,0 +1,8 @@
+-- What a program has that is told rows.
+use Rattle.std.specs.Prelude.{ℕ, List}
+use Rattle.follow_text.specs.declared.tracked.Tracked.{Tracked}
+use Rattle.follow_text.specs.Rows.{with_rows}
+
+-- its text once it has seen all rows that it was told
+abbrev pub text_told : Tracked → List ℕ
+text_told t = with_rows t.bytes.items t.unseen.items
