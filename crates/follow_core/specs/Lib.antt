@@ -1,0 +1,4 @@
+pub mod Past
+pub mod Happens
+pub mod Laws
+pub mod Samples
