@@ -53,6 +53,12 @@
       (should (equal (delq nil (mapcar #'roastcliff--step-of buffer-undo-list))
                      (car (roastcliff--cross ones others)))))))
 
+(ert-deftest undo-tests-many ()
+  "Many entries that each meet one deletion are carried over it: what they put in stands in their order where it was."
+  (let ((buffer-undo-list (mapcar (lambda (number) (cons "x" (+ 10 (* 3 number)))) (number-sequence 0 299))))
+    (roastcliff--carry-undo 0 1000 0)
+    (should (equal buffer-undo-list (mapcar (lambda (number) (cons "x" (1+ number))) (number-sequence 0 299))))))
+
 (ert-deftest undo-tests-entries ()
   "An undo takes back what was written here, and leaves what others wrote in front of it, within it and behind it."
   (with-temp-buffer

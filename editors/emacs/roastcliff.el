@@ -357,32 +357,43 @@ step after it, nil where they meet."
       (setcdr entry (if (< place 0) (- place by) (+ place by)))
       at))))
 
-(defun roastcliff--carry-step (cell at out put)
+(defun roastcliff--carried-place (entry at out by)
+  "The place of a step behind ENTRY, which is changed in place, nil if they meet.
+The step takes OUT letters at AT, and moves what is behind it BY so many."
+  (let ((first (car-safe entry)))
+    (cond
+     ((and (integerp first) (integerp (cdr entry))) (roastcliff--carry-inserted entry at out by))
+     ((and (stringp first) (integerp (cdr entry))) (roastcliff--carry-deleted entry at out by))
+     ((or (null entry) (markerp first) (eq first t)) at))))
+
+(defun roastcliff--carry-far (cell at out put)
   "Carry the entries of undo from CELL on over a step (AT OUT PUT) of others.
-Most of them don't meet it, and are changed in place, since there are thousands."
-  (let ((by (- put out)))
-    (while (and cell at)
-      (let* ((entry (car cell)) (next (cdr cell)) (first (car-safe entry))
-             (place (cond
-                     ((and (integerp first) (integerp (cdr entry))) (roastcliff--carry-inserted entry at out by))
-                     ((and (stringp first) (integerp (cdr entry))) (roastcliff--carry-deleted entry at out by))
-                     ((or (null entry) (markerp first) (eq first t)) at))))
-        (unless place
-          (dolist (step (roastcliff--carry-entry cell (list (list at out put))))
-            (apply #'roastcliff--carry-step next step)))
-        (setq at place cell next)))))
+It ends at the first that meets the step.  Give the steps that become of it
+there, each as (CELL AT OUT PUT), with the cell from which it goes on."
+  (let ((by (- put out)) (place at))
+    (while (and cell (setq place (roastcliff--carried-place (car cell) at out by)))
+      (setq at place cell (cdr cell)))
+    (when cell
+      (let ((next (cdr cell)))
+        (mapcar (lambda (step) (cons next step)) (roastcliff--carry-entry cell (list (list at out put))))))))
+
+(defun roastcliff--carry-step (at out put)
+  "Carry what undo knows of this buffer over a step (AT OUT PUT) of others."
+  (let ((left (list (list buffer-undo-list at out put))))
+    (while left
+      (setq left (append (apply #'roastcliff--carry-far (car left)) (cdr left))))))
 
 (defun roastcliff--carry-undo (at out put)
   "Carry what undo knows of this buffer over a change of others.
 That puts PUT letters in place of OUT letters from AT on."
   (when (consp buffer-undo-list)
     (when (> out 0)
-      (roastcliff--carry-step buffer-undo-list at out 0))
+      (roastcliff--carry-step at out 0))
     (when (> put 0)
-      (roastcliff--carry-step buffer-undo-list at 0 put))))
+      (roastcliff--carry-step at 0 put))))
 
 ;; A file that isn't compiled has at least these compiled: a change of others passes thousands of entries.
-(dolist (function '(roastcliff--carry-inserted roastcliff--carry-deleted roastcliff--carry-step))
+(dolist (function '(roastcliff--carry-inserted roastcliff--carry-deleted roastcliff--carried-place roastcliff--carry-far))
   (unless (byte-code-function-p (symbol-function function))
     (byte-compile function)))
 
