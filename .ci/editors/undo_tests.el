@@ -55,9 +55,9 @@
 
 (ert-deftest undo-tests-many ()
   "Many entries that each meet one deletion are carried over it: what they put in stands in their order where it was."
-  (let ((buffer-undo-list (mapcar (lambda (number) (cons "x" (+ 10 (* 3 number)))) (number-sequence 0 299))))
-    (roastcliff--carry-undo 0 1000 0)
-    (should (equal buffer-undo-list (mapcar (lambda (number) (cons "x" (1+ number))) (number-sequence 0 299))))))
+  (let ((buffer-undo-list (mapcar (lambda (number) (cons "x" (+ 10 (* 2 number)))) (number-sequence 0 899))))
+    (roastcliff--carry-undo 0 2000 0)
+    (should (equal buffer-undo-list (mapcar (lambda (number) (cons "x" (1+ number))) (number-sequence 0 899))))))
 
 (ert-deftest undo-tests-entries ()
   "An undo takes back what was written here, and leaves what others wrote in front of it, within it and behind it."
