@@ -1,5 +1,5 @@
 -- Messages that a document gives a link, one more at a time.
-use Rattle.std.proofs.Common.{◌≡◌, ℕ, List, [], ◌∷◌, ◌++◌, Option, Some, None, length, ◌+◌, refl, sym, ◌∙◌, ap, append_assoc, arith, length-append}
+use Rattle.std.proofs.Common.{◌≡◌, ℕ, List, [], ◌∷◌, ◌++◌, Option, Some, None, length, ◌+◌, refl, sym, ◌∙◌, ap, append_assoc, length-append}
 use Rattle.std.proofs.lemmas.List.{append-nil}
 use Rattle.edit_message.specs.declared.message.Message.{Message}
 use Rattle.edit_frame.specs.declared.frame.Frame.TheVariants.{Item}
@@ -23,12 +23,12 @@ gifts_snoc link (x ∷ xs) m old = gifts_snoc link xs m (behind_gift link x old)
 
 -- the last frame stands behind the others
 pub frames_snoc : (ms : List Message) (m : Message) → item_frames (ms ++ m ∷ []) ≡ item_frames ms ++ spelling (Item m)
-frames_snoc [] m = grind arith
+frames_snoc [] m = append-nil (spelling (Item m))
 frames_snoc (x ∷ xs) m = rw (frames_snoc xs m) (sym (append_assoc (spelling (Item x)) (item_frames xs) (spelling (Item m))))
 
 -- where nothing was given nothing stands behind
 pub none_given : (link : LinkId) (old : Option (List HostEvent)) (before : List ℕ) → GivesFrames link 0 old old before before
-none_given link old before = record { items = []; so_many = refl; given = refl; framed = grind arith }
+none_given link old before = record { items = []; so_many = refl; given = refl; framed = sym (append-nil before) }
 
 -- one more is given, and its frame stands behind the others
 pub one_more : (link : LinkId) (count : ℕ) (m : Message) (old mid new : Option (List HostEvent)) (before between after : List ℕ)
@@ -36,8 +36,8 @@ pub one_more : (link : LinkId) (count : ℕ) (m : Message) (old mid new : Option
     → GivesFrames link (count + 1) old new before after
 one_more link count m old mid new before between after g given framed = record {
   items = g.items ++ m ∷ [];
-  so_many = grind (arith, length-append, g.so_many);
-  given = given ∙ ap (λ p. behind_gift link m p) g.given ∙ sym (gifts_snoc link g.items m old);
-  framed = framed ∙ ap (λ bs. bs ++ spelling (Item m)) g.framed ∙ append_assoc before (item_frames g.items) (spelling (Item m))
-      ∙ ap (λ bs. before ++ bs) (sym (frames_snoc g.items m));
+  so_many = length-append g.items (m ∷ []) ∙ ap (λ (n : ℕ). n + 1) g.so_many;
+  given = given ∙ ap (λ (p : Option (List HostEvent)). behind_gift link m p) g.given ∙ sym (gifts_snoc link g.items m old);
+  framed = framed ∙ ap (λ (bs : List ℕ). bs ++ spelling (Item m)) g.framed ∙ append_assoc before (item_frames g.items) (spelling (Item m))
+      ∙ ap (λ (bs : List ℕ). before ++ bs) (sym (frames_snoc g.items m));
 }
