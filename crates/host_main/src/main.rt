@@ -14,7 +14,6 @@ use host_http::{Origins, Pages, Routes};
 use host_people::BookFault;
 use host_socket::Limits;
 use log::sink::Console;
-use log::{LevelFilter, Logged};
 use setting::{Setting, Task, task_of};
 use std::sync::Wait;
 use std::{env, fs};
@@ -108,10 +107,9 @@ fn routes(rt: &HostRuntime) -> Result<Routes> {
     }
 }
 
-// Listens, and serves until the system fails.
+// Listens, and serves until the system fails. What happens is told on standard error.
 fn run_desk(rt: &HostRuntime, wait: &impl Wait, set: &Setting, desk: &mut Desk<'_>) -> Result<()> {
-    let log = Logged::new(rt, LevelFilter::Info, Console(rt));
-    desk.run(wait, &log, set.listen)?;
+    desk.run(wait, &Console(rt), set.listen)?;
     Ok(())
 }
 
