@@ -1,6 +1,6 @@
 pub mod Truncated
 pub mod Kept
 pub mod Saving
-pub mod InOrder
+pub mod PassedInOrder
 pub mod Repeats
 pub mod Samples

@@ -6,9 +6,9 @@ use Rattle.tomb_seq.proofs.Has.{Contains-from_Has}
 use Rattle.peer_core.specs.Restore.{peer_of_journal}
 use Rattle.peer_core.specs.Sound.{IsSound}
 use Rattle.follow_core.specs.declared.event.FollowEvent.TheVariants.{Began, Saved, Told, Linked}
-use Rattle.follow_core.specs.Happens.{IsPast}
+use Rattle.follow_core.specs.Happens.{IsFollowPast}
 use Rattle.follow_core.specs.Samples.{sample_message, written, sample_past, restarted}
-use Rattle.follow_core.specs.Samples.{SavedSample, NoForkSample, InOrderSample, BackSample, TakenOnceSample, ReplaySample}
+use Rattle.follow_core.specs.Samples.{SavedSample, OneMessageSample, PassedInOrderSample, BackSample, TakenOnceSample, ReplaySample}
 
 -- the letter is text
 letter_is_text : is_utf8 (97 ∷ []) ≡ true
@@ -30,13 +30,13 @@ sound_sample = record {
   foreign = refl;
 }
 
-happens : IsPast sample_past
+happens : IsFollowPast sample_past
 happens = (record { link = _; link_is = refl; next = refl; saved = omega arith }, (refl, (omega arith, (tt, (tt, ((refl, omega arith), tt))))))
 
 pub saved_sample : SavedSample
 saved_sample = (happens, refl, refl, refl)
 
-pub no_fork_sample : NoForkSample
+pub no_fork_sample : OneMessageSample
 no_fork_sample = (
   happens,
   (record { link = _; link_is = refl; next = refl; saved = omega arith }, (refl, ((refl, omega arith), tt))),
@@ -46,7 +46,7 @@ no_fork_sample = (
   record { later = []; earlier = Linked 0 ∷ Began (peer_of_journal 0 (sample_message ∷ [])) 0 ∷ []; passed = refl },
 )
 
-pub in_order_sample : InOrderSample
+pub in_order_sample : PassedInOrderSample
 in_order_sample = (happens, refl, refl, refl)
 
 pub back_sample : BackSample

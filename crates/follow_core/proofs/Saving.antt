@@ -15,8 +15,8 @@ use Rattle.tomb_seq.proofs.Has.{Has, Has-from_Contains, Contains-from_Has}
 use Rattle.follow_core.specs.declared.event.FollowEvent.{FollowEvent}
 use Rattle.follow_core.specs.declared.event.FollowEvent.TheVariants.{Began, Made, Saved, Told, CameBack, Passed}
 use Rattle.follow_core.specs.Past.{first_peer, follow_peer, saved_journal, back_of, first_back, steps_made}
-use Rattle.follow_core.specs.Happens.{IsAllSaved, IsPast}
-use Rattle.follow_core.specs.Laws.{SavedLaw, BeginningLaw, ToldLaw, WasPassed, NoForkLaw, BackLaw, CameBackAt, ReplayLaw}
+use Rattle.follow_core.specs.Happens.{HasSavedAll, IsFollowPast}
+use Rattle.follow_core.specs.Laws.{SavedLaw, SavedFirstLaw, ToldLaw, WasPassed, OneMessageLaw, BackLaw, CameBackAt, SameAnswersLaw}
 
 -- a journal begins with these messages
 abbrev Begins : List Message → List Message → Type 0
@@ -52,7 +52,7 @@ shorter_begins (x ∷ J) (y ∷ K) more others less same =
 -- ---- what is saved
 
 -- what is saved is a beginning of the journal
-pub beginning : BeginningLaw
+pub beginning : SavedFirstLaw
 beginning [] h = same_begins []
 beginning (Began p back ∷ es) h = same_begins p.journal
 beginning (Made step ∷ es) h =
@@ -62,11 +62,11 @@ beginning (Saved ∷ es) h = same_begins (follow_peer es).journal
 beginning (e ∷ es) h = beginning es h.1
 
 -- so it is no longer
-pub short_saved : (es : List FollowEvent) → IsPast es → length (saved_journal es) ≤ length (follow_peer es).journal
+pub short_saved : (es : List FollowEvent) → IsFollowPast es → length (saved_journal es) ≤ length (follow_peer es).journal
 short_saved es h = begins_short (saved_journal es) (follow_peer es).journal (beginning es h)
 
 -- where all is saved it is the journal
-pub all_saved : (es : List FollowEvent) → IsPast es → IsAllSaved es → saved_journal es ≡ (follow_peer es).journal
+pub all_saved : (es : List FollowEvent) → IsFollowPast es → HasSavedAll es → saved_journal es ≡ (follow_peer es).journal
 all_saved es h all = by (beginning es h).0 (beginning es h).1
   where
     by : (more : List Message) → (follow_peer es).journal ≡ saved_journal es ++ more → saved_journal es ≡ (follow_peer es).journal
@@ -77,7 +77,7 @@ all_saved es h all = by (beginning es h).0 (beginning es h).1
         absurd (omega arith)
 
 -- what came back is saved
-pub back_saved : (es : List FollowEvent) → IsPast es → back_of es ≤ length (saved_journal es)
+pub back_saved : (es : List FollowEvent) → IsFollowPast es → back_of es ≤ length (saved_journal es)
 back_saved [] h = omega arith
 back_saved (Began p back ∷ es) h = h.0.1
 back_saved (CameBack place ∷ es) h = let saved = h.0.saved in omega arith
@@ -94,7 +94,7 @@ early (x ∷ S) more zero m h is = inl cc
 early (x ∷ S) more (suc i) m h is = inr (early S more i m (omega arith) is)
 
 -- what stands in the journal where it is saved is among what is saved
-pub next_saved : (es : List FollowEvent) (i : ℕ) (m : Message) → IsPast es → slice_get (follow_peer es).journal i ≡ Some m → i < length (saved_journal es)
+pub next_saved : (es : List FollowEvent) (i : ℕ) (m : Message) → IsFollowPast es → slice_get (follow_peer es).journal i ≡ Some m → i < length (saved_journal es)
     → Contains (saved_journal es) m
 next_saved es i m h next saved =
     let front = beginning es h in
@@ -102,7 +102,7 @@ next_saved es i m h next saved =
     (early (saved_journal es) front.0 i m saved (subst (λ (J : List Message). slice_get J i ≡ Some m) front.1 next))
 
 -- so something stands there
-pub not_there : (es : List FollowEvent) (p : Peer) (i : ℕ) → IsPast es → p ≡ follow_peer es → i < length (saved_journal es) → slice_get p.journal i ≡ None → ⊥
+pub not_there : (es : List FollowEvent) (p : Peer) (i : ℕ) → IsFollowPast es → p ≡ follow_peer es → i < length (saved_journal es) → slice_get p.journal i ≡ None → ⊥
 not_there es p i h same saved none =
     let short = short_saved es h in
     let size : length p.journal ≡ length (follow_peer es).journal = ap (λ (q : Peer). length q.journal) same in
@@ -112,7 +112,7 @@ not_there es p i h same saved none =
     (slice_get_cases p.journal i).1
 
 -- what happened before is a past
-pub past_before : (later es : List FollowEvent) → IsPast (later ++ es) → IsPast es
+pub past_before : (later es : List FollowEvent) → IsFollowPast (later ++ es) → IsFollowPast es
 past_before [] es h = h
 past_before (e ∷ later) es h = past_before later es h.1
 
@@ -129,7 +129,7 @@ none_before [] es h = h
 none_before (e ∷ later) es h = absurd cc
 
 -- what was saved stays
-saved_stays : (later es : List FollowEvent) → IsPast (later ++ es) → Begins (saved_journal es) (saved_journal (later ++ es))
+saved_stays : (later es : List FollowEvent) → IsFollowPast (later ++ es) → Begins (saved_journal es) (saved_journal (later ++ es))
 saved_stays [] es h = same_begins (saved_journal es)
 saved_stays (Began p back ∷ later) es h =
     subst (λ (fs : List FollowEvent). Begins (saved_journal fs) p.journal) (sym (none_before later es h.0.0)) (p.journal, refl)
@@ -138,7 +138,7 @@ saved_stays (Saved ∷ later) es h =
 saved_stays (e ∷ later) es h = saved_stays later es h.1
 
 -- what the journal had stays
-journal_stays : (later es : List FollowEvent) → IsPast (later ++ es) → Begins (follow_peer es).journal (follow_peer (later ++ es)).journal
+journal_stays : (later es : List FollowEvent) → IsFollowPast (later ++ es) → Begins (follow_peer es).journal (follow_peer (later ++ es)).journal
 journal_stays [] es h = same_begins (follow_peer es).journal
 journal_stays (Began p back ∷ later) es h =
     subst (λ (fs : List FollowEvent). Begins (follow_peer fs).journal p.journal) (sym (none_before later es h.0.0)) (p.journal, refl)
@@ -150,7 +150,7 @@ journal_stays (e ∷ later) es h = journal_stays later es h.1
 pub told_saved : ToldLaw
 told_saved later between es h =
     let here = past_before later (Told ∷ (between ++ es)) h in
-    let all : IsAllSaved (between ++ es) = here.0 in
+    let all : HasSavedAll (between ++ es) = here.0 in
     let then = journal_stays between es here.1 in
     let grown = begins_short (follow_peer es).journal (follow_peer (between ++ es)).journal then in
     let saved = beginning (between ++ es) here.1 in
@@ -168,14 +168,14 @@ first_stays (Made step ∷ es) =
 first_stays (e ∷ es) = first_stays es
 
 -- what was passed is saved
-passed_saved : (es : List FollowEvent) (m : Message) → IsPast es → WasPassed es m → Has (saved_journal es) m
+passed_saved : (es : List FollowEvent) (m : Message) → IsFollowPast es → WasPassed es m → Has (saved_journal es) m
 passed_saved es m h was =
-    let past : IsPast (was.later ++ Passed m ∷ was.earlier) = subst IsPast was.passed h in
+    let past : IsFollowPast (was.later ++ Passed m ∷ was.earlier) = subst IsFollowPast was.passed h in
     let then : Has (saved_journal was.earlier) m = Has-from_Contains (saved_journal was.earlier) m (saved_before was.later was.earlier m past) in
     subst (λ (fs : List FollowEvent). Has (saved_journal fs) m) (sym was.passed)
     (begins_has (saved_journal was.earlier) (saved_journal (was.later ++ Passed m ∷ was.earlier)) m (saved_stays was.later (Passed m ∷ was.earlier) past) then)
 
-pub no_fork : NoForkLaw
+pub no_fork : OneMessageLaw
 no_fork es fs m n h g sound continues first second key =
     let J : List Message = (follow_peer fs).journal in
     let early_m : Has (first_peer fs).journal m = begins_has (saved_journal es) (first_peer fs).journal m (continues.more, continues.journal) (passed_saved es m h first) in
@@ -200,7 +200,7 @@ back_law (e ∷ es) = ⊎_elim
 
 -- ---- the steps
 
-pub replay : ReplayLaw
+pub replay : SameAnswersLaw
 replay [] h = refl
 replay (Began p back ∷ es) h = subst (λ (fs : List FollowEvent). p ≡ fold peer_after p (steps_made fs)) (sym h.0.0) refl
 replay (Made step ∷ es) h = ap (λ (p : Peer). peer_after p step) (replay es h.1) ∙ sym (fold_push peer_after (first_peer es) (steps_made es) step)

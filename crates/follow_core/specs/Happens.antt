@@ -10,8 +10,8 @@ use Rattle.follow_core.specs.declared.event.FollowEvent.TheVariants.{Began, Made
 use Rattle.follow_core.specs.Past.{follow_peer, saved_journal, is_own_at, back_of, link_of}
 
 -- all that the journal has is saved
-abbrev pub IsAllSaved : List FollowEvent → Type 0
-IsAllSaved es = length (follow_peer es).journal ≤ length (saved_journal es)
+abbrev pub HasSavedAll : List FollowEvent → Type 0
+HasSavedAll es = length (follow_peer es).journal ≤ length (saved_journal es)
 
 -- the message at a place of the journal is the request of a name
 abbrev pub StandsAt : List FollowEvent → ℕ → Name → Type 0
@@ -35,23 +35,23 @@ pub record PassesItem (es : List FollowEvent) (m : Message) : Type 0 where
   pub saved : link.mark < length (saved_journal es)
 
 -- what may happen next
-abbrev pub MayHappen : List FollowEvent → FollowEvent → Type 0
-MayHappen es (Began p back) = (es ≡ []) × (back ≤ length p.journal)
-MayHappen es (Made step) = ⊤
-MayHappen es Saved = ⊤
-MayHappen es Told = IsAllSaved es
-MayHappen es (CameBack place) = ComesBack es place
-MayHappen es (Linked from) = from ≡ back_of es
-MayHappen es (Passed m) = PassesItem es m
+abbrev pub MayComeNext : List FollowEvent → FollowEvent → Type 0
+MayComeNext es (Began p back) = (es ≡ []) × (back ≤ length p.journal)
+MayComeNext es (Made step) = ⊤
+MayComeNext es Saved = ⊤
+MayComeNext es Told = HasSavedAll es
+MayComeNext es (CameBack place) = ComesBack es place
+MayComeNext es (Linked from) = from ≡ back_of es
+MayComeNext es (Passed m) = PassesItem es m
 
 -- what has happened, each event after those before it
-abbrev pub IsPast : List FollowEvent → Type 0
-IsPast [] = ⊤
-IsPast (e ∷ es) = MayHappen es e × IsPast es
+abbrev pub IsFollowPast : List FollowEvent → Type 0
+IsFollowPast [] = ⊤
+IsFollowPast (e ∷ es) = MayComeNext es e × IsFollowPast es
 
 -- how much is saved, what came back, and how far the journal was passed on the link that stands
-pub record IsRecordOf (es : List FollowEvent) (saved back : ℕ) (link : Option Stretch) : Type 0 where
-  pub past : IsPast es
+pub record IsOutboxOf (es : List FollowEvent) (saved back : ℕ) (link : Option Stretch) : Type 0 where
+  pub past : IsFollowPast es
   pub saved_is : saved ≡ length (saved_journal es)
   pub back_is : back ≡ back_of es
   pub link_is : link ≡ link_of es

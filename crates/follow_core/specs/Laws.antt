@@ -12,27 +12,27 @@ use Rattle.follow_core.specs.declared.event.Stretch.{Stretch}
 use Rattle.follow_core.specs.declared.event.FollowEvent.{FollowEvent}
 use Rattle.follow_core.specs.declared.event.FollowEvent.TheVariants.{Told, CameBack, Passed}
 use Rattle.follow_core.specs.Past.{first_peer, follow_peer, saved_journal, steps_made, first_back, back_of, link_of, passed_on}
-use Rattle.follow_core.specs.Happens.{IsPast}
+use Rattle.follow_core.specs.Happens.{IsFollowPast}
 
 -- ---- saved before sent and told
 
 -- each message that was passed was saved by then
 abbrev pub SavedLaw : Type 0
-SavedLaw = (later earlier : List FollowEvent) (m : Message) → IsPast (later ++ Passed m ∷ earlier) → Contains (saved_journal earlier) m
+SavedLaw = (later earlier : List FollowEvent) (m : Message) → IsFollowPast (later ++ Passed m ∷ earlier) → Contains (saved_journal earlier) m
 
 -- what is saved is a beginning of the journal
-abbrev pub BeginningLaw : Type 0
-BeginningLaw = (es : List FollowEvent) → IsPast es → (more : List Message) × ((follow_peer es).journal ≡ saved_journal es ++ more)
+abbrev pub SavedFirstLaw : Type 0
+SavedFirstLaw = (es : List FollowEvent) → IsFollowPast es → (more : List Message) × ((follow_peer es).journal ≡ saved_journal es ++ more)
 
 -- when the program was told its answers, all that the journal had at any time before was saved
 abbrev pub ToldLaw : Type 0
-ToldLaw = (later between es : List FollowEvent) → IsPast (later ++ Told ∷ (between ++ es))
+ToldLaw = (later between es : List FollowEvent) → IsFollowPast (later ++ Told ∷ (between ++ es))
     → (more : List Message) × (saved_journal (between ++ es) ≡ (follow_peer es).journal ++ more)
 
 -- ---- no fork
 
 -- a follower begins with a peer whose journal begins with what an earlier one had saved, as each crash leaves it
-pub record Continues (es fs : List FollowEvent) : Type 0 where
+pub record GoesOnFrom (es fs : List FollowEvent) : Type 0 where
   pub more : List Message
   pub journal : (first_peer fs).journal ≡ saved_journal es ++ more
 
@@ -43,24 +43,24 @@ pub record WasPassed (es : List FollowEvent) (m : Message) : Type 0 where
   pub passed : es ≡ later ++ Passed m ∷ earlier
 
 -- what a follower and one that continues it passed under one key is one message
-abbrev pub NoForkLaw : Type 0
-NoForkLaw = (es fs : List FollowEvent) (m n : Message) → IsPast es → IsPast fs → IsSound (follow_peer fs) → Continues es fs
+abbrev pub OneMessageLaw : Type 0
+OneMessageLaw = (es fs : List FollowEvent) (m n : Message) → IsFollowPast es → IsFollowPast fs → IsSound (follow_peer fs) → GoesOnFrom es fs
     → WasPassed es m → WasPassed fs n → key_of m ≡ key_of n → m ≡ n
 
 -- ---- in order, nothing skipped, nothing twice
 
 -- what was passed on a link is the journal from where it began up to its mark, all of which is saved
-pub record InOrder (journal saved passed : List Message) (x : Stretch) : Type 0 where
+pub record PassedInOrder (journal saved passed : List Message) (x : Stretch) : Type 0 where
   pub behind : x.from ≤ x.mark
   pub within : x.mark ≤ length saved
   pub order : take x.from journal ++ passed ≡ take x.mark journal
 
-abbrev pub InOrderLaw : Type 0
-InOrderLaw = (es : List FollowEvent) (x : Stretch) → IsPast es → link_of es ≡ Some x → InOrder (follow_peer es).journal (saved_journal es) (passed_on es) x
+abbrev pub PassedInOrderLaw : Type 0
+PassedInOrderLaw = (es : List FollowEvent) (x : Stretch) → IsFollowPast es → link_of es ≡ Some x → PassedInOrder (follow_peer es).journal (saved_journal es) (passed_on es) x
 
 -- where its mark has come to the end of what is saved all of that was passed behind where it began
 abbrev pub AllPassedLaw : Type 0
-AllPassedLaw = (es : List FollowEvent) (x : Stretch) → IsPast es → link_of es ≡ Some x → length (saved_journal es) ≤ x.mark
+AllPassedLaw = (es : List FollowEvent) (x : Stretch) → IsFollowPast es → link_of es ≡ Some x → length (saved_journal es) ≤ x.mark
     → take x.from (follow_peer es).journal ++ passed_on es ≡ saved_journal es
 
 -- ---- nothing is left out
@@ -84,5 +84,5 @@ TakenOnceLaw = (p : Peer) (m : Message) → IsSound p → Contains p.journal m �
 -- ---- the same answers
 
 -- the peer is the first one, after all steps in order
-abbrev pub ReplayLaw : Type 0
-ReplayLaw = (es : List FollowEvent) → IsPast es → follow_peer es ≡ fold peer_after (first_peer es) (steps_made es)
+abbrev pub SameAnswersLaw : Type 0
+SameAnswersLaw = (es : List FollowEvent) → IsFollowPast es → follow_peer es ≡ fold peer_after (first_peer es) (steps_made es)

@@ -11,8 +11,8 @@ use Rattle.peer_core.specs.Sound.{IsSound}
 use Rattle.follow_core.specs.declared.event.FollowEvent.{FollowEvent}
 use Rattle.follow_core.specs.declared.event.FollowEvent.TheVariants.{Began, Made, Saved, Told, CameBack, Linked, Passed}
 use Rattle.follow_core.specs.Past.{follow_peer, saved_journal, steps_made, back_of, link_of, passed_on}
-use Rattle.follow_core.specs.Happens.{IsPast}
-use Rattle.follow_core.specs.Laws.{Continues, WasPassed}
+use Rattle.follow_core.specs.Happens.{IsFollowPast}
+use Rattle.follow_core.specs.Laws.{GoesOnFrom, WasPassed}
 
 -- an insert of `a` at the start
 abbrev pub sample_message : Message
@@ -39,32 +39,32 @@ restarted = Passed sample_message ∷ Linked 0 ∷ Began (peer_of_journal 0 (sam
 -- the journal has the request before it is saved, and it is sent and told behind that
 abbrev pub SavedSample : Type 0
 SavedSample =
-    IsPast sample_past
+    IsFollowPast sample_past
     × ((follow_peer written).journal ≡ sample_message ∷ [])
     × (saved_journal written ≡ [])
     × (saved_journal sample_past ≡ sample_message ∷ [])
 
 -- the follower that goes on sends the same
-abbrev pub NoForkSample : Type 0
-NoForkSample =
-    IsPast sample_past
-    × IsPast restarted
+abbrev pub OneMessageSample : Type 0
+OneMessageSample =
+    IsFollowPast sample_past
+    × IsFollowPast restarted
     × IsSound (follow_peer restarted)
-    × Continues sample_past restarted
+    × GoesOnFrom sample_past restarted
     × WasPassed sample_past sample_message
     × WasPassed restarted sample_message
 
 -- the link began in front of the request, and was passed it
-abbrev pub InOrderSample : Type 0
-InOrderSample =
-    IsPast sample_past
+abbrev pub PassedInOrderSample : Type 0
+PassedInOrderSample =
+    IsFollowPast sample_past
     × (link_of sample_past ≡ Some (record { from = 0; mark = 1 }))
     × (passed_on sample_past ≡ sample_message ∷ [])
     × (length (saved_journal sample_past) ≡ 1)
 
 -- the next link begins behind it
 abbrev pub BackSample : Type 0
-BackSample = IsPast came_back × (back_of came_back ≡ 1) × (link_of came_back ≡ Some (record { from = 1; mark = 1 }))
+BackSample = IsFollowPast came_back × (back_of came_back ≡ 1) × (link_of came_back ≡ Some (record { from = 1; mark = 1 }))
 
 -- a sound peer has the message
 abbrev pub TakenOnceSample : Type 0
@@ -72,4 +72,4 @@ TakenOnceSample = IsSound (follow_peer sample_past) × Contains (follow_peer sam
 
 -- one step was made, and the letter shows
 abbrev pub ReplaySample : Type 0
-ReplaySample = IsPast sample_past × (steps_made sample_past ≡ Edit (Insert 0 (97 ∷ [])) ∷ []) × (text (follow_peer sample_past) ≡ (97 ∷ []) ∷ [])
+ReplaySample = IsFollowPast sample_past × (steps_made sample_past ≡ Edit (Insert 0 (97 ∷ [])) ∷ []) × (text (follow_peer sample_past) ≡ (97 ∷ []) ∷ [])

@@ -7,7 +7,7 @@ ghost use Rattle.peer_core.specs.Answers.{answer_of};
 ghost use Rattle.text_change.specs.Told.{AreRowsOf};
 ghost use Rattle.follow_core.specs.declared.event.FollowEvent.{FollowEvent};
 ghost use Rattle.follow_core.specs.Past.{follow_peer, saved_journal, is_own, is_own_at, back_of, link_of};
-ghost use Rattle.follow_core.specs.Happens.{IsAllSaved, StandsAt, Owes, ComesBack, IsPast};
+ghost use Rattle.follow_core.specs.Happens.{HasSavedAll, StandsAt, Owes, ComesBack, IsFollowPast};
 
 use crate::outbox::Outbox;
 use edit_message::{Key, Message};
@@ -67,7 +67,7 @@ impl<K: Keeper> Follower<K> {
     /// What has happened.
     pub fn outbox(&self) -> &Outbox
         ensures same { result.now ≡ self.now.outbox }
-        ensures past { IsPast self.now.outbox }
+        ensures past { IsFollowPast self.now.outbox }
     {
         self.outbox.past();
         &self.outbox
@@ -119,7 +119,7 @@ impl<K: Keeper> Follower<K> {
     pub fn tell(&mut self) -> bool
         ensures told { IsTrue result → self.new.outbox ≡ FollowEvent.Told ∷ self.old.outbox }
         ensures kept { IsTrue result → ∥ K.keeps self.new.keeper (follow_peer self.old.outbox).journal ∥₁ }
-        ensures not_yet { result ≡ false → ¬ IsAllSaved self.old.outbox }
+        ensures not_yet { result ≡ false → ¬ HasSavedAll self.old.outbox }
         ensures not_yet_unchanged { result ≡ false → self.new.outbox ≡ self.old.outbox }
     {
         if !self.outbox.is_all_saved(self.keeper.peer()) {

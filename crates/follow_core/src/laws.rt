@@ -1,29 +1,29 @@
 //! Laws of what happens at followers. They hold of each follower at every moment, since what has happened at it is a past.
 //! Each has a sample, a small past on which its premises hold.
-ghost use Rattle.follow_core.specs.Laws.{SavedLaw, BeginningLaw, ToldLaw, NoForkLaw, InOrderLaw, AllPassedLaw, BackLaw, ReplayLaw, TakenOnceLaw};
-ghost use Rattle.follow_core.specs.Samples.{SavedSample, NoForkSample, InOrderSample, BackSample, TakenOnceSample, ReplaySample};
+ghost use Rattle.follow_core.specs.Laws.{SavedLaw, SavedFirstLaw, ToldLaw, OneMessageLaw, PassedInOrderLaw, AllPassedLaw, BackLaw, SameAnswersLaw, TakenOnceLaw};
+ghost use Rattle.follow_core.specs.Samples.{SavedSample, OneMessageSample, PassedInOrderSample, BackSample, TakenOnceSample, ReplaySample};
 
 /// Each message that was passed was saved by then, and what is saved is a beginning of the journal. When the program is
 /// told the answers of its steps, all that they left is saved.
 pub fn saved_before_sent()
     ensures passed { SavedLaw }
     ensures told { ToldLaw }
-    ensures beginning { BeginningLaw }
+    ensures beginning { SavedFirstLaw }
     ensures sample { SavedSample }
 {}
 
 /// Over crashes and restarts no two messages are passed under one name or one version.
 pub fn no_fork()
-    ensures law { NoForkLaw }
-    ensures sample { NoForkSample }
+    ensures law { OneMessageLaw }
+    ensures sample { OneMessageSample }
 {}
 
 /// What was passed on the link that stands is the journal from the place on at which it began: each message once, in
 /// order, and none is skipped. Where there is nothing more to pass it is all that is saved.
 pub fn in_order()
-    ensures order { InOrderLaw }
+    ensures order { PassedInOrderLaw }
     ensures whole { AllPassedLaw }
-    ensures sample { InOrderSample }
+    ensures sample { PassedInOrderSample }
 {}
 
 /// A link begins where the follower began, or behind a request of the device's own that came back from the host. So with
@@ -42,6 +42,6 @@ pub fn taken_once()
 /// The follower's peer is the one that it began with, after all steps that were made, in order: so each step is answered
 /// as by a peer that is kept and makes these steps alone.
 pub fn same_answers()
-    ensures law { ReplayLaw }
+    ensures law { SameAnswersLaw }
     ensures sample { ReplaySample }
 {}

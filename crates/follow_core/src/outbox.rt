@@ -2,7 +2,7 @@
 ghost use Rattle.std.specs.Prelude.{◌≡◌, ◌↔◌, ◌∷◌, [], ◌<◌, ◌≤◌, Some, Contains, length, slice_get, IsTrue};
 ghost use Rattle.follow_core.specs.declared.event.FollowEvent.{FollowEvent};
 ghost use Rattle.follow_core.specs.Past.{follow_peer, saved_journal, back_of, link_of};
-ghost use Rattle.follow_core.specs.Happens.{IsAllSaved, ComesBack, IsPast};
+ghost use Rattle.follow_core.specs.Happens.{HasSavedAll, ComesBack, IsFollowPast};
 
 use crate::event::{FollowEvent, Stretch};
 use edit_message::Message;
@@ -27,13 +27,13 @@ pub struct Outbox {
 impl Model for Outbox {
     ghost use Rattle.std.specs.Prelude.{List};
     ghost use Rattle.follow_core.specs.declared.event.FollowEvent.{FollowEvent};
-    ghost use Rattle.follow_core.specs.Happens.{IsRecordOf};
+    ghost use Rattle.follow_core.specs.Happens.{IsOutboxOf};
 
     ghost Value = { List FollowEvent };
 
     ghost view = { λ r. r.past.items };
 
-    ghost invariant = { λ r. IsRecordOf r.past.items r.saved r.back r.link };
+    ghost invariant = { λ r. IsOutboxOf r.past.items r.saved r.back r.link };
 }
 
 impl Outbox {
@@ -54,7 +54,7 @@ impl Outbox {
 
     /// Each event might happen after those before it.
     pub fn past(&self)
-        ensures { IsPast self.now }
+        ensures { IsFollowPast self.now }
     {
         let _saved = self.saved;
     }
@@ -62,7 +62,7 @@ impl Outbox {
     /// How many messages of the journal are saved.
     pub fn saved(&self) -> u32
         ensures count { result ≡ length (saved_journal self.now) }
-        ensures past { IsPast self.now }
+        ensures past { IsFollowPast self.now }
     {
         self.saved
     }
@@ -109,14 +109,14 @@ impl Outbox {
     /// Whether all that the peer's journal has is saved.
     pub(crate) fn is_all_saved(&self, peer: &Peer) -> bool
         requires { peer.now ≡ follow_peer self.now }
-        ensures { IsTrue result ↔ IsAllSaved self.now }
+        ensures { IsTrue result ↔ HasSavedAll self.now }
     {
         peer.journal_len() <= self.saved
     }
 
     /// The program is told the answers of all steps, since all that was made is saved.
     pub(crate) fn told(&mut self)
-        requires { IsAllSaved self.old }
+        requires { HasSavedAll self.old }
         ensures told { self.new ≡ FollowEvent.Told ∷ self.old }
         ensures whole { saved_journal self.old ≡ (follow_peer self.old).journal }
     {

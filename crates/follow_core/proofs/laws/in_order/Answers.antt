@@ -1,4 +1,4 @@
-use Rattle.follow_core.proofs.InOrder.{in_order, all_passed}
+use Rattle.follow_core.proofs.PassedInOrder.{in_order, all_passed}
 use Rattle.follow_core.proofs.Samples.{in_order_sample}
 use Rattle.follow_core.proofs.laws.in_order.Goals as goal
 

@@ -12,15 +12,15 @@ use Rattle.follow_core.specs.declared.event.Stretch.{Stretch}
 use Rattle.follow_core.specs.declared.event.FollowEvent.{FollowEvent}
 use Rattle.follow_core.specs.declared.event.FollowEvent.TheVariants.{Began, Made, Saved, Linked, Passed}
 use Rattle.follow_core.specs.Past.{follow_peer, saved_journal, back_of, link_of, moved_on, passed_on, stretch_from}
-use Rattle.follow_core.specs.Laws.{InOrder, InOrderLaw, AllPassedLaw}
+use Rattle.follow_core.specs.Laws.{PassedInOrder, PassedInOrderLaw, AllPassedLaw}
 use Rattle.follow_core.proofs.Saving.{beginning, short_saved, back_saved}
 
 -- a new link stands where it begins
-opened_in_order : (J S : List Message) (from : ℕ) → from ≤ length S → InOrder J S [] (stretch_from from)
+opened_in_order : (J S : List Message) (from : ℕ) → from ≤ length S → PassedInOrder J S [] (stretch_from from)
 opened_in_order J S from behind = record { behind = omega arith; within = behind; order = append-nil (take from J) }
 
 -- a link stays in order where the journal grows
-grown_in_order : (J more S passed : List Message) (x : Stretch) → length S ≤ length J → InOrder J S passed x → InOrder (J ++ more) S passed x
+grown_in_order : (J more S passed : List Message) (x : Stretch) → length S ≤ length J → PassedInOrder J S passed x → PassedInOrder (J ++ more) S passed x
 grown_in_order J more S passed x short old =
     let a = old.behind in
     let b = old.within in
@@ -31,12 +31,12 @@ grown_in_order J more S passed x short old =
     }
 
 -- and where more is saved
-saved_in_order : (J S T passed : List Message) (x : Stretch) → length S ≤ length T → InOrder J S passed x → InOrder J T passed x
+saved_in_order : (J S T passed : List Message) (x : Stretch) → length S ≤ length T → PassedInOrder J S passed x → PassedInOrder J T passed x
 saved_in_order J S T passed x longer old = let b = old.within in record { behind = old.behind; within = omega arith; order = old.order }
 
 -- a link on which the next message is passed
 passed_in_order : (J S passed : List Message) (m : Message) (x : Stretch) → slice_get J x.mark ≡ Some m → x.mark < length S
-    → InOrder J S passed x → InOrder J S (passed ++ m ∷ []) (moved_on x)
+    → PassedInOrder J S passed x → PassedInOrder J S (passed ++ m ∷ []) (moved_on x)
 passed_in_order J S passed m x next saved old =
     let a = old.behind in
     let more : x.mark + 1 ≡ suc x.mark = omega arith in
@@ -51,22 +51,22 @@ passed_in_order J S passed m x next saved old =
           ∙ ap (λ (n : ℕ). take n J) (sym more);
     }
 
-pub in_order : InOrderLaw
+pub in_order : PassedInOrderLaw
 in_order [] x h is = absurd cc
 in_order (Began p back ∷ es) x h is = let bad : link_of [] ≡ Some x = subst (λ (fs : List FollowEvent). link_of fs ≡ Some x) h.0.0 is in absurd cc
 in_order (Made step ∷ es) x h is =
     let grown = journal_grows (follow_peer es) step (answer_of (follow_peer es) step) in
-    subst (λ (J : List Message). InOrder J (saved_journal es) (passed_on es) x) (sym grown.1)
+    subst (λ (J : List Message). PassedInOrder J (saved_journal es) (passed_on es) x) (sym grown.1)
     (grown_in_order (follow_peer es).journal grown.0 (saved_journal es) (passed_on es) x (short_saved es h.1) (in_order es x h.1 is))
 in_order (Saved ∷ es) x h is = saved_in_order (follow_peer es).journal (saved_journal es) (follow_peer es).journal (passed_on es) x (short_saved es h.1) (in_order es x h.1 is)
 in_order (Linked from ∷ es) x h is =
     let saved = back_saved es h.1 in
     let same : from ≡ back_of es = h.0 in
-    subst (InOrder (follow_peer es).journal (saved_journal es) []) (same_Some (stretch_from from) x is)
+    subst (PassedInOrder (follow_peer es).journal (saved_journal es) []) (same_Some (stretch_from from) x is)
     (opened_in_order (follow_peer es).journal (saved_journal es) from (omega arith))
 in_order (Passed m ∷ es) x h is =
     let known : option_map moved_on (Some h.0.link) ≡ Some x = subst (λ (o : Option Stretch). option_map moved_on o ≡ Some x) h.0.link_is is in
-    subst (InOrder (follow_peer es).journal (saved_journal es) (passed_on es ++ m ∷ [])) (same_Some (moved_on h.0.link) x known)
+    subst (PassedInOrder (follow_peer es).journal (saved_journal es) (passed_on es ++ m ∷ [])) (same_Some (moved_on h.0.link) x known)
     (passed_in_order (follow_peer es).journal (saved_journal es) (passed_on es) m h.0.link h.0.next h.0.saved (in_order es h.0.link h.1 h.0.link_is))
 in_order (e ∷ es) x h is = in_order es x h.1 is
 
