@@ -1,4 +1,6 @@
 //! Why a link is closed.
+ghost use Rattle.std.specs.Prelude.{◌≡◌};
+ghost use Rattle.host_link.specs.Closes.{close_code, close_words};
 
 /// Why a link is closed by the host.
 #[derive(Clone, Copy, Debug, PartialEq, Eq)]
@@ -86,7 +88,10 @@ pub const ALL_ENDINGS: [Ending; ENDINGS] = [
 
 impl Ending {
     // The number and the words.
-    fn told(self) -> (u16, &'static str) {
+    fn told(self) -> (u16, &'static str)
+        ensures code { result.0 ≡ close_code self }
+        ensures words { result.1.now ≡ close_words self }
+    {
         match self {
             Ending::GoingAway => (1001, "the host ends"),
             Ending::OtherVersion => (4000, "version 1 of the protocol is spoken here"),
@@ -116,12 +121,16 @@ impl Ending {
     }
 
     /// The code of the close.
-    pub fn code(self) -> u16 {
+    pub fn code(self) -> u16
+        ensures { result ≡ close_code self }
+    {
         self.told().0
     }
 
     /// The reason that the close says.
-    pub fn words(self) -> &'static str {
+    pub fn words(self) -> &'static str
+        ensures { result.now ≡ close_words self }
+    {
         self.told().1
     }
 }

@@ -4,6 +4,7 @@
 #![tactic(auto)]
 
 mod ending;
+pub mod laws;
 mod limits;
 mod naming;
 mod opening;
@@ -12,7 +13,7 @@ mod said;
 mod telling;
 
 pub use ending::{ALL_ENDINGS, ENDINGS, Ending};
-pub use limits::{FRAMES_AT_ONCE, MAX_CARET, MAX_MESSAGE, MAX_NAME, PROTOCOL};
+pub use limits::{FRAMES_AT_ONCE, MAX_CARET, MAX_MESSAGE, MAX_NAME, MAX_REASON, PROTOCOL};
 pub use naming::{is_document_name, is_person_name};
 pub use opening::{Claim, Identity, NotOpening, Opening, read_opening};
 pub use order::{HouseOrder, read_house_order};

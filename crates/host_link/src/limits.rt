@@ -14,3 +14,6 @@ pub const MAX_CARET: usize = 200;
 
 /// How many scalar values a name may have.
 pub const MAX_NAME: usize = 40;
+
+/// How many bytes the words of a close may have: a control frame has 125, of which two are the code's.
+pub const MAX_REASON: usize = 123;

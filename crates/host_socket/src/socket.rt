@@ -1,4 +1,9 @@
 //! Sockets that don't wait.
+ghost use Rattle.std.specs.Prelude.{◌≡◌, true};
+ghost use Rattle.tungstenite.specs.Failure.{IsIo};
+ghost use Rattle.tungstenite.specs.Content as content;
+ghost use Rattle.host_link.specs.declared.ending.Ending.{Ending};
+ghost use Rattle.host_socket.specs.Sent.{socket_stays, IsSent};
 
 use crate::stream::must_wait;
 use host_link::{Ending, MAX_MESSAGE};
@@ -9,6 +14,7 @@ use tungstenite::{
     Bytes, CloseCode, CloseFrame, Error, Message, NoMask, Role, Utf8Bytes, WebSocket,
     WebSocketConfig,
 };
+use websocket::error::ProtocolError;
 
 /// A socket of a link.
 pub type Socket = WebSocket<TcpStream, NoMask>;
@@ -71,10 +77,13 @@ pub fn accepted(
 }
 
 /// What an error of a socket makes of it.
-pub fn after_error(error: &Error) -> After {
+pub fn after_error(error: &Error) -> After
+    ensures { socket_stays result ≡ true → IsIo error.now }
+{
     match error {
         Error::Io(error) if must_wait(error) => After::Waits,
         Error::Capacity(_) => After::Ends(Ending::BadMessage),
+        Error::Protocol(ProtocolError::ResetWithoutClosingHandshake) => After::Gone,
         Error::Protocol(_) => After::Ends(Ending::BadMessage),
         Error::Utf8 => After::Ends(Ending::BadMessage),
         Error::WriteBufferFull => After::Ends(Ending::Slow),
@@ -84,12 +93,16 @@ pub fn after_error(error: &Error) -> After {
 }
 
 /// What a failed call of memory makes of a socket.
-pub fn no_memory() -> After {
+pub fn no_memory() -> After
+    ensures { result ≡ After.Ends Ending.NoMemory }
+{
     After::Ends(Ending::NoMemory)
 }
 
 /// Sends a text. What the stream doesn't take now it takes later.
-pub fn send_text(alloc: Global, socket: &mut Socket, text: &str) -> After {
+pub fn send_text(alloc: Global, socket: &mut Socket, text: &str) -> After
+    ensures { socket_stays result ≡ true → IsSent (content.text text.now) socket.old socket.new }
+{
     let Ok(message) = Message::text(alloc, text) else {
         return no_memory();
     };
@@ -99,8 +112,10 @@ pub fn send_text(alloc: Global, socket: &mut Socket, text: &str) -> After {
     }
 }
 
-/// Sends frames.
-pub fn send_frames(alloc: Global, socket: &mut Socket, frames: &[u8]) -> After {
+/// Sends frames. What the stream doesn't take now it takes later.
+pub fn send_frames(alloc: Global, socket: &mut Socket, frames: &[u8]) -> After
+    ensures { socket_stays result ≡ true → IsSent (content.binary frames.now) socket.old socket.new }
+{
     let Ok(message) = Message::binary(alloc, frames) else {
         return no_memory();
     };
