@@ -1,9 +1,8 @@
 -- Edits that replace pieces by others.
-use Rattle.std.proofs.Common.{◌≡◌, ℕ, zero, suc, ◌+◌, ◌≤◌, List, [], ◌∷◌, ◌++◌, length, take, drop, refl, ap, sym, ◌∙◌, arith, append_assoc, length-append}
+use Rattle.std.proofs.Common.{◌≡◌, ℕ, ◌+◌, List, [], ◌∷◌, ◌++◌, length, take, drop, refl, ap, sym, ◌∙◌, arith, append_assoc, length-append}
 use Rattle.std.specs.Prelude.{fold, insert, remove}
 use Rattle.std.proofs.lemmas.List.{take-append-drop, drop-drop, length-drop, length-take-le}
 use Rattle.std.proofs.lemmas.List.Sums.{fold-append}
-use Rattle.peer_step.specs.declared.step.LocalEdit.{LocalEdit}
 use Rattle.peer_core.specs.Laws.{text_edited}
 use Rattle.follow_text.specs.Edits.{deletes, inserts, ReplacedLaw}
 

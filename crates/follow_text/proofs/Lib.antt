@@ -2,3 +2,4 @@ pub mod Edges
 pub mod Cutting
 pub mod Rows
 pub mod Edits
+mod Joining

@@ -3,3 +3,4 @@ pub mod Rows
 pub mod Shown
 pub mod Edits
 pub mod Tracked
+pub mod Joins

@@ -4,5 +4,5 @@ use Rattle.follow_text.specs.declared.tracked.Tracked.{Tracked}
 use Rattle.follow_text.specs.Rows.{with_rows}
 
 -- its text once it has seen all rows that it was told
-abbrev pub text_told : Tracked → List ℕ
-text_told t = with_rows t.bytes.items t.unseen.items
+abbrev pub told_bytes : Tracked → List ℕ
+told_bytes t = with_rows t.bytes.items t.unseen.items

@@ -4,6 +4,7 @@
 //! A letter is a scalar value. It knows pieces and their bytes. It must not know a peer, a link or a line.
 #![tactic(auto)]
 
+mod join;
 pub mod laws;
 mod letters;
 mod piece_cut;
@@ -14,7 +15,7 @@ mod tracked;
 
 pub use letters::{letter_count, letter_place};
 pub use piece_cut::CutFail;
-pub use shown::{Replacement, Shown};
+pub use shown::{Changed, Replacement, Shown};
 pub use span::{Carried, Span};
 pub use text_row::{TextRow, difference};
 pub use tracked::Tracked;

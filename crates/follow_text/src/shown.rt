@@ -44,11 +44,11 @@ pub struct Replacement {
     pub put: Vec<Piece>,
 }
 
-// A text that was changed, and the row of that.
+/// A text that was changed, and the row of that.
 #[derive(Drop)]
-struct Changed {
-    shown: Shown,
-    row: TextRow,
+pub struct Changed {
+    pub shown: Shown,
+    pub row: TextRow,
 }
 
 // A place between pieces: so many are in front of it, with so many bytes.
@@ -186,8 +186,8 @@ impl Shown {
         })
     }
 
-    // The text with an edit in it, and the row of that.
-    fn edited(&self, edit: &LocalEdit) -> Result<Changed, NoMemory>
+    /// The text with an edit in it, and the row of that. Takes time and memory in the length of the text.
+    pub fn edited(&self, edit: &LocalEdit) -> Result<Changed, NoMemory>
         ensures shown { IfOk result (λ made. made.shown ≡ text_edited self.now edit.now) }
         ensures row { IfOk result (λ made. Makes (concat self.now) (concat made.shown) made.row) }
     {

@@ -1,7 +1,7 @@
 //! The text that a program has, which may lag behind the one that shows.
 ghost use Rattle.std.specs.Prelude.{◌≡◌, ◌-◌, [], IfOk, OnOk, OnErr};
 ghost use Rattle.follow_text.specs.Rows.{replaced, with_row, IsDifference};
-ghost use Rattle.follow_text.specs.Tracked.{text_told};
+ghost use Rattle.follow_text.specs.Tracked.{told_bytes};
 
 use crate::span::{Carried, Span};
 use crate::text_row::{TextRow, difference, replaced, with_rows};
@@ -20,7 +20,7 @@ pub struct Tracked {
 impl Tracked {
     /// A program that has this text, and has seen no row since.
     pub fn new(alloc: Global, bytes: &[u8]) -> Result<Tracked, NoMemory>
-        ensures { IfOk result (λ t. text_told t ≡ bytes.now) }
+        ensures { IfOk result (λ t. told_bytes t ≡ bytes.now) }
     {
         Ok(Tracked {
             alloc,
@@ -39,8 +39,8 @@ impl Tracked {
 
     /// It is told a row.
     pub fn tell(&mut self, row: TextRow) -> Result<(), NoMemory>
-        ensures told { OnOk result (text_told self.new ≡ with_row (text_told self.old) row) }
-        ensures unchanged { OnErr result (text_told self.new ≡ text_told self.old) }
+        ensures told { OnOk result (told_bytes self.new ≡ with_row (told_bytes self.old) row) }
+        ensures unchanged { OnErr result (told_bytes self.new ≡ told_bytes self.old) }
     {
         self.unseen.push(row)?;
         Ok(())
@@ -48,7 +48,7 @@ impl Tracked {
 
     /// It has seen so many rows in all. False where it says fewer than before, or more than it was told.
     pub fn saw(&mut self, count: u64) -> Result<bool, NoMemory>
-        ensures { text_told self.new ≡ text_told self.old }
+        ensures { told_bytes self.new ≡ told_bytes self.old }
     {
         let Some(more) = count.checked_sub(self.seen) else {
             return Ok(false);
@@ -84,7 +84,7 @@ impl Tracked {
         shown: &[u8],
     ) -> Result<Option<TextRow>, NoMemory>
         ensures bytes { OnOk result (self.new.bytes.items ≡ replaced self.old.bytes.items span.from (span.to - span.from) text.now) }
-        ensures told { OnOk result (text_told self.new ≡ self.new.bytes.items) }
+        ensures told { OnOk result (told_bytes self.new ≡ self.new.bytes.items) }
         ensures row { IfOk result (IsDifference self.new.bytes.items shown.now) }
         ensures unchanged { OnErr result (self.new ≡ self.old) }
     {

@@ -1,4 +1,4 @@
-use Rattle.std.proofs.Common.{[], ◌∷◌, ap, ◌∙◌, ◌++◌}
+use Rattle.std.proofs.Common.{ap, ◌∙◌, ◌++◌}
 use Rattle.std.specs.List.{concat}
 use Rattle.follow_text.proofs.Cutting.{piece_cut}
 use Rattle.follow_text.proofs.piece_cut.push_pieces.Goals as goal

@@ -3,10 +3,14 @@
 //! It knows lines and rows, a follower, and the text that shows. It must not know a socket, a stream, a clock or a file.
 #![tactic(auto)]
 
+mod coming;
 mod host_text;
 mod input_row;
+pub mod laws;
+mod mirror;
 mod output_row;
 mod rules;
+mod sending;
 mod stop;
 mod talk;
 mod writing;

@@ -1,0 +1,6 @@
+mod Editing
+mod Entries
+mod Mirrored
+mod Passing
+mod Spelled
+mod Talking
