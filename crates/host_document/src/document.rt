@@ -10,6 +10,7 @@ ghost use Rattle.host_core.specs.Happens.{IsAllSaved};
 ghost use Rattle.host_core.specs.Refusals.{ask_refusal};
 ghost use Rattle.host_document.specs.Endings.{ending_of};
 ghost use Rattle.host_document.specs.Settled.{IsSettled};
+ghost use Rattle.host_document.specs.Sealing.{IsOpenedBy, IsSealOf};
 ghost use Rattle.host_document.specs.HappensAt.{HappensAt};
 ghost use Rattle.host_document.specs.Admitted.{IsAdmitted};
 ghost use Rattle.host_document.specs.Rows.{MakesRow, IsForeseen};
@@ -22,6 +23,7 @@ use element_name::NoMemory;
 use host_core::{LinkId, Role};
 use host_link::{Claim, Ending, Identity};
 use host_people::People;
+use host_seal::Seal;
 use peer_step::{Answer, Step};
 use std::alloc::{AllocError, Global};
 use std::marker::Model;
@@ -136,6 +138,28 @@ impl<'a> Document<'a> {
         }
     }
 
+    // Why it couldn't be opened, if it couldn't.
+    fn fault(&self) -> Option<OpenFault> {
+        match self.standing {
+            Standing::Broken(fault) => Some(fault),
+            Standing::Lost(fault) => Some(fault),
+            _ => None,
+        }
+    }
+
+    /// What was found of it: the word for how it stands, and how many messages it has. Where these, or their seal, aren't what
+    /// was written, that a copy is to be restored.
+    pub fn found(&self, alloc: Global) -> Result<String, AllocError> {
+        match self.fault() {
+            Some(fault) => fault.told(alloc),
+            None => {
+                let state = self.state_word();
+                let saved = self.saved();
+                format!(in alloc; "{state}, {saved} messages")
+            }
+        }
+    }
+
     // Puts another host of its text in the place of the one that it has, or none.
     fn replace_host(&mut self, opened: Option<Opened<'a>>)
         ensures { self.new ≡ opened.entry }
@@ -144,19 +168,32 @@ impl<'a> Document<'a> {
     }
 
     // The host of its text, which stands in the folder.
-    fn open_text(&self, rt: &'a HostRuntime, folder: &str) -> Result<Opened<'a>, OpenFault> {
+    fn open_text(
+        &self,
+        rt: &'a HostRuntime,
+        folder: &str,
+        seal: Option<Seal>,
+    ) -> Result<Opened<'a>, OpenFault>
+        ensures { IfOk result (λ opened. IsOpenedBy seal (Some opened)) }
+    {
         match steps_path(rt.alloc(), folder, self.name.as_str()) {
-            Ok(path) => Opened::open(rt, path, self.identity),
+            Ok(path) => Opened::open(rt, path, self.identity, seal),
             Err(_) => Err(OpenFault::NoMemory),
         }
     }
 
     // Opens it, where it isn't open.
-    fn open_anew(&mut self, rt: &'a HostRuntime, folder: &str) -> Result<(), OpenFault>
+    fn open_anew(
+        &mut self,
+        rt: &'a HostRuntime,
+        folder: &str,
+        seal: Option<Seal>,
+    ) -> Result<(), OpenFault>
         ensures opened { OnOk result (IsSome self.new) }
+        ensures sealed { OnOk result (IsOpenedBy seal self.new) }
         ensures closed { OnErr result (self.new ≡ None) }
     {
-        match self.open_text(rt, folder) {
+        match self.open_text(rt, folder, seal) {
             Ok(opened) => {
                 self.replace_host(Some(opened));
                 self.standing = Standing::Closed;
@@ -183,9 +220,16 @@ impl<'a> Document<'a> {
         }
     }
 
-    /// Opens it, unless it is open. It takes the time of its steps. What was put away, or has no identity, isn't opened.
-    pub fn open(&mut self, rt: &'a HostRuntime, folder: &str) -> Result<(), OpenFault>
+    /// Opens it, unless it is open. It takes the time of its steps. What was put away, or has no identity, isn't opened, nor
+    /// is one whose saved messages don't begin with what was sealed, if that is known.
+    pub fn open(
+        &mut self,
+        rt: &'a HostRuntime,
+        folder: &str,
+        seal: Option<Seal>,
+    ) -> Result<(), OpenFault>
         ensures opened { OnOk result (IsSome self.new) }
+        ensures sealed { OnOk result (self.old ≡ None → IsOpenedBy seal self.new) }
         ensures closed { OnErr result (self.new ≡ None) }
         ensures stays_open { IsSome self.old → self.new ≡ self.old }
     {
@@ -194,7 +238,7 @@ impl<'a> Document<'a> {
         }
         match self.bar() {
             Some(fault) => Err(fault),
-            None => self.open_anew(rt, folder),
+            None => self.open_anew(rt, folder, seal),
         }
     }
 
@@ -346,6 +390,28 @@ impl<'a> Document<'a> {
         match &self.opened {
             Some(opened) => opened.saved(),
             None => 0,
+        }
+    }
+
+    /// The seal of what is saved, if the last one that was noted lacks some of it. Takes the time of what is new since then, and
+    /// memory for the frame of one message.
+    pub fn next_seal(&mut self, alloc: Global) -> Result<Option<Seal>, NoMemory>
+        ensures seal { IfOk result (λ found. IfSome found (λ seal. IsSomeAnd self.old (IsSealOf seal))) }
+        ensures unchanged { self.new ≡ self.old }
+    {
+        match &mut self.opened {
+            Some(opened) => opened.next_seal(alloc),
+            None => Ok(None),
+        }
+    }
+
+    /// Notes a seal that stands on the disk.
+    pub fn note_sealed(&mut self, seal: &Seal)
+        ensures { self.new ≡ self.old }
+    {
+        match &mut self.opened {
+            Some(opened) => opened.note_sealed(seal),
+            None => {}
         }
     }
 

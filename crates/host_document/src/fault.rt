@@ -1,8 +1,11 @@
 //! Why a document isn't opened, and why orders to it aren't made.
+ghost use Rattle.std.specs.Prelude.{◌≡◌};
+ghost use Rattle.host_document.specs.Sealing.{open_fault};
 
 use edit_message::Missing;
 use element_name::NoMemory;
 use host_link::Ending;
+use host_seal::SealFault;
 use policy_book::EntryFault;
 use std::alloc::{AllocError, AllocFailed, Global};
 
@@ -11,10 +14,34 @@ use std::alloc::{AllocError, AllocFailed, Global};
 pub enum OpenFault {
     /// Its file is none of its host or is damaged, it has no identity, or it was put away.
     Damaged,
+    /// Fewer messages were found than were sealed: an older file stands there, or a gate of it is shut.
+    Fewer { found: u32, sealed: u32 },
+    /// The first messages that were found are others than those that were sealed: a byte is another one, or the file is
+    /// another document's.
+    Others { found: u32, sealed: u32 },
+    /// Its seal can't be read as one.
+    BadSeal,
     /// The disk failed.
     DiskFault,
     /// Memory is wanting.
     NoMemory,
+}
+
+/// Why a document isn't opened whose journal isn't taken for the one that was sealed, by how many messages were found and
+/// how many were sealed.
+pub(crate) fn open_fault(found: u32, sealed: u32, fault: SealFault) -> OpenFault
+    ensures { result ≡ open_fault found sealed fault }
+{
+    match fault {
+        SealFault::Fewer => OpenFault::Fewer { found, sealed },
+        SealFault::Others => OpenFault::Others { found, sealed },
+        SealFault::NoMemory => OpenFault::NoMemory,
+    }
+}
+
+// How many messages were found and how many were sealed, and what is to be done.
+fn counts(alloc: Global, found: u32, sealed: u32) -> Result<String, AllocError> {
+    format!(in alloc; "{found} messages, {sealed} sealed: restore a copy")
 }
 
 impl OpenFault {
@@ -22,9 +49,29 @@ impl OpenFault {
     pub(crate) fn word(self) -> &'static str {
         match self {
             OpenFault::Damaged => "damaged",
+            OpenFault::Fewer { .. } => "fewer-messages",
+            OpenFault::Others { .. } => "other-messages",
+            OpenFault::BadSeal => "damaged-seal",
             OpenFault::DiskFault => "disk-fault",
             OpenFault::NoMemory => "no-memory",
         }
+    }
+
+    // How many messages were found, and what is to be done where these, or their seal, aren't what was written.
+    fn found(self, alloc: Global) -> Result<String, AllocError> {
+        match self {
+            OpenFault::Fewer { found, sealed } => counts(alloc, found, sealed),
+            OpenFault::Others { found, sealed } => counts(alloc, found, sealed),
+            OpenFault::BadSeal => String::from_str(alloc, "0 messages: restore a copy"),
+            _ => String::from_str(alloc, "0 messages"),
+        }
+    }
+
+    // Its word, and what was found.
+    pub(crate) fn told(self, alloc: Global) -> Result<String, AllocError> {
+        let word = self.word();
+        let found = self.found(alloc)?;
+        format!(in alloc; "{word}, {found}")
     }
 }
 

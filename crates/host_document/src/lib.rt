@@ -1,8 +1,8 @@
 //! A document of a host: closed as long as nobody is there, and else the host of its text, with its rules and the people of
 //! whom that was told.
 //!
-//! Contracts see a document that is open as what has happened at its host, the newest first. It knows one file of steps,
-//! people, and what links ask for. It must not know the folder, other documents, sockets and clocks.
+//! Contracts see a document that is open as what has happened at its host, the newest first. It knows one file of steps and
+//! its seal, people, and what links ask for. It must not know the folder, other documents, sockets and clocks.
 #![tactic(auto)]
 
 mod document;

@@ -12,6 +12,7 @@ ghost use Rattle.host_document.specs.Settled.{IsSettled};
 mod entering;
 mod meeting;
 mod ordering;
+mod sealing;
 
 use crate::endings::ending_of;
 use crate::fault::{NotMade, OpenFault};
@@ -20,6 +21,7 @@ use edit_message::Message;
 use element_name::NoMemory;
 use host_core::{Host, LinkId, Refusal};
 use host_link::{Ending, Identity};
+use host_seal::Sealer;
 use host_store::StoreKeeper;
 use line_read::step_line;
 pub(crate) use ordering::Halt;
@@ -41,6 +43,9 @@ const FIRST_RULE: &[u8] = b"admin addauth 0 + all idu 0";
 pub(crate) struct Opened<'a> {
     host: Host<StoreKeeper<FileDisk<'a>>>,
     rules: Rules,
+    // What makes its seals, and how many messages the last one was of.
+    sealer: Sealer,
+    sealed: u32,
     // Whether something was made that isn't saved.
     has_changed: bool,
     // The numbers of the next person and the next device of whom the host is to be told.
@@ -49,15 +54,15 @@ pub(crate) struct Opened<'a> {
 }
 
 impl<'a> Model for Opened<'a> {
-    ghost use Rattle.std.specs.Prelude.{◌≡◌, false, List};
+    ghost use Rattle.std.specs.Prelude.{List};
     ghost use Rattle.host_core.specs.declared.event.HostEvent.{HostEvent};
-    ghost use Rattle.host_document.specs.Settled.{IsSettled};
+    ghost use Rattle.host_document.specs.Settled.{IsAbreast};
 
     ghost Value = { List HostEvent };
 
     ghost view = { λ o. o.host.register };
 
-    ghost invariant = { λ o. o.has_changed ≡ false → IsSettled o.host.register };
+    ghost invariant = { λ o. IsAbreast o.has_changed o.sealer o.host.register };
 }
 
 // The host of the document of this identity, whose steps stand in a file.
@@ -106,8 +111,8 @@ fn opened_by(rule: Result<bool, Ending>) -> Result<(), OpenFault> {
 }
 
 impl<'a> Opened<'a> {
-    /// Opens the document of this identity, whose steps stand in a file. It takes the time of its steps.
-    pub(crate) fn open(
+    // Opens the document of this identity, whose steps stand in a file, whatever was sealed.
+    fn open_steps(
         rt: &'a HostRuntime,
         path: String,
         identity: Identity,
@@ -133,6 +138,8 @@ impl<'a> Opened<'a> {
         let mut opened = Opened {
             host,
             rules,
+            sealer: Sealer::new(),
+            sealed: 0,
             has_changed: false,
             next_person: 0,
             next_site: 1,
@@ -236,6 +243,7 @@ impl<'a> Opened<'a> {
         if !self.has_changed {
             return Ok(false);
         }
+        self.host.register().past();
         match self.host.save() {
             Ok(()) => {
                 self.has_changed = false;

@@ -3,9 +3,12 @@ use Rattle.std.specs.Prelude.{◌≡◌, ℕ, List, [], ◌∷◌, ◌++◌, Opt
 use Rattle.edit_message.specs.declared.message.Message.{Message}
 use Rattle.edit_frame.specs.declared.frame.Frame.TheVariants.{Item}
 use Rattle.edit_frame.specs.Spelling.{spelling}
+use Rattle.tungstenite.specs.Content.{binary}
+use Rattle.tungstenite.specs.Socket.{Socket}
 use Rattle.host_core.specs.declared.event.LinkId.{LinkId}
 use Rattle.host_core.specs.declared.event.HostEvent.{HostEvent}
 use Rattle.host_core.specs.declared.event.HostEvent.TheVariants.{Gave}
+use Rattle.host_socket.specs.Sent.{IsSent}
 
 -- what has happened at a document behind the gift of a message to a link, if it is open
 abbrev pub behind_gift : LinkId → Message → Option (List HostEvent) → Option (List HostEvent)
@@ -27,3 +30,16 @@ pub record GivesFrames (link : LinkId) (count : ℕ) (old new : Option (List Hos
   pub so_many : length items ≡ count
   pub given : new ≡ behind_gifts link items old
   pub framed : after ≡ before ++ item_frames items
+
+-- so many messages, as some document gives them to a link: their frames, whole and in order, stand behind others
+pub record AreGifts (link : LinkId) (count : ℕ) (before after : List ℕ) : Type 0 where
+  pub stood : Option (List HostEvent)
+  pub stands : Option (List HostEvent)
+  pub gives : GivesFrames link count stood stands before after
+
+-- such frames, whole and in order, are sent on a socket as one message
+pub record SendsGifts {S : Type 0} (link : LinkId) (before after : Socket S) : Type 0 where
+  pub count : ℕ
+  pub frames : List ℕ
+  pub given : AreGifts link count [] frames
+  pub sends : IsSent (binary frames) before after

@@ -1,3 +1,4 @@
 pub mod Replies
 pub mod Gifts
 pub mod Rooms
+pub mod Taken

@@ -36,6 +36,7 @@ pub struct Desk<'a> {
     pub(crate) again: Vec<usize>,
     pub(crate) swept: u64,
     pub(crate) told: u64,
+    pub(crate) sealed: u64,
 }
 
 // Adds empty rooms to those that are there, until there are so many.
@@ -81,6 +82,7 @@ impl<'a> Desk<'a> {
             again: Vec::new(alloc),
             swept: 0,
             told: 0,
+            sealed: 0,
         }
     }
 

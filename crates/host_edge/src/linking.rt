@@ -1,9 +1,12 @@
 //! Links that were welcomed: what comes on them.
-ghost use Rattle.std.specs.Prelude.{◌≡◌, ◌≢◌, Some, IfSome};
+ghost use Rattle.std.specs.Prelude.{◌≡◌, ◌≢◌, Some, None, Ok, IfSome, IfOk, OnErr};
+ghost use Rattle.edit_frame.specs.Reading.{frame_at, message_of_frame};
 ghost use Rattle.host_core.specs.declared.event.Role.{Role};
 ghost use Rattle.host_people.specs.Holders.{role_of};
+ghost use Rattle.host_link.specs.declared.ending.Ending.{Ending};
 ghost use Rattle.host_socket.specs.declared.socket.After.{After};
 ghost use Rattle.host_edge.specs.Rooms.{refused_frames};
+ghost use Rattle.host_edge.specs.Taken.{EndsBy};
 
 use crate::conn::{Conn, Linked, Place, Stage};
 use crate::desk::Desk;
@@ -63,19 +66,30 @@ fn take_item(desk: &mut Desk<'_>, linked: &mut Linked, number: usize, message: M
     }
 }
 
-// The message that begins these bytes, with the length of its frame.
-fn first_item(alloc: Global, bytes: &[u8]) -> Result<(Message, usize), After> {
-    let found = match first_frame(alloc, bytes) {
-        Ok(found) => found,
-        Err(FrameFail::NoMemory) => return Err(no_memory()),
-        Err(_) => None,
-    };
-    let Some((frame, len)) = found else {
-        return Err(After::Ends(Ending::BadMessage));
-    };
+// The message of a frame; none of a turn and of an end.
+fn message_of_frame(frame: Frame) -> Option<Message>
+    ensures { result ≡ message_of_frame (Ok frame) }
+{
     match frame {
-        Frame::Item(message) => Ok((message, len)),
-        _ => Err(After::Ends(Ending::BadMessage)),
+        Frame::Item(message) => Some(message),
+        Frame::Turn => None,
+        Frame::End => None,
+    }
+}
+
+// The message whose frame begins these bytes, with the length of that.
+fn first_item(alloc: Global, bytes: &[u8]) -> Result<(Message, usize), After>
+    ensures item { IfOk result (λ found. message_of_frame (frame_at bytes.now) ≡ Some found.0) }
+    ensures none { OnErr result (EndsBy Ending.BadMessage result) }
+{
+    match first_frame(alloc, bytes) {
+        Ok(Some((frame, len))) => match message_of_frame(frame) {
+            Some(message) => Ok((message, len)),
+            None => Err(After::Ends(Ending::BadMessage)),
+        },
+        Ok(None) => Err(After::Ends(Ending::BadMessage)),
+        Err(FrameFail::Fault(_)) => Err(After::Ends(Ending::BadMessage)),
+        Err(FrameFail::NoMemory) => Err(no_memory()),
     }
 }
 
@@ -85,7 +99,9 @@ fn take_frame(
     linked: &mut Linked,
     number: usize,
     bytes: &[u8],
-) -> Result<usize, After> {
+) -> Result<usize, After>
+    ensures { message_of_frame (frame_at bytes.now) ≡ None → EndsBy Ending.BadMessage result × (desk.new ≡ desk.old) }
+{
     let (message, len) = first_item(desk.alloc, bytes)?;
     match take_item(desk, linked, number, message) {
         After::More => Ok(len),

@@ -1,9 +1,10 @@
 //! What links are sent: what they lack of what is saved, answers and news.
-ghost use Rattle.std.specs.Prelude.{◌≡◌, ◌++◌, nat_lt, true, false, Ok, IfOk};
+ghost use Rattle.std.specs.Prelude.{◌≡◌, ◌++◌, nat_lt, true, false, Ok, IfOk, IfSome};
 ghost use Rattle.edit_message.specs.declared.message.Message.{Message};
 ghost use Rattle.edit_frame.specs.declared.frame.Frame.TheVariants.{Item};
 ghost use Rattle.edit_frame.specs.Spelling.{spelling};
-ghost use Rattle.host_edge.specs.Gifts.{behind_gift, GivesFrames};
+ghost use Rattle.host_socket.specs.Sent.{socket_stays};
+ghost use Rattle.host_edge.specs.Gifts.{behind_gift, GivesFrames, AreGifts, SendsGifts};
 ghost use Rattle.host_edge.specs.declared.conn.Place.{Place};
 
 use crate::conn::{Conn, Linked, Place, Stage};
@@ -65,7 +66,9 @@ fn next_frames(
     number: usize,
     link: LinkId,
     frames: &mut Vec<u8>,
-) -> Result<usize, Ending> {
+) -> Result<usize, Ending>
+    ensures { IfOk result (λ count. AreGifts link count frames.old.items frames.new.items) }
+{
     let alloc = desk.alloc;
     match desk.house.document(number) {
         Some(document) => put_frames(alloc, document, link, frames),
@@ -74,7 +77,9 @@ fn next_frames(
 }
 
 // Sends a link a message of frames. `None` where it lacks nothing.
-fn push_frames(desk: &mut Desk<'_>, linked: &mut Linked, number: usize) -> Option<After> {
+fn push_frames(desk: &mut Desk<'_>, linked: &mut Linked, number: usize) -> Option<After>
+    ensures { IfSome result (λ after. socket_stays after ≡ true → SendsGifts linked.old.link linked.old.socket linked.new.socket) }
+{
     let mut frames = Vec::new(desk.alloc);
     let count = match next_frames(desk, number, linked.link, &mut frames) {
         Ok(0) => return None,

@@ -95,6 +95,7 @@ impl<'a> Desk<'a> {
         self.go_on();
         self.tell();
         self.commit();
+        self.seal();
         self.push_rooms();
         self.free_slots();
     }

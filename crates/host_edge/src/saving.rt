@@ -1,10 +1,13 @@
-//! Documents are saved, given up and closed.
+//! Documents are saved, sealed, given up and closed.
 
 use crate::conn::Place;
 use crate::desk::Desk;
 use host_link::Ending;
 use host_socket::Happening;
 use std::mem;
+
+// How often what was saved is sealed, in milliseconds.
+const SEALING: u64 = 60_000;
 
 impl<'a> Desk<'a> {
     // Notes that a document has something that isn't saved.
@@ -83,6 +86,15 @@ impl<'a> Desk<'a> {
             }
         }
         self.turn = self.turn.saturating_add(1);
+    }
+
+    // Seals what was saved since, once a minute.
+    pub(crate) fn seal(&mut self) {
+        if self.now < self.sealed.saturating_add(SEALING) {
+            return;
+        }
+        self.sealed = self.now;
+        self.house.seal();
     }
 
     // Whether nobody was at a document for long.

@@ -1,5 +1,5 @@
-//! Documents as folders. A document stands in a folder of its name, with its identity and its steps. A folder that is made
-//! or put away is named at last, so that it is whole wherever it stands.
+//! Documents as folders. A document stands in a folder of its name, with its identity, its steps and their seal. A folder that
+//! is made or put away is named at last, so that it is whole wherever it stands.
 
 use hex::{decode_to_slice, encode};
 use host_document::{Document, OpenFault};
@@ -8,6 +8,7 @@ use std::alloc::Global;
 use std::fs;
 use std::fs::File;
 use std::io::{self, ErrorKind, Write};
+use std::path::Path;
 use std::random::RandomSource;
 
 // Where the identity of a document stands.
@@ -110,13 +111,56 @@ pub(crate) fn new_identity(rt: &HostRuntime) -> io::Result<Identity> {
     Ok(identity)
 }
 
+/// Writes a file, and waits until it is on the disk.
+pub(crate) fn write_file(rt: &HostRuntime, path: &str, bytes: &[u8]) -> io::Result<()> {
+    let mut file = File::create(rt, path)?;
+    file.write_all(bytes)?;
+    file.sync_all()
+}
+
 // Writes an identity, and waits until it is on the disk.
 fn write_identity(rt: &HostRuntime, path: &str, identity: &Identity) -> io::Result<()> {
     let digits = encode(rt.alloc(), identity.as_slice())?;
     let line = format!(in rt.alloc(); "{digits}\n")?;
-    let mut file = File::create(rt, path)?;
-    file.write_all(line.as_str().as_bytes())?;
-    file.sync_all()
+    write_file(rt, path, line.as_str().as_bytes())
+}
+
+// Waits until the names in a folder are on the disk, which a sync of what they name doesn't.
+fn sync_names(rt: &HostRuntime, folder: &str) -> io::Result<()> {
+    File::open(rt, folder)?.sync_all()
+}
+
+// The same of several folders.
+fn sync_all_names(rt: &HostRuntime, folders: &[&str]) -> io::Result<()> {
+    for folder in folders {
+        sync_names(rt, folder)?;
+    }
+    Ok(())
+}
+
+// Names a folder anew, and waits until that is on the disk, in the folders that have the names. Where it can't be, the folder has
+// its former name again.
+fn rename_synced(rt: &HostRuntime, old: &str, new: &str, within: &[&str]) -> io::Result<()> {
+    fs::rename(rt, old, new)?;
+    match sync_all_names(rt, within) {
+        Ok(()) => Ok(()),
+        Err(error) => {
+            drop(fs::rename(rt, new, old));
+            Err(error)
+        }
+    }
+}
+
+/// Makes the folder of a house, unless it is there.
+pub(crate) fn make_house(rt: &HostRuntime, folder: &str) -> io::Result<()> {
+    if fs::exists(rt, folder)? {
+        return Ok(());
+    }
+    fs::create_dir_all(rt, folder)?;
+    match Path::new(folder).parent() {
+        Some(above) if above.as_str() != "" => sync_names(rt, above.as_str()),
+        _ => sync_names(rt, "."),
+    }
 }
 
 /// Makes the folder of a document of this name and identity.
@@ -131,8 +175,9 @@ pub(crate) fn make_folder(
     fs::create_dir_all(rt, coming.as_str())?;
     let path = format!(in alloc; "{folder}/.{name}.new/identity")?;
     write_identity(rt, path.as_str(), identity)?;
+    sync_names(rt, coming.as_str())?;
     let at_last = format!(in alloc; "{folder}/{name}")?;
-    fs::rename(rt, coming.as_str(), at_last.as_str())
+    rename_synced(rt, coming.as_str(), at_last.as_str(), &[folder])
 }
 
 /// Gives a document another name, which no other has.
@@ -140,7 +185,7 @@ pub(crate) fn move_folder(rt: &HostRuntime, folder: &str, from: &str, to: &str) 
     let alloc = rt.alloc();
     let old = format!(in alloc; "{folder}/{from}")?;
     let new = format!(in alloc; "{folder}/{to}")?;
-    fs::rename(rt, old.as_str(), new.as_str())
+    rename_synced(rt, old.as_str(), new.as_str(), &[folder])
 }
 
 /// Puts a document away, below `.archive`, by its name and its identity.
@@ -156,5 +201,5 @@ pub(crate) fn archive_folder(
     fs::create_dir_all(rt, away.as_str())?;
     let old = format!(in alloc; "{folder}/{name}")?;
     let new = format!(in alloc; "{folder}/.archive/{name}.{digits}")?;
-    fs::rename(rt, old.as_str(), new.as_str())
+    rename_synced(rt, old.as_str(), new.as_str(), &[away.as_str(), folder])
 }

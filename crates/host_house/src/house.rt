@@ -9,7 +9,7 @@ mod showing;
 mod tending;
 
 use crate::fault::HouseFault;
-use crate::folder::{find_documents, make_folder, new_identity};
+use crate::folder::{find_documents, make_folder, make_house, new_identity};
 use host_core::Role;
 use host_document::Document;
 use host_link::{Identity, is_document_name};
@@ -17,7 +17,6 @@ use host_people::{Book, Change, People};
 use peer_disk::FileDisk;
 pub use serving::Admitted;
 use std::alloc::Global;
-use std::fs;
 use std::marker::Model;
 
 // The file of the people in the folder. No document is called so.
@@ -88,7 +87,7 @@ impl<'a> House<'a> {
         folder: &str,
         address: String,
     ) -> Result<House<'a>, HouseFault> {
-        fs::create_dir_all(rt, folder)?;
+        make_house(rt, folder)?;
         let owned = String::from_str(rt.alloc(), folder)?;
         let (book, disk) = open_book(rt, folder)?;
         match find_documents(rt, folder) {

@@ -1,5 +1,5 @@
-//! A folder of documents with its people: documents that are opened when somebody comes, devices that show secrets, orders
-//! of owners.
+//! A folder of documents with its people: documents that are opened when somebody comes and sealed as they are saved, devices
+//! that show secrets, orders of owners.
 //!
 //! It knows files, people and documents. It must not know sockets and clocks.
 #![tactic(auto)]
@@ -9,6 +9,7 @@ mod fault;
 mod folder;
 mod house;
 mod keys;
+mod seals;
 mod shelf;
 
 pub use done::{Consequence, Done};

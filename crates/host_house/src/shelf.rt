@@ -2,6 +2,7 @@
 ghost use Rattle.std.specs.Prelude.{◌≡◌, IfOk};
 ghost use Rattle.host_house.specs.Household.{OthersStay};
 
+use crate::seals::{open_sealed, seal_document};
 use host_core::{LinkId, Role};
 use host_document::{Document, OpenFault};
 use host_link::{Claim, Ending};
@@ -28,7 +29,7 @@ pub(crate) fn open_at<'a>(
     if number >= documents.len() {
         return Err(OpenFault::Damaged);
     }
-    documents[number].open(rt, folder)
+    open_sealed(rt, folder, &mut documents[number])
 }
 
 // Opens a document, unless it is open, and admits a device.
@@ -38,7 +39,7 @@ fn let_in<'a>(
     document: &mut Document<'a>,
     entrant: &Entrant<'_>,
 ) -> Result<LinkId, Ending> {
-    if document.open(rt, folder).is_err() {
+    if open_sealed(rt, folder, document).is_err() {
         return Err(Ending::NoDocument);
     }
     document.admit(entrant.people, entrant.person, entrant.role, entrant.claim)
@@ -60,10 +61,15 @@ pub(crate) fn admit_at<'a>(
     let_in(rt, folder, &mut documents[number], entrant)
 }
 
-// Saves a document and closes it, if it can be saved.
-fn save_and_shut(document: &mut Document<'_>) -> Result<(), Ending> {
+// Saves, seals and closes a document, if it can be saved.
+fn save_and_shut(
+    rt: &HostRuntime,
+    folder: &str,
+    document: &mut Document<'_>,
+) -> Result<(), Ending> {
     match document.commit() {
         Ok(_) => {
+            seal_document(rt, folder, document);
             document.shut();
             Ok(())
         }
@@ -71,14 +77,28 @@ fn save_and_shut(document: &mut Document<'_>) -> Result<(), Ending> {
     }
 }
 
-/// Saves the document of a number and closes it, if it can be saved.
-pub(crate) fn shut_at(documents: &mut [Document<'_>], number: usize) -> Result<(), Ending>
+/// Saves, seals and closes the document of a number, if it can be saved.
+pub(crate) fn shut_at(
+    rt: &HostRuntime,
+    folder: &str,
+    documents: &mut [Document<'_>],
+    number: usize,
+) -> Result<(), Ending>
     ensures { OthersStay number documents.old documents.new }
 {
     if number >= documents.len() {
         return Err(Ending::NoDocument);
     }
-    save_and_shut(&mut documents[number])
+    save_and_shut(rt, folder, &mut documents[number])
+}
+
+/// Seals what is saved of the documents that are open.
+pub(crate) fn seal_all(rt: &HostRuntime, folder: &str, documents: &mut [Document<'_>])
+    ensures { documents.new ≡ documents.old }
+{
+    for number in 0..documents.len() {
+        seal_document(rt, folder, &mut documents[number]);
+    }
 }
 
 /// Closes the document of a number as one that can't be opened.

@@ -38,9 +38,9 @@ impl<'a> House<'a> {
         Ok(text)
     }
 
-    // Saves and closes a document, so that its folder can be moved.
+    // Saves, seals and closes a document, so that its folder can be moved.
     fn settle_document(&mut self, number: usize) -> Result<(), HouseFault> {
-        match shut_at(&mut self.documents, number) {
+        match shut_at(self.rt, self.folder.as_str(), &mut self.documents, number) {
             Ok(()) => Ok(()),
             Err(Ending::NoDocument) => Err(HouseFault::NoDocument),
             Err(_) => Err(HouseFault::Failed),

@@ -6,7 +6,7 @@ ghost use Rattle.host_house.specs.Household.{holder_by, MakesInvitation, MakesDe
 use super::House;
 use crate::fault::HouseFault;
 use crate::keys::{digest_of, is_same, new_secret};
-use crate::shelf::{Entrant, admit_at, give_up_at, open_at, shut_at};
+use crate::shelf::{Entrant, admit_at, give_up_at, open_at, seal_all, shut_at};
 use hex::encode;
 use host_core::{LinkId, Role};
 use host_document::OpenFault;
@@ -135,7 +135,7 @@ impl<'a> House<'a> {
         self.people().role(person)
     }
 
-    /// Opens a document, unless it is open.
+    /// Opens a document, unless it is open, if what is saved of it begins with what was sealed.
     pub fn open_document(&mut self, number: usize) -> Result<(), OpenFault>
         ensures { TouchesDocument number self.old self.new }
     {
@@ -189,11 +189,19 @@ impl<'a> House<'a> {
         }
     }
 
-    /// Closes a document where nobody is, if it can be saved.
+    /// Seals and closes a document where nobody is, if it can be saved.
     pub fn shut(&mut self, number: usize)
         ensures { TouchesDocument number self.old self.new }
     {
-        let _ = shut_at(&mut self.documents, number);
+        let _ = shut_at(self.rt, self.folder.as_str(), &mut self.documents, number);
+    }
+
+    /// Seals what is saved of the documents that are open, where the last seals lack some of it. Takes the time of what is new
+    /// since then, and writes a file for each.
+    pub fn seal(&mut self)
+        ensures { self.new ≡ self.old }
+    {
+        seal_all(self.rt, self.folder.as_str(), &mut self.documents);
     }
 
     /// Gives a document up that can't be saved any more.

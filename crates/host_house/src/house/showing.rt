@@ -28,15 +28,14 @@ impl<'a> House<'a> {
             return Err(HouseFault::NoDocument);
         };
         let name = document.name();
-        let state = document.state_word();
-        let saved = document.saved();
-        let line = format!(in self.alloc; "{name}: {state}, {saved} messages\n")?;
+        let found = document.found(self.alloc)?;
+        let line = format!(in self.alloc; "{name}: {found}\n")?;
         document.shut();
         Ok(line)
     }
 
-    /// Opens each document and closes it again, and tells what was found, a line each: `NAME: STATE, COUNT messages`. Nothing
-    /// is saved.
+    /// Opens each document and closes it again, and tells what was found, a line each: `NAME: STATE, COUNT messages`, and where
+    /// these aren't what was sealed, how many were, and that a copy is to be restored. Nothing is saved, and nothing sealed.
     pub fn verify(&mut self) -> Result<String, HouseFault> {
         let mut text = String::new(self.alloc);
         for number in 0..self.documents.len() {
