@@ -5,19 +5,16 @@
 // HOST is the built program of a host. With --pictures pages are kept as pictures. All of it has to be done in N seconds. With --times it is
 // told how long each try took.
 import assert from 'node:assert/strict';
-import { spawn } from 'node:child_process';
-import { mkdirSync, mkdtempSync, readFileSync, rmSync, writeFileSync } from 'node:fs';
-import { createServer } from 'node:http';
-import { tmpdir } from 'node:os';
+import { mkdirSync, readFileSync, writeFileSync } from 'node:fs';
 import { join } from 'node:path';
 import { fileURLToPath } from 'node:url';
 import { Browser, CONTROL, pause } from './devtools.mjs';
+import { Host, until } from './running_host.mjs';
 
-const PATIENCE_MS = 40000;
 const USUAL_SECONDS = 110; // for all of it
 const HELD_MS = 700; // by then what was typed is an edit
-const WEB = fileURLToPath(new URL('../web', import.meta.url));
 const DESK = { width: 1180, height: 760 };
+const SMALL = { width: 640, height: 480 };
 const TELEPHONE = { width: 390, height: 760, isMobile: true };
 const MARKUP = '<img src=x onerror=alert(1)><b>x</b> \u202eabc';
 const START = 'Plan for the spring fair\nThe budget is 900 euros.\nWho brings what:\n';
@@ -25,6 +22,7 @@ const BEAS = 'Bea: tables and tea. ';
 const TURNING = '\u202eaeB'; // a name that would turn what stands behind it
 const HEBREW = 'דנה <i>';
 const LEAST_FINGER = 43; // pixels
+const LEAST_SHIFT = 0.001; // of a layout, as browsers count it
 const TUTORIAL = fileURLToPath(new URL('../docs/TUTORIAL.md', import.meta.url));
 
 /** @type {Set<string>} what the tries saw of the pages: words that they said, and controls that were pressed */
@@ -39,54 +37,6 @@ function noted(text) {
 function option(name) {
   const at = process.argv.indexOf(name);
   return at < 0 ? null : process.argv[at + 1] ?? '';
-}
-
-async function until(what, holds) {
-  const end = Date.now() + PATIENCE_MS;
-  while (!(await holds())) {
-    if (Date.now() > end) assert.fail(`it never came that ${typeof what === 'string' ? what : await what()}`);
-    await pause(40);
-  }
-}
-
-async function freePort() {
-  const server = createServer();
-  await new Promise((done) => server.listen(0, '127.0.0.1', done));
-  const { port } = server.address();
-  await new Promise((done) => server.close(done));
-  return port;
-}
-
-// A running host of a folder of its own.
-class Host {
-  static async start(program) {
-    const host = new Host();
-    host.program = program;
-    host.folder = mkdtempSync(join(tmpdir(), 'page-host-'));
-    host.port = await freePort();
-    host.invitation = await host.run();
-    return host;
-  }
-
-  // Starts it; gives the first line that it prints.
-  async run() {
-    const words = ['host', join(this.folder, 'fair'), '--port', String(this.port), '--web', WEB];
-    this.process = spawn(this.program, words, { stdio: ['ignore', 'pipe', 'ignore'] });
-    this.ended = new Promise((done) => this.process.once('exit', done));
-    const told = new Promise((done) => this.process.stdout.once('data', (data) => done(data.toString().trim())));
-    await until('the host listens', () => fetch(`http://localhost:${this.port}/healthz`).then((it) => it.ok, () => false));
-    return Promise.race([told, pause(100)]);
-  }
-
-  stop() {
-    this.process.kill('SIGKILL');
-    return this.ended;
-  }
-
-  async close() {
-    await this.stop();
-    rmSync(this.folder, { recursive: true, force: true });
-  }
 }
 
 // A person's page.
@@ -187,6 +137,13 @@ class Sheet {
     await this.isSaved();
   }
 
+  // Loads the page anew; it is another one then, however long that takes.
+  async reload() {
+    await this.value('globalThis.isOld = true, null');
+    await this.page.reload();
+    await this.holds('another page is there', '!globalThis.isOld');
+  }
+
   edits() {
     return this.value('page.copy.journal.count - page.copy.entries.length');
   }
@@ -203,13 +160,16 @@ class Sheet {
     return `${await this.said('question-title')} | ${await this.said('question-undone')}`;
   }
 
-  // Keeps the page as a picture, where pictures are wanted.
-  async picture(name) {
+  // Keeps the page as a picture, where pictures are wanted; of a size of its own where an action brings about what it shows.
+  async picture(name, act = null, size = SMALL) {
     const folder = option('--pictures');
     if (!folder) return;
+    if (act) await this.page.resize(size);
+    await act?.();
     mkdirSync(folder, { recursive: true });
     await pause(200);
     writeFileSync(join(folder, `${name}.png`), await this.page.picture());
+    if (act) await this.page.resize(DESK);
   }
 
   async close() {
@@ -406,6 +366,11 @@ const tries = {
     assert.equal(await bea.value('navigator.clipboard.readText()'), (await bea.ghosts()).at(-1));
     await bea.click('#note-close');
     await ada.picture('after-a-rule');
+    await bea.picture('undone-small', async () => {
+      await bea.value(`[...document.querySelectorAll('.ghost')].at(-1).click(), null`);
+    });
+    await bea.click('#note-close');
+    await ada.picture('after-a-rule-small', () => ada.goTo(START.length));
   },
 
   // A right is given back, and taken again so that what was written stays: it is confirmed first.
@@ -453,8 +418,7 @@ const tries = {
     await ada.isSaved();
     for (const it of [ada, bea]) {
       const before = await it.text();
-      await it.page.reload();
-      await pause(300);
+      await it.reload();
       await it.isSaved();
       await it.shows(before);
     }
@@ -481,8 +445,9 @@ const tries = {
     await newer.end();
     await newer.page.type(' pages. ');
     await newer.isSaved();
+    await bea.value('globalThis.isOld = true, null');
     await bea.click('#opening-acts button');
-    await pause(300);
+    await bea.holds('another page is there', '!globalThis.isOld');
     await bea.isSaved();
     for (const it of [bea, ada]) await it.shows(`${world.text}Two pages. `);
     await newer.says('opening-words', /^You opened this document in another page/);
@@ -501,6 +466,22 @@ const tries = {
     world.text += 'Now. ';
     for (const it of [ada, bea]) await it.isSaved();
     await bea.shows(world.text);
+  },
+
+  // What the host can't open each page goes on with, and says why.
+  async a_file_that_is_damaged(world) {
+    const { ada, bea, host } = world;
+    await host.stop();
+    const file = join(host.folder, 'fair', 'fair', 'steps');
+    const bytes = readFileSync(file);
+    writeFileSync(file, Buffer.concat([Buffer.of(bytes[0] ^ 8), bytes.subarray(1)]));
+    await host.run();
+    for (const it of [ada, bea]) await it.says('standing', /^The host cannot open this document: its file is damaged\. Tell who hosts it\. Your copy is kept here/);
+    await ada.picture('damaged-at-the-host');
+    await host.stop();
+    writeFileSync(file, bytes);
+    await host.run();
+    for (const it of [ada, bea]) await it.isSaved();
   },
 
   async documents(world) {
@@ -620,7 +601,7 @@ const tries = {
     await ada.isSaved();
   },
 
-  // Who leaves can't come in any more, and what that person wrote stays, unless an owner wants it undone too.
+  // Who leaves can't come in any more, and what that person wrote stays.
   async a_person_leaves(world) {
     const { ada } = world;
     await ada.fill('new-name', 'Cy Brandt');
@@ -639,16 +620,115 @@ const tries = {
     await cy.says('standing', /^An owner closed this device\./);
     await ada.says('status', /^Cy Brandt is removed: /);
     await ada.isSaved();
+    await ada.says('people', /Cy Brandt · removed/);
     await ada.shows(`${world.text}Cy was here. `);
     assert.equal(await ada.value('page.copy.policy.version'), version);
     const keys = await ada.value(`page.sync.line.orders.ask('keys')`); // Cy is the third person
     assert.deepEqual(keys.filter((it) => / 3 (open|closed)$/.test(it)).map((it) => it.split(' ')[3]), ['closed', 'closed']);
+    await ada.picture('removed');
+    await cy.close();
+  },
+
+  // Who is invited again is the same person with another device, and may leave once more, with all that was written undone.
+  async a_person_returns(world) {
+    const { ada } = world;
+    const address = `document.getElementById('invited-address').value`;
+    const before = await ada.value(address);
+    await ada.press('people', 'Invite again: Cy Brandt');
+    await ada.holds('there is another address', `${address} !== ${JSON.stringify(before)}`);
+    const cy = await Sheet.open(world, await ada.value(address));
+    await ada.says('people', /Cy Brandt · here now/);
+    await cy.end();
+    await cy.page.type('And again. ');
+    await ada.shows(`${world.text}Cy was here. And again. `);
+    await cy.isSaved();
+    world.cy = cy;
+    world.text += 'Cy was here. And again. ';
+  },
+
+  // A rule names a group, and is about whoever is in it.
+  async a_group(world) {
+    const { ada, cy } = world;
+    const boxOf = (name) => `[...document.querySelectorAll('#protect-whom label')].find((it) => it.textContent.includes(${JSON.stringify(name)})).querySelector('input')`;
+    await ada.value(`${boxOf('Cy Brandt')}.click(), null`);
+    await ada.click('#make-group');
+    assert.equal(await ada.question(), 'Make a group of Ada Lund and Cy Brandt? | No edit would be undone.');
+    await ada.click('#question-yes');
+    await ada.says('groups', /^The group of Ada Lund and Cy Brandt\./);
+    for (const it of ['Ada Lund', 'Cy Brandt', 'The group of']) await ada.value(`${boxOf(it)}.click(), null`);
+    await ada.goTo(3);
+    await ada.click('#protect');
+    assert.match(await ada.question(), /^Let nobody but the group of Ada Lund and Cy Brandt write in the paragraph “Plan for the spring fair”\? \| 2 edits of Bea Okafor would be undone/); // a word, and its undoing
+    await ada.click('#question-yes');
+    await cy.says('rules', /The group of Ada Lund and Cy Brandt may write in the paragraph “Plan for the spring fair”\./);
+    await cy.says('people', /Cy Brandt · youMay write, but in the paragraph “The budget is 900 euros\.” only read\./);
+    await ada.picture('group');
+    await ada.value(`{ const list = document.querySelector('#groups select'); list.value = [...list.options].find((it) => it.textContent === 'Cy Brandt').value, list.dispatchEvent(new Event('change')); null }`);
+    assert.match(await ada.question(), /^Take Cy Brandt out of the group of Ada Lund and Cy Brandt\? \|/);
+    await ada.click('#question-yes');
+    await cy.holds('it is locked', `document.querySelectorAll('.locked').length === 2`);
+  },
+
+  // Neither the head nor the place of the text moved since the page was opened, whoever came, went, wrote or was told something.
+  async nothing_moves(world) {
+    const moved = await world.cy.value(`new Promise((done) => {
+      const stays = new Set([...document.querySelectorAll('#sheet, #text, header, header > *')]);
+      const told = (it) => it.sources.filter(({ node }) => stays.has(node)).map(({ node }) => (node.id || node.nodeName) + ' ' + it.value);
+      new PerformanceObserver((list) => done(list.getEntries().filter(({ value }) => value > ${LEAST_SHIFT}).flatMap(told))).observe({ type: 'layout-shift', buffered: true });
+      setTimeout(() => done([]), 300);
+    })`);
+    assert.deepEqual(moved, []);
+  },
+
+  // What the browser keeps is full, and then damaged: nothing more is written that would be lost, and what the host has comes again.
+  async a_store_that_fails(world) {
+    const { cy } = world;
+    await cy.value(`page.keeper.store.append(Uint8Array.of(0, 0, 0, 9, 9)), null`);
+    await cy.value(`page.keeper.store.append = () => Promise.reject(new Error('no room')), null`);
+    await cy.end();
+    await cy.page.type('Lost? ');
+    await cy.says('status', /^This browser keeps nothing more \(no room\), so nothing more can be written here\./);
+    assert.equal(await cy.value(`document.getElementById('text').getAttribute('aria-readonly')`), 'true');
+    await cy.picture('store-full');
+    await cy.reload();
+    await cy.says('opening-words', /^What this browser kept of this document cannot be read/);
+    await cy.picture('store-damaged');
+    await cy.value(`[...document.querySelectorAll('#opening-acts button')].find((it) => it.textContent === 'Start over').click(), null`);
+    await cy.says('status', /^This browser wrote in this document before, and has lost what it had of it\./);
+    await cy.shows(world.text);
+  },
+
+  async a_person_leaves_for_good(world) {
+    const { ada, cy } = world;
     await ada.press('people', 'Remove Cy Brandt');
     await ada.question();
     await ada.click('#question-yes');
+    world.text = world.text.replace('Cy was here. And again. ', '');
     await ada.shows(world.text);
-    assert.ok((await ada.ghosts()).includes('Cy was here. '));
+    assert.ok((await ada.ghosts()).join('').includes('Cy was here. And again. '));
+    await ada.says('people', /Cy Brandt · removed/);
+    await ada.press('people', 'Invite again: Cy Brandt');
+    await ada.says('status', /The rules let Cy Brandt only read here, until you press “Allow writing”\.$/);
     await cy.close();
+  },
+
+  // Each colour of letters against each ground behind them, and of edges, in both schemes.
+  async contrasts(world) {
+    for (const scheme of ['light', 'dark']) {
+      await world.ada.page.call('Emulation.setEmulatedMedia', { features: [{ name: 'prefers-color-scheme', value: scheme }] });
+      const low = await world.ada.value(`{
+        const style = getComputedStyle(document.documentElement);
+        const channel = (it) => (it <= 0.04045 ? it / 12.92 : ((it + 0.055) / 1.055) ** 2.4);
+        const light = (name) => [1, 3, 5].map((at) => channel(parseInt(style.getPropertyValue('--' + name).trim().slice(at, at + 2), 16) / 255)).reduce((sum, it, i) => sum + it * [0.2126, 0.7152, 0.0722][i], 0);
+        const ratio = (a, b) => ((high, low) => (high + 0.05) / (low + 0.05))(...[light(a), light(b)].sort((a, b) => b - a));
+        const grounds = ['ground', 'field', ...Array.from({ length: 8 }, (_, i) => 'by-' + i)];
+        const letters = [...grounds.map((it) => ['ink', it]), ...['faint', 'mark', 'good', 'bad'].flatMap((it) => [[it, 'ground'], [it, 'field']])];
+        const edges = [['strong', 'ground'], ['strong', 'field'], ['mark', 'ground']];
+        [...letters.map((it) => [...it, 4.5]), ...edges.map((it) => [...it, 3])].filter(([a, b, least]) => !(ratio(a, b) >= least)).map(([a, b]) => a + ' on ' + b + ': ' + ratio(a, b).toFixed(2));
+      }`);
+      assert.deepEqual(low, [], scheme);
+    }
+    await world.ada.page.call('Emulation.setEmulatedMedia', { features: [] });
   },
 
   // Whatever the tutorial has in quotation marks, of two people in a browser, a page has said, and it has what is to be pressed.
@@ -682,7 +762,7 @@ async function runAll(world) {
 
 async function main() {
   const [chromium, program] = process.argv.slice(2);
-  const world = { browser: new Browser(chromium), host: await Host.start(program) };
+  const world = { browser: new Browser(chromium), host: await Host.start(program, 'fair') };
   const seconds = Number(option('--seconds') ?? USUAL_SECONDS);
   let status = 1;
   try {

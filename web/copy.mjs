@@ -40,6 +40,9 @@ export class Copy {
     this.entries = [];
     /** @type {Map<string, number>} by their names, the places in the journal of those that a new version may undo */
     this.tentative = new Map();
+    /** @type {Map<string, number>} by their names, the places in the journal of all requests that were looked at for it */
+    this.places = new Map();
+    this.looked = 0; // so many of the journal's items were
     this.undone = new Undone();
     this.isStale = false; // this site wrote before what isn't here
     /** @type {Set<string>} the names of elements that somebody deleted, whether or not it was undone */
@@ -89,7 +92,7 @@ export class Copy {
     const pieces = Pieces.of(peer.text(), peer.sizes(), (place) => Number(peer.nameAt(place)?.split('.')[1]));
     for (const [name, changes] of this.changes) {
       const place = this.placeOf(name);
-      if (changes.length && place !== null) pieces.authors.set(place, this.authorsAt(name, changes));
+      if (changes.length && place !== null) pieces.giveAuthors(place, this.authorsAt(name, changes));
     }
     return pieces;
   }
@@ -116,18 +119,21 @@ export class Copy {
   }
 
   /**
-   * Where in the journal the request of a name stands, which is there.
+   * Where in the journal the request of a name stands, which is there. Those that aren't tentative any more are looked up from the first time on
+   * at which one of them is sought.
    *
    * @param {string} name
    */
   placeInJournal(name) {
     const known = this.tentative.get(name);
     if (known !== undefined) return known;
-    for (let place = 0; place < this.journal.count; place++) {
-      const frame = this.journal.view(place);
-      if (!isEntry(frame) && requestOf(frame).name === name) return place;
+    for (; this.looked < this.journal.count; this.looked++) {
+      const frame = this.journal.view(this.looked);
+      if (!isEntry(frame)) this.places.set(requestOf(frame).name, this.looked);
     }
-    throw new Error(`the journal has no request ${name}`);
+    const place = this.places.get(name);
+    if (place === undefined) throw new Error(`the journal has no request ${name}`);
+    return place;
   }
 
   /**
@@ -462,7 +468,7 @@ export class Copy {
     const place = this.placeOf(name);
     if (place === null) return;
     shown.splice(place, 1, [user === this.site ? piece : this.askPiece(place)], shown.users[place]);
-    shown.authors.set(place, this.authorsAt(name, this.changes.get(name) ?? []));
+    shown.giveAuthors(place, this.authorsAt(name, this.changes.get(name) ?? []));
   }
 
   /**

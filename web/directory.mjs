@@ -9,12 +9,15 @@ export class Directory {
     this.people = new Map();
     /** @type {Map<number, number>} persons, by the sites of their devices */
     this.devices = new Map();
+    this.version = 0; // so often what is known changed
   }
 
   /** @param {import('./protocol.mjs').People} told */
   take({ people, devices }) {
+    const before = JSON.stringify(this.kept);
     this.people = new Map(people.map((it) => [it.person, it]));
     this.devices = new Map(devices.map(({ site, person }) => [site, person]));
+    if (JSON.stringify(this.kept) !== before) this.version++;
   }
 
   // The same, for a browser to keep.
@@ -30,6 +33,26 @@ export class Directory {
    */
   personOf(site) {
     return this.devices.get(site) ?? null;
+  }
+
+  /**
+   * The persons who have these devices, each once.
+   *
+   * @param {Iterable<number>} sites
+   * @returns {number[]}
+   */
+  personsOf(sites) {
+    const persons = new Set([...sites].flatMap((it) => this.personOf(it) ?? []));
+    return [...persons].sort((a, b) => a - b);
+  }
+
+  /**
+   * Whether a person has had a device, be it closed or open.
+   *
+   * @param {number} person
+   */
+  hasCome(person) {
+    return [...this.devices.values()].includes(person);
   }
 
   /** @param {number} person */

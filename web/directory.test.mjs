@@ -14,4 +14,7 @@ test('who is known', () => {
   assert.ok(known.isSame(1, 3) && known.isSame(9, 9));
   assert.ok(!known.isSame(1, 2) && !known.isSame(8, 9));
   assert.deepEqual(known.kept, told);
+  assert.ok(known.hasCome(2) && !known.hasCome(3));
+  known.take({ kind: 'people', ...told });
+  assert.equal(known.version, 1);
 });

@@ -31,23 +31,22 @@ const inLines = (text) => text.replaceAll('\r', '\n');
 
 export class Editor {
   /**
-   * `lock` tells of two places of the text that shows whether this person may write nothing there, and `mayWrite` whether he may anywhere;
-   * `changed` is called after each change.
+   * `locks` tells where in the text that shows this person may write nothing, though he may elsewhere; `changed` is called after each change.
    *
    * @param {object} parts
    * @param {import('./copy.mjs').Copy} parts.copy
    * @param {import('./writer.mjs').Writer} parts.writer
    * @param {import('./ghosts.mjs').Ghosts} parts.ghosts
    * @param {import('./surface.mjs').Surface} parts.surface
-   * @param {(hold: import('./writer.mjs').Hold | null) => (start: number, end: number) => boolean} parts.lock
+   * @param {(hold: import('./writer.mjs').Hold | null) => import('./layout.mjs').Span[]} parts.locks
    * @param {() => void} parts.changed
    */
-  constructor({ copy, writer, ghosts, surface, lock, changed }) {
+  constructor({ copy, writer, ghosts, surface, locks, changed }) {
     this.copy = copy;
     this.writer = writer;
     this.ghosts = ghosts;
     this.surface = surface;
-    this.lock = lock;
+    this.locks = locks;
     this.changed = changed;
     this.root = surface.root;
     this.isClosed = false; // nothing more may be typed
@@ -72,7 +71,7 @@ export class Editor {
   listen() {
     const { root } = this;
     root.addEventListener('beforeinput', (event) => this.input(event));
-    root.addEventListener('input', () => this.isComposing && this.compose());
+    root.addEventListener('input', () => (this.isComposing ? this.compose() : this.composed()));
     root.addEventListener('keydown', (event) => this.key(event));
     root.addEventListener('copy', (event) => this.give(event));
     root.addEventListener('cut', (event) => this.give(event));
@@ -174,6 +173,7 @@ export class Editor {
   input(event) {
     const { inputType: kind } = event;
     if (kind === 'insertCompositionText' || event.isComposing) return;
+    if (this.isComposing) this.composed(); // it ended without a word of that
     event.preventDefault();
     if (this.isReadOnly) return;
     if (kind === 'historyUndo' || kind === 'historyRedo') return this.turn(kind === 'historyUndo' ? 'undo' : 'redo');
@@ -242,7 +242,7 @@ export class Editor {
     this.pause = setTimeout(() => this.waiting.length && this.composed(), COMES_MS);
   }
 
-  // What the browser wrote while a word was composed is read out of the page.
+  // What the browser wrote by itself, as while a word was composed, is read out of the page.
   composed() {
     clearTimeout(this.pause);
     this.isComposing = false;
@@ -251,11 +251,9 @@ export class Editor {
     const now = this.surface.read();
     const caret = this.caretInPage();
     this.surface.forget();
-    if (this.isReadOnly) this.show();
-    else {
-      const change = difference(inLines(text), now, now.length - caret);
-      this.write(change.start, change.end, change.text, true);
-    }
+    const { start, end, text: put } = difference(inLines(text), now, now.length - caret);
+    if (this.isReadOnly || (start === end && !put)) this.show();
+    else this.write(start, end, put, true);
     this.plan();
   }
 
@@ -279,14 +277,19 @@ export class Editor {
     const { text, hold } = writer.view();
     this.isShowing = true;
     const isHere = document.activeElement === root;
-    root.setAttribute('aria-readonly', String(this.isReadOnly));
+    this.tellReadOnly();
     const ghosts = this.ghosts.all().map((it) => ({ ...it, offset: writer.inView(it.offset, hold) }));
     root.classList.toggle('is-blank', !text && !ghosts.length);
-    surface.show(inLines(text), this.runs(hold), ghosts, this.lock(hold));
+    surface.show({ text: inLines(text), runs: this.runs(hold), ghosts, locks: this.locks(hold) });
     const [from, to] = [anchor, focus].map((it) => Math.max(0, Math.min(it, text.length)));
     this.caret = { anchor: from, focus: to };
     if (isHere) surface.select(from, to);
     this.isShowing = false;
+  }
+
+  tellReadOnly() {
+    const told = String(this.isReadOnly);
+    if (this.root.getAttribute('aria-readonly') !== told) this.root.setAttribute('aria-readonly', told);
   }
 
   /**
@@ -295,14 +298,13 @@ export class Editor {
    * @param {import('./writer.mjs').Hold | null} hold
    */
   runs(hold) {
-    const runs = this.copy.pieces.runs().map(({ end, user }) => ({ end, name: colourOf(user) }));
+    const runs = this.copy.pieces.runs().map(({ start, end, user }) => ({ start, end, name: colourOf(user) }));
     if (!hold) return runs;
-    const shift = hold.text.length - (hold.end - hold.start);
-    const nameBehind = runs.find(({ end }) => end > hold.start)?.name ?? '';
-    const front = runs.filter(({ end }) => end <= hold.start);
-    const back = runs.filter(({ end }) => end > hold.end).map(({ end, name }) => ({ end: end + shift, name }));
-    if ((front.at(-1)?.end ?? 0) < hold.start) front.push({ end: hold.start, name: nameBehind });
-    return [...front, { end: hold.start + hold.text.length, name: 'held' }, ...back];
+    const { start, end, text } = hold;
+    const shift = text.length - (end - start);
+    const front = runs.filter((it) => it.start < start).map((it) => ({ ...it, end: Math.min(it.end, start) }));
+    const back = runs.filter((it) => it.end > end).map((it) => ({ ...it, start: Math.max(it.start, end) + shift, end: it.end + shift }));
+    return [...front, ...(text ? [{ start, end: start + text.length, name: 'held' }] : []), ...back];
   }
 
   close() {

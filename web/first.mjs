@@ -1,6 +1,6 @@
-// What a page asks a host for once: all that a document has, and where a document of an identity is.
+// What a page asks a host for once: all that a document has, and how the house lists a document.
 import { closeOf } from './closes.mjs';
-import { isEntry, joined, requestOf, split } from './frames.mjs';
+import { isEntry, joined, split, userOf } from './frames.mjs';
 import { helloText, readText } from './protocol.mjs';
 
 const NOBODY = 'The host is not there, or it has no such document, and this browser has nothing of it yet.';
@@ -34,7 +34,7 @@ export function wholeDocument(address, device, told, dial = usual) {
       messages.push(bytes);
       for (const frame of split(bytes)) {
         count++;
-        if (!isEntry(frame) && requestOf(frame).user === device.site) own++;
+        if (!isEntry(frame) && userOf(frame) === device.site) own++;
       }
     };
     socket.addEventListener('open', () => socket.send(helloText(device)));
@@ -52,22 +52,22 @@ export function wholeDocument(address, device, told, dial = usual) {
 }
 
 /**
- * The name of the document of an identity: '' where the house has none, and null where nobody tells.
+ * A document of a house, as its host lists it: undefined where it has none such, and null where nobody tells.
  *
  * @param {string} address of a link to the house
  * @param {import('./device.mjs').Device} device
- * @param {string} identity
+ * @param {(document: import('./protocol.mjs').DocumentLine) => boolean} isSought
  * @param {Dial} [dial]
- * @returns {Promise<string | null>}
+ * @returns {Promise<import('./protocol.mjs').DocumentLine | undefined | null>}
  */
-export function whereIs(address, device, identity, dial = usual) {
+export function askDocument(address, device, isSought, dial = usual) {
   const socket = dial(address);
   return new Promise((done) => {
     socket.addEventListener('open', () => socket.send(helloText(device)));
     socket.addEventListener('message', ({ data }) => {
       const heard = readText(String(data));
       if (heard.kind !== 'documents') return;
-      done(heard.documents.find((it) => it.identity === identity)?.name ?? '');
+      done(heard.documents.find(isSought));
       socket.close();
     });
     socket.addEventListener('close', () => done(null));

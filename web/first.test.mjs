@@ -1,6 +1,6 @@
 import assert from 'node:assert/strict';
 import test from 'node:test';
-import { whereIs, wholeDocument } from './first.mjs';
+import { askDocument, wholeDocument } from './first.mjs';
 import { switchboard } from './testing_links.mjs';
 
 const IDENTITY = 'ab'.repeat(16);
@@ -37,14 +37,15 @@ test('an empty document, and none', async () => {
   }
 });
 
-test('where a document is', async () => {
+test('how a document is listed', async () => {
   const { wires, dial } = switchboard();
-  const rows = [[`documents\ndocument plan ${IDENTITY} closed`, 'plan'], ['documents', ''], [null, null]];
-  for (const [text, name] of rows) {
-    const found = whereIs('ws://localhost/link', DEVICE, IDENTITY, dial);
+  const line = { name: 'plan', identity: IDENTITY, state: 'damaged' };
+  const rows = [[`documents\ndocument plan ${IDENTITY} damaged`, line], ['documents', undefined], [null, null]];
+  for (const [text, wanted] of rows) {
+    const asked = askDocument('ws://localhost/link', DEVICE, ({ identity }) => identity === IDENTITY, dial);
     wires.at(-1).open();
     if (text) wires.at(-1).bring(text);
     else wires.at(-1).cut();
-    assert.equal(await found, name);
+    assert.deepEqual(await asked, wanted);
   }
 });

@@ -58,6 +58,15 @@ export function requestOf(frame) {
 }
 
 /**
+ * The user of the request of a frame.
+ *
+ * @param {Uint8Array} frame
+ */
+export function userOf(frame) {
+  return (frame[NAME_AT + STAMP_BYTES] << 8) | frame[NAME_AT + STAMP_BYTES + 1];
+}
+
+/**
  * The name of the element that the request of a frame deletes; null where it deletes none.
  *
  * @param {Uint8Array} frame

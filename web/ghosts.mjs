@@ -30,6 +30,8 @@ export class Ghosts {
     /** @type {Refused[]} they stay where the page is loaded again */
     this.refused = JSON.parse(storage.getItem(this.refusedKey) ?? '[]');
     this.count = this.refused.reduce((most, { key }) => Math.max(most, Number(key.split(' ')[1]) + 1), 0);
+    /** @type {{ items: number, ghosts: Ghost[] } | null} those that stand in the text, if nothing changed since they were asked for, and how many items the journal had then */
+    this.known = null;
   }
 
   get refusedKey() {
@@ -52,6 +54,7 @@ export class Ghosts {
   }
 
   keepRefused() {
+    this.known = null;
     this.storage.setItem(this.refusedKey, JSON.stringify(this.refused));
   }
 
@@ -61,6 +64,12 @@ export class Ghosts {
    * @returns {Ghost[]}
    */
   all() {
+    const { count } = this.copy.journal;
+    if (this.known?.items !== count) this.known = { items: count, ghosts: this.ask() };
+    return this.known.ghosts;
+  }
+
+  ask() {
     const undone = joined(ordered([...this.lost().values()]));
     const shown = undone.map((it) => ({ ...it, answer: '', isRefused: false }));
     return [...shown, ...this.standing()].sort((a, b) => a.offset - b.offset);

@@ -2,7 +2,7 @@
 // doesn't answer is left alone.
 
 const ASK_MS = 300; // the other page may just be opening, and hear nothing yet
-const PATIENCE_MS = 6000; // a page that is loaded again waits for itself to be gone
+const PATIENCE_MS = 15000; // a page that is loaded again waits for itself to be gone, also on a slow machine
 const ASKED = 'let go';
 
 /** Another page has it, and didn't let go. */

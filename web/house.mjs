@@ -24,8 +24,8 @@ export class House {
       lost: () => this.showHere([]),
       takesTurns: true, // a page of a document that looks where it is takes this one's place for a moment
     });
-    this.people = new People(this.line.orders, device.site, () => this.keys.show());
-    this.keys = new Keys(this.line.orders, device.site);
+    this.people = new People(this.line.orders, device.site, () => this.keys.ask());
+    this.keys = new Keys(this.line.orders, device.site, (all) => this.people.take(all));
     this.documents = new Documents(base, (line) => this.people.order(line));
     for (const it of ['documents', 'side']) hide(it, false);
     document.body.classList.add('is-house');
@@ -38,6 +38,7 @@ export class House {
     else if (heard.kind === 'documents') this.documents.take(heard.documents);
     else if (heard.kind === 'here') return this.showHere(heard.sites);
     this.show();
+    if (heard.kind === 'people' && this.people.isOwner) this.keys.ask();
   }
 
   /** @param {number[]} sites */

@@ -1,33 +1,44 @@
 // The devices and invitations of a house, which an owner sees and closes.
 import { directory } from './directory.mjs';
-import { button, item, of, say } from './elements.mjs';
+import { button, item, of, say, staying } from './elements.mjs';
 import { NotDone } from './orders.mjs';
 import { readKeys } from './protocol.mjs';
 import { ask } from './question.mjs';
 import { notDone } from './told.mjs';
 import * as words from './words.mjs';
 
+/** @typedef {{ kind: string, number: number, person: number, isOpen: boolean }} Key an invitation or a device */
+
 export class Keys {
   /**
    * @param {import('./orders.mjs').Orders} orders
    * @param {number} site of this browser's device
+   * @param {(all: Key[]) => void} told is given all of them, as the host answers an owner
    */
-  constructor(orders, site) {
+  constructor(orders, site, told) {
     this.orders = orders;
     this.site = site;
+    this.told = told;
+    /** @type {Key[]} */
+    this.all = [];
     this.part = of('keys-part', HTMLDetailsElement);
-    this.part.addEventListener('toggle', () => this.show());
+    this.part.addEventListener('toggle', () => this.part.open && this.ask());
   }
 
-  // Shows those that are open, asked for anew.
-  async show() {
-    if (!this.part.open) return;
+  // Asks for them anew, and shows those that are open. Where there is no link they are asked for once there is.
+  async ask() {
     try {
       const [, ...lines] = await this.orders.ask('keys');
-      of('keys').replaceChildren(...readKeys(lines).filter(({ isOpen }) => isOpen).map((it) => this.key(it)));
+      this.all = readKeys(lines);
+      this.told(this.all);
+      this.show();
     } catch (error) {
-      this.tell(error);
+      if (!(error instanceof NotDone) || error.words) this.tell(error);
     }
+  }
+
+  show() {
+    staying('keys', () => of('keys').replaceChildren(...this.all.filter(({ isOpen }) => isOpen).map((it) => this.key(it))));
   }
 
   /** @param {{ kind: string, number: number, person: number }} key */
@@ -48,7 +59,7 @@ export class Keys {
     if ((await ask({ title: `Close ${what.charAt(0).toLowerCase()}${what.slice(1)}?`, undone, yes: 'Close it' })) !== 'yes') return;
     try {
       await this.orders.ask(`close ${kind} ${number}`);
-      await this.show();
+      await this.ask();
     } catch (error) {
       this.tell(error);
     }

@@ -53,12 +53,12 @@ export class Lists {
   }
 
   /**
-   * @param {string} people who are known, as one word
+   * @param {number} people how often what is known of people changed
    * @param {boolean} isOwner
    */
   show(people, isOwner) {
     const { policy, undone, journal, entries } = this.copy;
-    say('room', words.room(journal.count - entries.length, policy.version));
+    if (this.isNew('room', journal.count)) say('room', words.room(journal.count - entries.length, policy.version));
     this.seen.note(policy.version);
     if (this.isNew('rules', policy.version, people, isOwner)) {
       this.showRules(isOwner);

@@ -3,14 +3,16 @@ import { Copy } from './copy.mjs';
 import { deviceAt, join, keepDevice } from './device.mjs';
 import { directory } from './directory.mjs';
 import { hide, of, say } from './elements.mjs';
-import { whereIs, wholeDocument } from './first.mjs';
+import { askDocument, wholeDocument } from './first.mjs';
 import { Held, hold } from './holding.mjs';
 import { House } from './house.mjs';
+import { lacking } from './needs.mjs';
 import { damaged, NotOpen, tellNotOpen } from './opening.mjs';
 import { Page } from './page.mjs';
 import { Module, NoJournal, NoMemory } from './peer.mjs';
 import { documentPath, linkAddress, placeOf } from './places.mjs';
 import { Store } from './store.mjs';
+import { notOpened } from './told.mjs';
 
 /**
  * @typedef {import('./device.mjs').Device} Device
@@ -18,6 +20,7 @@ import { Store } from './store.mjs';
  */
 
 const OTHER_NAMES = ['127.0.0.1', '[::1]'];
+const UNREAD = '0'.repeat(32); // the identity of a document whose host can't read it
 const ELSEWHERE = 'roastcliff elsewhere'; // by which a page that is loaded again knows that another one goes on
 
 const UNINVITED = 'Open the address of your invitation. An owner of the documents gives it to you.';
@@ -25,6 +28,7 @@ const FRAMED = 'This page is shown within another one, which could have you pres
 const INSECURE = 'Open this page from localhost or over https: elsewhere it cannot keep what you write, nor tell whether you have another page.';
 const GOES_ON = 'You opened this document in another page of this browser, and it goes on there. All that you wrote here is kept.';
 const OPEN_ALREADY = 'Another page of this browser has this document open, and does not let it go. Go on there, or close it first.';
+const NONE_HERE = 'There is no document of this name in this house.';
 const PUT_AWAY = 'This document was put away by an owner. What this browser has of it stays here: export the text to keep it.';
 
 /** @param {Error} error */
@@ -32,30 +36,13 @@ function tell(error) {
   say('status', error instanceof NoMemory ? 'Memory is wanting. What was asked for was not done, or it is not told.' : error.message);
 }
 
-// ---- what this browser can
-
-// What the page needs of a browser, besides the module.
-const NEEDS = [
-  { what: 'highlights in a text', isThere: () => 'highlights' in CSS },
-  { what: 'text fields without marks (plaintext-only)', isThere: canBePlain },
-  { what: 'a store of its own (IndexedDB)', isThere: () => 'indexedDB' in globalThis },
-];
-
-function canBePlain() {
-  const it = document.createElement('div');
-  it.setAttribute('contenteditable', 'plaintext-only');
-  return it.contentEditable === 'plaintext-only';
-}
-
 async function load() {
-  const missing = NEEDS.filter(({ isThere }) => !isThere()).map(({ what }) => what);
-  if (missing.length) throw new Error(`This browser cannot show the page: it lacks ${missing.join(' and ')}. A Chromium or Chrome from version 133 can, and a Firefox from 153.`);
   const response = await fetch('editor.wasm');
   if (!response.ok) throw new Error('There is no editor.wasm at this host: web/build makes it.');
   try {
     return await Module.load(await response.arrayBuffer());
   } catch (error) {
-    throw new Error(`This browser cannot run the editor: it needs WebAssembly with a memory of 64 bits. A Chromium or Chrome from version 133, or a Firefox from 134, has it. (${error.message})`);
+    throw new Error(`This browser cannot run the editor, though it says that it can. Tell who hosts the documents. (${error.message})`);
   }
 }
 
@@ -115,7 +102,7 @@ async function kept(spot, device) {
   const bytes = (await store?.read()) ?? new Uint8Array(0);
   if (known && store && bytes.length) return { identity: known, store, bytes };
   const tellCount = (count, saved) => say('standing', saved > 1000 && saved < Infinity ? `Opening… ${Math.floor((100 * count) / saved)} %` : 'Opening…');
-  const whole = await wholeDocument(linkAddress(location, spot.base, spot.document), device, tellCount);
+  const whole = await wholeDocument(linkAddress(location, spot.base, spot.document), device, tellCount).catch((error) => tellWhy(spot, device, error));
   localStorage.setItem(`roastcliff identity ${keyOf(spot)}`, whole.identity);
   const found = await storeOf(whole.identity, device);
   const old = await found.read();
@@ -142,20 +129,35 @@ async function copyOf(module, device, { store, bytes }, name) {
 }
 
 /**
- * Goes to the document of an identity, where that has another name; else gives words where it is nowhere.
+ * Says why a document can't be had, as far as the house tells it.
+ *
+ * @param {Spot} spot
+ * @param {Device} device
+ * @param {Error} error
+ * @returns {Promise<never>}
+ */
+async function tellWhy(spot, device, error) {
+  const line = await askDocument(linkAddress(location, spot.base, null), device, ({ name }) => name === spot.document);
+  const words = line ? notOpened(line.state, false) : line === undefined ? NONE_HERE : '';
+  throw words ? new NotOpen(words, [{ word: 'All documents', act: () => location.assign(spot.base) }]) : error;
+}
+
+/**
+ * Goes to the document of an identity, where that has another name; else gives what there is to say of it, and whether it is gone for good.
  *
  * @param {Spot} spot
  * @param {Device} device
  * @param {string} identity
  */
 async function seek(spot, device, identity) {
-  const name = await whereIs(linkAddress(location, spot.base, null), device, identity);
-  if (name === null || name === spot.document) return '';
-  if (name === '') return PUT_AWAY;
-  localStorage.setItem(`roastcliff identity ${keyOf({ ...spot, document: name })}`, identity);
+  const isIt = (it) => it.identity === identity || (it.identity === UNREAD && it.name === spot.document);
+  const line = await askDocument(linkAddress(location, spot.base, null), device, isIt);
+  if (line === undefined) return { words: PUT_AWAY, isOver: true };
+  if (line === null || line.name === spot.document) return { words: line ? notOpened(line.state, true) : '', isOver: false };
+  localStorage.setItem(`roastcliff identity ${keyOf({ ...spot, document: line.name })}`, identity);
   localStorage.removeItem(`roastcliff identity ${keyOf(spot)}`);
-  location.replace(documentPath(spot.base, name));
-  return '';
+  location.replace(documentPath(spot.base, line.name));
+  return { words: '', isOver: false };
 }
 
 /**
@@ -238,6 +240,8 @@ async function start() {
   if (top !== self) throw new NotOpen(FRAMED);
   if (goesAlone() || goesToLocalhost()) return;
   if (!navigator.locks) throw new NotOpen(INSECURE);
+  const missing = lacking();
+  if (missing) throw new NotOpen(missing);
   const place = placeOf(location);
   const { base, document: name } = place;
   if (location.hash) history.replaceState(null, '', location.pathname);

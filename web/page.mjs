@@ -6,13 +6,16 @@ import { Editor } from './editor.mjs';
 import { download, hide, made, of, say } from './elements.mjs';
 import { Finder } from './finder.mjs';
 import { Ghosts } from './ghosts.mjs';
+import { Groups } from './groups.mjs';
 import { Keeper } from './keeper.mjs';
 import { Keys } from './keys.mjs';
+import { closed } from './layout.mjs';
 import { deniedBy } from './lines.mjs';
 import { Lists } from './lists.mjs';
 import { Note } from './note.mjs';
 import { People } from './people.mjs';
 import { Presence } from './presence.mjs';
+import { Protection } from './protection.mjs';
 import { caretText } from './protocol.mjs';
 import { Rules } from './rules.mjs';
 import { Surface } from './surface.mjs';
@@ -34,13 +37,13 @@ const LOOK_MS = 50;
 
 export class Page {
   /**
-   * `seek` looks where the document is, as it isn't here any more; it gives words where it is nowhere.
+   * `seek` looks where the document is, as it isn't here any more; it gives what there is to say of it, and whether it is gone for good.
    *
    * @param {import('./copy.mjs').Copy} copy
    * @param {import('./store.mjs').Store} store
    * @param {import('./store.mjs').Marks} marks
    * @param {At} at
-   * @param {() => Promise<string>} seek
+   * @param {() => Promise<{ words: string, isOver: boolean }>} seek
    */
   constructor(copy, store, marks, at, seek) {
     this.copy = copy;
@@ -49,7 +52,8 @@ export class Page {
     this.undone = copy.undone.count; // so many edits were undone when it was said last
     this.saidUntil = 0; // what the status says stays until then
     this.hasRefused = false;
-    this.ending = ''; // why the page isn't linked any more, where the line doesn't say
+    /** @type {{ version: number, extents: import('./policy.mjs').Extent[] }} */
+    this.shutBy = { version: -1, extents: [] }; // of a version of the rules, where this person may do nothing
     this.ghosts = new Ghosts(copy, localStorage, `roastcliff let go ${at.key}`);
     this.surface = new Surface(of('text'), (it) => this.ghost(it));
     this.writer = new Writer(copy, {
@@ -65,7 +69,7 @@ export class Page {
       writer: this.writer,
       ghosts: this.ghosts,
       surface: this.surface,
-      lock: (hold) => this.locked(hold),
+      locks: (hold) => this.locks(hold),
       changed: () => this.changed(),
     });
     this.presence = new Presence(copy, (it) => this.sync.line.say(caretText(it)));
@@ -74,8 +78,10 @@ export class Page {
     this.sync = this.linked(marks);
     this.writer.resume(this.sync.waiting);
     this.rules = new Rules(copy, this.editor, this.sync.line.orders, () => this.settled());
-    this.people = new People(this.sync.line.orders, copy.site, () => this.keys.show(), this.rules);
-    this.keys = new Keys(this.sync.line.orders, copy.site);
+    this.people = new People(this.sync.line.orders, copy.site, () => this.keys.ask(), this.rules);
+    this.groups = new Groups(copy, this.rules);
+    this.protection = new Protection(copy.policy, () => this.people.own, { protect: (it) => this.rules.protect(it), group: (it) => this.groups.make(it) });
+    this.keys = new Keys(this.sync.line.orders, copy.site, (all) => this.people.take(all));
     this.lists = new Lists(copy, `roastcliff seen ${at.key}`, (place) => this.rules.remove(place));
     this.keeper = new Keeper(copy, store, { marks: () => this.sync.marks, kept: () => this.kept(), failed: (error) => this.stop(error) });
     this.open();
@@ -113,12 +119,6 @@ export class Page {
     });
     of('export').addEventListener('click', () => this.export());
     of('more').addEventListener('click', () => this.turnAside());
-    of('protect-form').addEventListener('submit', (event) => {
-      event.preventDefault();
-      /** @type {NodeListOf<HTMLInputElement>} */
-      const chosen = document.querySelectorAll('#protect-whom input:checked');
-      this.rules.protect([...chosen].map((it) => Number(it.value)));
-    });
     document.addEventListener('selectionchange', () => this.tellCaret());
     for (const it of ['online', 'pageshow']) addEventListener(it, () => this.sync.line.hurry());
     addEventListener('pagehide', () => this.keepUndo());
@@ -145,6 +145,7 @@ export class Page {
     localStorage.setItem(`roastcliff people ${this.at.key}`, JSON.stringify(directory.kept));
     this.editor.show();
     this.changed();
+    if (this.people.isOwner) this.keys.ask();
   }
 
   /** @param {Set<number>} sites */
@@ -162,8 +163,10 @@ export class Page {
     this.presence.keepOnly(new Set());
     this.carets.show();
     if (then !== 'seek' && this.sync.line.failures !== 2) return;
-    this.ending = await this.seek();
-    if (this.ending) this.sync.line.close();
+    const { words: told, isOver } = await this.seek();
+    if (this.sync.isWelcome) return;
+    this.sync.line.words = told || this.sync.line.words;
+    if (isOver) this.sync.line.close();
     else this.sync.line.resume();
     this.tell();
   }
@@ -175,28 +178,16 @@ export class Page {
     if (!this.keeper) return;
     this.keeper.keep();
     this.people.show();
-    this.lists.show(this.people.said, this.people.isOwner);
-    this.showWhom();
-    for (const it of ['protection', 'keys-part']) hide(it, !this.people.isOwner);
+    this.lists.show(directory.version, this.people.isOwner);
+    this.groups.show(this.people.isOwner);
+    if (this.people.isOwner && this.sync.isCaughtUp) this.groups.follow();
+    this.protection.show(this.people.isOwner);
+    hide('keys-part', !this.people.isOwner);
     this.tellUndone();
     this.tellCaret();
     this.carets.show();
+    this.tell();
     if (this.copy.isStale) say('status', words.STALE);
-  }
-
-  // Who may be chosen to write in a protected paragraph: all who write.
-  showWhom() {
-    const people = [...directory.people.values()].filter(({ role }) => role !== 'reader');
-    const said = JSON.stringify(people);
-    if (of('protect-whom').dataset.said === said) return;
-    of('protect-whom').dataset.said = said;
-    of('protect-whom').replaceChildren(...people.map(({ person, name }) => {
-      const box = document.createElement('input');
-      box.type = 'checkbox';
-      box.value = String(person);
-      box.checked = person === this.people.own;
-      return made('label', 'choice', box, ' ', words.isolated(name));
-    }));
   }
 
   // A writer's edit was made, maybe by a timer.
@@ -205,15 +196,13 @@ export class Page {
     if (!this.writer.isRefused) this.forgetRefusal();
     this.editor.show();
     this.changed();
-    this.tell();
   }
 
   // How the page stands with its host.
   tell() {
     if (!this.keeper) return;
     const { isWelcome, isCaughtUp, unsaved, isHeldBack, line, role } = this.sync;
-    const isOver = line.isOver || this.ending !== '';
-    const told = standing({ isWelcome, isCaughtUp, unsaved, isHeldBack, words: this.ending || line.words || this.sync.closed, isOver }, this.keeper.isDone && !this.writer.held);
+    const told = standing({ isWelcome, isCaughtUp, unsaved, isHeldBack, words: line.words || this.sync.closed, isOver: line.isOver }, this.keeper.isDone && !this.writer.held);
     say('standing', told.text);
     of('standing').dataset.kind = told.kind;
     if (this.editor.isReader !== (role === 'reader')) {
@@ -302,7 +291,7 @@ export class Page {
     const open = (event) => {
       event.preventDefault();
       event.stopPropagation();
-      this.note.tell(it.offset, words.whyGhost(it, this.copy.policy), it, element);
+      this.note.tell(this.surface.offsetOfElement(element), words.whyGhost(it, this.copy.policy), it, element);
     };
     element.addEventListener('mousedown', (event) => event.preventDefault());
     element.addEventListener('click', open);
@@ -317,17 +306,23 @@ export class Page {
   }
 
   /**
-   * Tells of two places of the text that shows whether this person may do nothing there, though he may elsewhere.
+   * Where in the text that shows this person may do nothing, though he may elsewhere.
    *
    * @param {import('./writer.mjs').Hold | null} hold
    */
-  locked(hold) {
+  locks(hold) {
     const { copy, writer } = this;
-    const spans = [...copy.policy.objects.values()].filter(({ kind }) => kind === 'span');
-    const isShut = (extent) => ['i', 'd', 'u'].every((right) => !copy.policy.allows(copy.site, right, (it) => it.kind === 'all' || it === extent));
-    const placesOf = (extent) => [copy.firstOf(extent.words[0]), copy.peer.shownUpTo(extent.words[1]) ?? 0].map((it) => writer.inView(copy.pieces.startOf(it), hold));
-    const shut = spans.filter(isShut).map(placesOf);
-    return (start, end) => shut.some(([from, to]) => from < to && start < to && from < Math.max(end, start + 1));
+    const inView = (/** @type {number} */ place) => writer.inView(copy.pieces.startOf(place), hold);
+    return closed(this.shut.map(({ words: [first, last] }) => ({ start: inView(copy.firstOf(first)), end: inView(copy.peer.shownUpTo(last) ?? 0), name: 'locked' })));
+  }
+
+  // The extents of paragraphs in which this person may do nothing.
+  get shut() {
+    const { policy, site } = this.copy;
+    if (this.shutBy.version === policy.version) return this.shutBy.extents;
+    const isShut = (extent) => ['i', 'd', 'u'].every((right) => !policy.allows(site, right, (it) => it.kind === 'all' || it === extent));
+    this.shutBy = { version: policy.version, extents: [...policy.objects.values()].filter((it) => it.kind === 'span' && isShut(it)) };
+    return this.shutBy.extents;
   }
 
   // ---- the rest

@@ -5,7 +5,7 @@ import { button, hide, made, of, say, staying } from './elements.mjs';
 import { Leaving } from './leaving.mjs';
 import { NotDone } from './orders.mjs';
 import { ask, askWords } from './question.mjs';
-import { notDone, role as roleWords } from './told.mjs';
+import { invited, notDone, powersTold, role as roleWords, whereabouts } from './told.mjs';
 import * as words from './words.mjs';
 
 /** @typedef {import('./protocol.mjs').Person} Person */
@@ -24,17 +24,20 @@ export class People {
   /**
    * @param {import('./orders.mjs').Orders} orders
    * @param {number} site of this browser's device
-   * @param {() => void} closed is called when devices or invitations were closed
+   * @param {() => void} changed is called when devices or invitations were made or closed
    * @param {import('./rules.mjs').Rules | null} rules of the document, if the page is at one
    */
-  constructor(orders, site, closed, rules = null) {
+  constructor(orders, site, changed, rules = null) {
     this.orders = orders;
     this.site = site;
+    this.changed = changed;
     this.rules = rules;
-    this.leaving = new Leaving(orders, rules, closed);
+    this.leaving = new Leaving(orders, rules, changed);
     /** @type {Set<number>} the sites that have a link now */
     this.here = new Set();
-    this.said = ''; // what the lists were made of
+    /** @type {Set<number> | null} the persons of whom a device or an invitation is open; null where the host didn't tell, as it tells owners alone */
+    this.open = null;
+    this.said = ''; // of what the lists were made
     of('new-person').addEventListener('submit', (event) => {
       event.preventDefault();
       this.inviteNew(of('new-name', HTMLInputElement).value.trim(), of('new-role', HTMLSelectElement).value);
@@ -55,16 +58,38 @@ export class People {
     return new Set([...this.here].map((site) => directory.personOf(site)));
   }
 
+  /**
+   * What is open of whom, as the host tells an owner.
+   *
+   * @param {import('./keys.mjs').Key[]} all
+   */
+  take(all) {
+    this.open = new Set(all.filter(({ isOpen }) => isOpen).map(({ person }) => person));
+    this.show();
+  }
+
   show() {
-    const { present } = this;
-    const people = [...directory.people.values()].sort((a, b) => a.person - b.person);
-    const rows = people.map((it) => ({ it, isHere: present.has(it.person), powers: this.powersOf(it), mayWrite: this.rules?.mayWrite(it.person) ?? true }));
-    const said = JSON.stringify([rows, this.isOwner]);
+    const { present, isOwner } = this;
+    const said = JSON.stringify([directory.version, this.rules?.version ?? 0, [...this.here], isOwner, this.open && [...this.open]]);
     if (said === this.said) return;
     this.said = said;
-    hide('new-person', !this.isOwner);
-    of('here').replaceChildren(...rows.filter(({ isHere }) => isHere).map(({ it }) => hereItem(it)));
-    staying('people', () => of('people').replaceChildren(...rows.map((row) => this.item(row))));
+    hide('new-person', !isOwner);
+    const people = [...directory.people.values()].sort((a, b) => a.person - b.person);
+    of('here').replaceChildren(...people.filter(({ person }) => present.has(person)).map(hereItem));
+    staying('people', () => of('people').replaceChildren(...people.map((it) => this.item(it, this.stateOf(it, present)))));
+  }
+
+  /**
+   * @param {Person} it
+   * @param {Set<number | null>} present
+   * @returns {import('./told.mjs').Whereabouts}
+   */
+  stateOf({ person }, present) {
+    if (person === this.own) return 'self';
+    if (present.has(person)) return 'here';
+    const open = this.isOwner ? this.open : null;
+    if (open && !open.has(person)) return 'removed';
+    return directory.hasCome(person) ? 'away' : 'invited';
   }
 
   /** @param {Person} person */
@@ -74,13 +99,15 @@ export class People {
     return role === 'owner' && this.rules ? `${powers}; makes the rules` : powers;
   }
 
-  /** @param {{ it: Person, isHere: boolean, powers: string, mayWrite: boolean }} row */
-  item({ it, isHere, powers, mayWrite }) {
-    const isSelf = it.person === this.own;
-    const where = isSelf ? ' · you' : isHere ? ' · here now' : ' · away';
-    const name = made('p', isHere || isSelf ? '' : 'away', made('strong', '', words.isolated(it.name)), where);
-    const line = made('li', '', face(it), made('div', '', name, made('p', '', words.capital(powers), '.')));
-    if (this.isOwner) line.append(this.acts(it, isSelf, mayWrite));
+  /**
+   * @param {Person} it
+   * @param {import('./told.mjs').Whereabouts} state
+   */
+  item(it, state) {
+    const isThere = state === 'self' || state === 'here';
+    const name = made('p', isThere ? '' : 'away', made('strong', '', words.isolated(it.name)), ` · ${whereabouts(state)}`);
+    const line = made('li', '', face(it), made('div', '', name, made('p', '', powersTold(this.powersOf(it), state))));
+    if (this.isOwner) line.append(this.acts(it, state));
     return line;
   }
 
@@ -88,17 +115,19 @@ export class People {
    * What an owner does about a person.
    *
    * @param {Person} it
-   * @param {boolean} isSelf
-   * @param {boolean} mayWrite
+   * @param {import('./told.mjs').Whereabouts} state
    */
-  acts(it, isSelf, mayWrite) {
+  acts(it, state) {
     const { rules } = this;
+    const isSelf = state === 'self';
+    const mayWrite = rules?.mayWrite(it.person) ?? true;
     const word = mayWrite ? 'Forbid writing' : 'Allow writing';
     const row = made('div', 'row');
     if (rules && it.role !== 'reader' && !(isSelf && mayWrite)) row.append(button(word, `${word}: ${it.name}`, () => rules.allow(it.person, !mayWrite)));
     row.append(button('Invite again', `Invite again: ${it.name}`, () => this.invite(it.person, it.name)));
     row.append(button('Rename', `Rename ${it.name}`, () => this.rename(it)));
-    if (!isSelf) row.append(button('Remove', `Remove ${it.name}`, () => this.leaving.ask(it.person)), this.roles(it));
+    if (!isSelf && state !== 'removed') row.append(button('Remove', `Remove ${it.name}`, () => this.leaving.ask(it.person)));
+    if (!isSelf) row.append(this.roles(it));
     return row;
   }
 
@@ -154,7 +183,9 @@ export class People {
     say('invited-label', `Give this address to ${words.isolated(name)}, and to nobody else`);
     address.value = made[0].split(' ')[2];
     address.select();
-    say('status', `There is an invitation for ${words.isolated(name)}. Its address is below the list of people.`);
+    const role = directory.people.get(person)?.role ?? 'writer';
+    say('status', invited(words.isolated(name), role === 'reader' || (this.rules?.mayWrite(person) ?? true)));
+    this.changed();
   }
 
   /** @param {Person} it */

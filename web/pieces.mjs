@@ -1,6 +1,8 @@
 // A text, where its pieces end, in units of UTF-16 as the page counts them, and whose their letters are. A piece has at most 255 bytes, so
 // its size fits a byte.
 
+/** @typedef {{ start: number, end: number, user: number }} UserRun letters of one user, from one place of the text to another */
+
 const FIRST_ROOM = 256;
 const decoder = new TextDecoder('utf-8', { ignoreBOM: true }); // U+FEFF is a letter like others
 
@@ -65,6 +67,19 @@ export class Pieces {
     this.count = 0;
     this.known = 0; // the place that was asked for last, from which others are found, since they are mostly near
     this.knownStart = 0; // where its piece begins
+    /** @type {UserRun[] | null} whose the letters are, if it was asked for since they changed last */
+    this.knownRuns = null;
+  }
+
+  /**
+   * Notes whose the letters of a piece are that somebody changed.
+   *
+   * @param {number} place
+   * @param {import('./authors.mjs').Run[]} runs
+   */
+  giveAuthors(place, runs) {
+    this.authors.set(place, runs);
+    this.knownRuns = null;
   }
 
   /**
@@ -117,6 +132,7 @@ export class Pieces {
     let end = start;
     for (let i = place; i < place + removed; i++) end += this.sizes[i];
     this.text = this.text.slice(0, start) + added.join('') + this.text.slice(end);
+    this.knownRuns = null;
     this.move(place, place + removed, place + added.length);
     added.forEach((it, i) => {
       this.sizes[place + i] = it.length;
@@ -146,25 +162,47 @@ export class Pieces {
   }
 
   /**
-   * The letters of each user, one behind another: where they end, as few as can be.
+   * The letters of each user, one behind another, as few as can be. The first time behind a change it takes the time of the pieces.
    *
-   * @returns {{ end: number, user: number }[]}
+   * @returns {UserRun[]}
    */
   runs() {
-    /** @type {{ end: number, user: number }[]} */
-    const runs = [];
-    let end = 0;
-    const add = (length, user) => {
-      end += length;
-      const last = runs.at(-1);
-      if (last && last.user === user) last.end = end;
-      else if (length) runs.push({ end, user });
-    };
+    this.knownRuns ??= this.askRuns();
+    return this.knownRuns;
+  }
+
+  askRuns() {
+    const { sizes, users, authors } = this;
+    const changed = [...authors.keys()].sort((a, b) => a - b);
+    const row = new UserRuns();
+    let next = 0;
     for (let place = 0; place < this.count; place++) {
-      const changed = this.authors.get(place);
-      if (changed) changed.forEach(({ length, user }) => add(length, user));
-      else add(this.sizes[place], this.users[place]);
+      if (place !== changed[next]) row.add(sizes[place], users[place]);
+      else authors.get(changed[next++])?.forEach(({ length, user }) => row.add(length, user));
     }
-    return runs;
+    return row.runs;
+  }
+}
+
+// Runs of letters, of which no two beside each other are of one user.
+class UserRuns {
+  constructor() {
+    /** @type {UserRun[]} */
+    this.runs = [];
+    /** @type {UserRun | null} */
+    this.last = null;
+    this.end = 0;
+  }
+
+  /**
+   * @param {number} length
+   * @param {number} user
+   */
+  add(length, user) {
+    if (!length) return;
+    const start = this.end;
+    this.end += length;
+    if (this.last?.user === user) this.last.end = this.end;
+    else this.runs.push((this.last = { start, end: this.end, user }));
   }
 }

@@ -23,7 +23,7 @@ test('pieces from bytes', () => {
 test('whose letters', () => {
   const pieces = made(['one ', 1], ['two ', 1], ['three', 2]);
   assert.deepEqual(runsOf(pieces), [[8, 1], [13, 2]]);
-  pieces.authors.set(1, [{ length: 1, user: 3 }, { length: 3, user: 1 }]);
+  pieces.giveAuthors(1, [{ length: 1, user: 3 }, { length: 3, user: 1 }]);
   assert.deepEqual(runsOf(pieces), [[4, 1], [5, 3], [8, 1], [13, 2]]);
   pieces.splice(0, 0, ['zero '], 2); // what was changed moves with its piece
   assert.deepEqual(runsOf(pieces), [[5, 2], [9, 1], [10, 3], [13, 1], [18, 2]]);

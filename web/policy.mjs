@@ -113,7 +113,7 @@ export class Policy {
   }
 
   /**
-   * Whether a user who is a member of a group and of no other has a right, whether or not there is one.
+   * Whether a user has a right who is a member of a group, and of each other one of which a member of it is, whether or not there is one.
    *
    * @param {number} group
    * @param {string} right
@@ -121,8 +121,10 @@ export class Policy {
    * @param {Authorization[]} [authorizations] in place of the policy's own
    */
   allowsGroup(group, right, covers, authorizations = this.authorizations) {
+    const members = [...(this.groups.get(group) ?? [])];
+    const isIn = (/** @type {number} */ it) => it === group || members.some((user) => this.groups.get(it)?.has(user));
     /** @param {UserSet} users */
-    const isFor = ({ kind, numbers }) => kind === 'all' || (kind === 'groups' && numbers.includes(group));
+    const isFor = ({ kind, numbers }) => kind === 'all' || (kind === 'groups' && numbers.some(isIn));
     return this.isAllowed(isFor, right, covers, authorizations);
   }
 

@@ -23,6 +23,11 @@ test('what a policy allows', () => {
   assert.ok(policy.allowsGroup(2, 'i', everywhere, policy.authorizations.toSpliced(1, 1)));
 });
 
+test('who is in two groups', () => {
+  const policy = made('adduser 4', 'addgroup 2', 'addmember 2 4', 'addgroup 65535', 'addmember 65535 4', 'addauth 0 + @65535 i 0');
+  assert.deepEqual([2, 3].map((it) => policy.allowsGroup(it, 'i', everywhere)), [true, false]);
+});
+
 test('numbers', () => {
   const policy = made('addobj 1 span 1.4 2.4', 'delobj 1', 'adduser 4', 'deluser 4');
   assert.equal(policy.freeObject(), 2);

@@ -34,6 +34,11 @@ export class Rules {
     this.settled = settled;
   }
 
+  // The version of the rules.
+  get version() {
+    return this.copy.policy.version;
+  }
+
   /**
    * Whether a person may write in the whole text, by these authorizations.
    *
@@ -143,19 +148,19 @@ export class Rules {
   }
 
   /**
-   * Nobody but these persons may write in the paragraphs of the selection. The permission comes first: what isn't confirmed is judged by each
-   * change of the rules, also by one in between.
+   * Nobody but these persons and groups may write in the paragraphs of the selection. The permission comes first: what isn't confirmed is judged
+   * by each change of the rules, also by one in between.
    *
-   * @param {number[]} persons
+   * @param {number[]} groups
    */
-  protect(persons) {
+  protect(groups) {
     const ends = this.editor.paragraph();
     if (!ends) return say('status', 'There are no letters in the paragraph at the caret.');
     const { copy } = this;
     const number = copy.policy.freeObject();
-    const allowed = persons.length ? [`addauth 0 + @${persons.toSorted((a, b) => a - b).join(',')} idu ${number}`] : [];
+    const allowed = groups.length ? [`addauth 0 + @${groups.toSorted((a, b) => a - b).join(',')} idu ${number}`] : [];
     const operations = [`addobj ${number} span ${ends.join(' ')}`, ...allowed, `addauth ${allowed.length} - all idu ${number}`];
-    const who = persons.length ? `Let nobody but ${words.listed(persons.map(words.group))}` : 'Let nobody';
+    const who = groups.length ? `Let nobody but ${words.listed(groups.map((it) => words.group(it, copy.policy)))}` : 'Let nobody';
     return this.change(`${who} write in the paragraph ${words.cited(copy.excerpt(ends[0], ends[1]))}?`, 'Protect', operations);
   }
 }

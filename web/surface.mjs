@@ -1,16 +1,17 @@
-// The element in which the text shows: a line of it is an element, whose letters are text nodes alone. Colours of who wrote what are
-// highlights, which put nothing into the page. Words that aren't part of the text stand between its letters, and count for nothing.
+// The element in which the text shows: a line of it is an element, whose letters are text nodes alone, and so many lines stand on a shelf, so that
+// a browser that lays a line out anew goes by few others. Colours of who wrote what are highlights, which put nothing into the page. Words that
+// aren't part of the text stand between its letters, and count for nothing.
+import { countWhile, laidOut, renewed } from './layout.mjs';
 
 /**
- * A line: its text, where it begins, what is marked in it, the words that aren't part of it, whether nothing may be written there, a word
- * that differs where it is to be made anew, its element, and its highlights.
- *
  * @typedef {import('./ghosts.mjs').Ghost} Ghost
- * @typedef {{ start: number, end: number, name: string }} Mark
- * @typedef {{ end: number, name: string }} NamedRun
- * @typedef {{ text: string, start: number, marks: Mark[], ghosts: Ghost[], isLocked: boolean, signature: string, node: HTMLElement,
- *   ranges: [string, StaticRange][] }} Line
+ * @typedef {import('./layout.mjs').Shown} Shown
+ * @typedef {import('./layout.mjs').LaidLine & { node: HTMLElement, ranges: [string, StaticRange][] }} Line a line with its element and its
+ *   highlights
  */
+
+const MOST_OF_SHELF = 64; // lines; of more it is parted
+const SHELF = 'shelf';
 
 /**
  * The highlight of a name.
@@ -43,13 +44,17 @@ function lettersOf(node) {
   return [...node.childNodes].map(lettersOf).join('');
 }
 
+/** @param {Node} node */
+const isShelf = (node) => node instanceof Element && node.classList.contains(SHELF);
+
 /**
- * The text that stands in an element, a line in each of its elements.
+ * The text that stands in an element, a line in each element of its shelves, or in what a browser put beside these.
  *
  * @param {Element} root
  */
 export function textIn(root) {
-  return [...root.childNodes].map(lettersOf).join('\n');
+  const lines = [...root.childNodes].flatMap((it) => (isShelf(it) ? [...it.childNodes] : [it]));
+  return lines.map(lettersOf).join('\n');
 }
 
 export class Surface {
@@ -62,52 +67,68 @@ export class Surface {
     this.ghost = ghost;
     /** @type {Line[]} */
     this.lines = [];
+    /** @type {Shown | null} what shows, where the page's elements are as it wants them */
+    this.shown = null;
   }
 
   /**
-   * Shows a text with its runs, each behind the one before, its ghosts, and the places that are locked.
+   * Shows a text with what is marked in it. The elements of lines that are as they were stay.
    *
-   * @param {string} text
-   * @param {NamedRun[]} runs
-   * @param {Ghost[]} ghosts
-   * @param {(start: number, end: number) => boolean} isLocked
+   * @param {Shown} now
    */
-  show(text, runs, ghosts, isLocked) {
-    const lines = laidOut(text, runs, ghosts, isLocked);
-    const same = (a, b) => a.text === b.text && a.signature === b.signature;
-    const most = Math.min(lines.length, this.lines.length);
-    let front = 0;
-    while (front < most && same(lines[front], this.lines[front])) front++;
-    let back = 0;
-    while (back < most - front && same(lines[lines.length - 1 - back], this.lines[this.lines.length - 1 - back])) back++;
-    const old = this.lines.slice(front, this.lines.length - back);
-    const made = lines.slice(front, lines.length - back);
-    if (old.length || made.length) this.replace(old, made, this.lines[front + old.length]?.node ?? null);
-    this.carryOver(lines, front, back);
-    this.lines = lines;
-  }
-
-  // The lines that stay keep their elements.
-  carryOver(lines, front, back) {
-    const from = this.lines.length - lines.length;
-    for (let i = lines.length - back; i < lines.length; i++) keep(lines[i], this.lines[i + from]);
-    for (let i = 0; i < front; i++) keep(lines[i], this.lines[i]);
+  show(now) {
+    const { shown: old } = this;
+    this.shown = now;
+    if (!old) return this.replace(0, this.lines.length, laidOut(now));
+    const change = renewed(this.lines, old, now);
+    if (!change) return;
+    for (const it of this.lines.slice(change.to)) it.start += change.shift;
+    this.replace(change.from, change.to, change.made);
   }
 
   /**
-   * @param {Line[]} old
-   * @param {Line[]} made
-   * @param {Node | null} before
+   * Lines in place of those from one to another.
+   *
+   * @param {number} from
+   * @param {number} to
+   * @param {import('./layout.mjs').LaidLine[]} laid
    */
-  replace(old, made, before) {
-    for (const it of old) remove(it);
-    const all = document.createDocumentFragment();
-    for (const it of made) all.append(this.make(it));
-    this.root.insertBefore(all, before);
-    for (const it of made) mark(it);
+  replace(from, to, laid) {
+    const { lines } = this;
+    const made = laid.map((it) => this.make(it));
+    const shelf = (lines[from] ?? lines[from - 1])?.node.parentElement ?? this.newShelf(null);
+    const before = lines[from]?.node ?? null;
+    for (const { node } of made) shelf.insertBefore(node, before);
+    lines.slice(from, to).forEach(remove);
+    this.part(shelf);
+    made.forEach(mark);
+    this.lines = [...lines.slice(0, from), ...made, ...lines.slice(to)];
   }
 
-  /** @param {Line} line */
+  /** @param {Element | null} behind */
+  newShelf(behind) {
+    const shelf = document.createElement('div');
+    shelf.className = SHELF;
+    this.root.insertBefore(shelf, behind ? behind.nextSibling : null);
+    return shelf;
+  }
+
+  /**
+   * Parts a shelf of too many lines, from its end on.
+   *
+   * @param {Element} shelf
+   */
+  part(shelf) {
+    while (shelf.childElementCount > MOST_OF_SHELF) {
+      const next = this.newShelf(shelf);
+      for (let i = 0; i < MOST_OF_SHELF / 2 && shelf.lastChild; i++) next.prepend(shelf.lastChild);
+    }
+  }
+
+  /**
+   * @param {import('./layout.mjs').LaidLine} line
+   * @returns {Line}
+   */
   make(line) {
     const node = document.createElement('div');
     node.className = line.isLocked ? 'line locked' : 'line';
@@ -122,14 +143,14 @@ export class Surface {
     }
     letters(line.text.length);
     if (!line.text) node.append(document.createElement('br'));
-    line.node = node;
-    return node;
+    return { ...line, node, ranges: [] };
   }
 
   // Has everything made anew when it shows next, as the browser wrote into it.
   forget() {
     for (const it of this.lines) for (const [name, range] of it.ranges) highlight(name).delete(range);
     this.lines = [];
+    this.shown = null;
     this.root.replaceChildren();
   }
 
@@ -142,13 +163,7 @@ export class Surface {
 
   /** @param {number} offset */
   lineAt(offset) {
-    let [low, high] = [0, this.lines.length - 1];
-    while (low < high) {
-      const middle = (low + high + 1) >> 1;
-      if (this.lines[middle].start <= offset) low = middle;
-      else high = middle - 1;
-    }
-    return this.lines[low];
+    return this.lines[Math.max(0, countWhile(this.lines, ({ start }) => start <= offset) - 1)];
   }
 
   get end() {
@@ -164,11 +179,32 @@ export class Surface {
    */
   offsetOf(node, offset) {
     if (!this.root.contains(node)) return null;
-    if (node === this.root) return this.lines[offset]?.start ?? this.end;
+    const at = node.childNodes[offset] ?? null;
+    if (node === this.root) return this.startOfLine(at?.firstChild ?? null);
+    if (isShelf(node)) return this.startOfLine(at ?? node.nextSibling?.firstChild ?? null);
     let child = node;
-    while (child.parentNode && child.parentNode !== this.root) child = child.parentNode;
+    while (child.parentNode && !isShelf(child.parentNode)) child = child.parentNode;
     const line = this.lines.find((it) => it.node === child);
     return line ? line.start + lengthUpTo(child, node, offset) : null;
+  }
+
+  /**
+   * Where the line of an element begins; the text's end for none.
+   *
+   * @param {Node | null} node
+   */
+  startOfLine(node) {
+    return this.lines.find((it) => it.node === node)?.start ?? this.end;
+  }
+
+  /**
+   * The place in the text of an element that stands among its letters.
+   *
+   * @param {Element} element
+   */
+  offsetOfElement(element) {
+    const line = element.parentNode;
+    return (line && this.offsetOf(line, [...line.childNodes].indexOf(element))) ?? 0;
   }
 
   /**
@@ -207,7 +243,9 @@ export class Surface {
   select(anchor, focus = anchor) {
     const now = this.selection();
     const selection = getSelection();
-    if (now?.anchor === anchor && now.focus === focus && this.root.contains(selection?.focusNode ?? null)) return;
+    // A selection that stands beside lines, as where one was made anew, isn't where the letters are.
+    const isInLines = [selection?.anchorNode, selection?.focusNode].every((it) => it && it !== this.root && !isShelf(it) && this.root.contains(it));
+    if (isInLines && now?.anchor === anchor && now.focus === focus) return;
     selection?.setBaseAndExtent(...this.placeOf(anchor), ...this.placeOf(focus));
   }
 
@@ -243,66 +281,13 @@ function lengthUpTo(line, node, offset) {
   return length;
 }
 
-/**
- * The lines of a text, which have no elements yet.
- *
- * @param {string} text
- * @param {NamedRun[]} runs
- * @param {Ghost[]} ghosts
- * @param {(start: number, end: number) => boolean} isLockedAt
- */
-function laidOut(text, runs, ghosts, isLockedAt) {
-  const lines = [];
-  let [run, ghost] = [0, 0];
-  for (let start = 0; start <= text.length; ) {
-    const next = text.indexOf('\n', start);
-    const end = next < 0 ? text.length : next;
-    /** @type {Mark[]} */
-    const marks = [];
-    for (let at = start; at < end; ) {
-      while (runs[run].end <= at) run++;
-      const to = Math.min(runs[run].end, end);
-      marks.push({ start: at - start, end: to - start, name: runs[run].name });
-      at = to;
-    }
-    const own = [];
-    while (ghost < ghosts.length && ghosts[ghost].offset <= end) own.push(ghosts[ghost++]);
-    const isLocked = isLockedAt(start, end);
-    const signature = signatureOf(start, marks, own, isLocked);
-    lines.push({ text: text.slice(start, end), start, marks, ghosts: own, isLocked, signature, node: null, ranges: [] });
-    start = end + 1;
-  }
-  return /** @type {Line[]} */ (/** @type {unknown} */ (lines));
-}
-
-/**
- * A word for all that a line has besides its letters.
- *
- * @param {number} start
- * @param {Mark[]} marks
- * @param {Ghost[]} ghosts
- * @param {boolean} isLocked
- */
-function signatureOf(start, marks, ghosts, isLocked) {
-  let signature = isLocked ? 'L' : '';
-  for (const it of marks) signature += `${it.name}${it.end},`;
-  for (const it of ghosts) signature += `${it.offset - start}${it.key}${it.text}`;
-  return signature;
-}
-
-/**
- * @param {Line} line
- * @param {Line} old
- */
-function keep(line, old) {
-  line.node = old.node;
-  line.ranges = old.ranges;
-}
-
+// A shelf without lines goes too.
 /** @param {Line} line */
 function remove({ node, ranges }) {
   for (const [name, range] of ranges) highlight(name).delete(range);
+  const shelf = node.parentElement;
   node.remove();
+  if (!shelf?.childElementCount) shelf?.remove();
 }
 
 /**

@@ -1,7 +1,7 @@
 // A copy over a line to its document's host, live both ways: what the host has is given from where this page is, and this device's
 // requests are sent as soon as they are kept here. One that comes back is saved there.
 import { BadFrame } from './copy.mjs';
-import { isEntry, joined, requestOf, split } from './frames.mjs';
+import { isEntry, joined, requestOf, split, userOf } from './frames.mjs';
 import { MOST_MESSAGE_BYTES } from './limits.mjs';
 import { Line } from './line.mjs';
 import { helloText } from './protocol.mjs';
@@ -73,7 +73,7 @@ export class Sync {
     const { journal, site } = this.copy;
     for (; this.looked < journal.count; this.looked++) {
       const frame = journal.view(this.looked);
-      if (!isEntry(frame) && requestOf(frame).user === site) this.own.push(this.looked);
+      if (!isEntry(frame) && userOf(frame) === site) this.own.push(this.looked);
     }
   }
 
@@ -116,7 +116,7 @@ export class Sync {
 
   /** @param {Uint8Array} frame */
   noteOwn(frame) {
-    if (isEntry(frame) || requestOf(frame).user !== this.copy.site) return;
+    if (isEntry(frame) || userOf(frame) !== this.copy.site) return;
     this.back++;
     this.cameBack(requestOf(frame).name);
   }

@@ -1,5 +1,5 @@
 // What is told of the host and of what it was asked for, in words.
-import { counted, edits, fault } from './words.mjs';
+import { capital, counted, edits, fault } from './words.mjs';
 
 /**
  * Where a page stands with its host.
@@ -52,15 +52,68 @@ export function role(role) {
   return ROLES[role] ?? role;
 }
 
-const STATES = { open: '', closed: '', damaged: 'Its file is damaged, so it cannot be opened.', 'disk-fault': 'The disk failed, so it cannot be opened.', 'no-memory': 'The host has no memory to open it.' };
+/** @typedef {'self' | 'here' | 'away' | 'invited' | 'removed'} Whereabouts of a person of a house */
+
+/** @type {Record<Whereabouts, string>} */
+const WHEREABOUTS = { self: 'you', here: 'here now', away: 'away', invited: 'has not come yet', removed: 'removed' };
+
+/** @param {Whereabouts} state */
+export function whereabouts(state) {
+  return WHEREABOUTS[state];
+}
 
 /**
- * What is to be said of a document's state, or ''.
+ * What somebody may do, as a sentence; who is removed may do nothing before a new invitation.
+ *
+ * @param {string} powers
+ * @param {Whereabouts} state
+ */
+export function powersTold(powers, state) {
+  return state === 'removed' ? `Cannot come in without a new invitation. By the rules: ${powers}.` : `${capital(powers)}.`;
+}
+
+/**
+ * That there is an invitation for somebody.
+ *
+ * @param {string} name
+ * @param {boolean} mayWrite whether that person may write, once there
+ */
+export function invited(name, mayWrite) {
+  const more = mayWrite ? '' : ` The rules let ${name} only read here, until you press “Allow writing”.`;
+  return `There is an invitation for ${name}. Its address is below the list of people.${more}`;
+}
+
+/** @type {Record<string, string>} */
+const STATES = {
+  open: '',
+  closed: '',
+  damaged: 'its file is damaged',
+  'fewer-messages': 'its file lacks a part of what was written. A copy of it is to be restored',
+  'other-messages': 'its file is not the one that was written. A copy of it is to be restored',
+  'damaged-seal': 'the seal of its file is damaged. A copy of it is to be restored',
+  'disk-fault': 'the host’s disk failed',
+  'no-memory': 'the host has no memory left for it',
+};
+
+/**
+ * What is to be said of a document's state in the list of documents, or ''.
  *
  * @param {string} state
  */
 export function documentState(state) {
-  return STATES[state] ?? state;
+  const why = STATES[state] ?? state;
+  return why && `It cannot be opened: ${why}.`;
+}
+
+/**
+ * The same at the document's own page, or ''.
+ *
+ * @param {string} state
+ * @param {boolean} isHere whether the browser has a copy of it
+ */
+export function notOpened(state, isHere) {
+  const why = STATES[state] ?? state;
+  return why && `The host cannot open this document: ${why}. Tell who hosts it.${isHere ? ' Your copy is kept here, and you can go on writing.' : ''}`;
 }
 
 /**

@@ -1,6 +1,6 @@
 import assert from 'node:assert/strict';
 import test from 'node:test';
-import { documentName, documentState, found, notDone, standing } from './told.mjs';
+import { documentName, documentState, found, invited, notDone, notOpened, powersTold, standing, whereabouts } from './told.mjs';
 
 test('where a page stands', () => {
   const linked = { isWelcome: true, isCaughtUp: true, unsaved: 0, isHeldBack: false, words: '', isOver: false };
@@ -25,10 +25,22 @@ test('what the host did not do', () => {
   assert.match(notDone('toString'), /toString/);
 });
 
+test('people', () => {
+  assert.deepEqual((/** @type {const} */ (['self', 'here', 'away', 'invited', 'removed'])).map(whereabouts), ['you', 'here now', 'away', 'has not come yet', 'removed']);
+  assert.equal(powersTold('may write', 'away'), 'May write.');
+  assert.match(powersTold('may write', 'removed'), /^Cannot come in without a new invitation\. By the rules: may write\.$/);
+  assert.equal(invited('Cy', true), 'There is an invitation for Cy. Its address is below the list of people.');
+  assert.match(invited('Cy', false), /let Cy only read here, until you press “Allow writing”\.$/);
+});
+
 test('documents', () => {
   const rows = [['Spring fair 2027!', 'spring-fair-2027'], ['  Übersicht ', 'ubersicht'], ['—', ''], ['notes', 'notes'], ['a'.repeat(50), 'a'.repeat(40)]];
   for (const [typed, name] of rows) assert.equal(documentName(typed), name);
   assert.equal(documentState('open'), '');
-  assert.match(documentState('damaged'), /damaged/);
+  assert.equal(documentState('damaged'), 'It cannot be opened: its file is damaged.');
+  assert.equal(notOpened('open', true), '');
+  assert.equal(notOpened('damaged', false), 'The host cannot open this document: its file is damaged. Tell who hosts it.');
+  assert.match(notOpened('disk-fault', true), /disk failed\. Tell who hosts it\. Your copy is kept here/);
+  for (const state of ['fewer-messages', 'other-messages', 'damaged-seal']) assert.match(documentState(state), /to be restored/);
   assert.deepEqual([found(0, 0), found(1, 0), found(1200, 4)], ['Nowhere', '1 of 1 place', '5 of 1,200 places']);
 });

@@ -63,14 +63,20 @@ export function cited(letters) {
 // ---- people
 
 /**
- * Who a group of the rules is: a person of the house, where it knows one.
+ * Who a group of the rules is: a person of the house, where it knows one, or those who are in it by a policy.
  *
  * @param {number} number
+ * @param {Policy | null} [policy]
  */
-export function group(number) {
+export function group(number, policy = null) {
   const name = directory.nameOf(number);
-  return name === null ? `group ${number}` : isolated(name);
+  if (name !== null) return isolated(name);
+  const persons = directory.personsOf(policy?.groups.get(number) ?? []);
+  return persons.length ? `the group of ${named(persons)}` : `group ${number}`;
 }
+
+/** @param {number[]} numbers */
+const named = (numbers) => listed(numbers.map((it) => group(it)));
 
 /**
  * Who a user of the rules is: the person whose device it is, where the house knows him.
@@ -94,10 +100,13 @@ export function initials(name) {
   return ends.map((it) => Array.from(it)[0]).join('').toUpperCase();
 }
 
-/** @param {import('./policy.mjs').UserSet} users */
-function people({ kind, numbers }) {
+/**
+ * @param {import('./policy.mjs').UserSet} users
+ * @param {Policy} policy
+ */
+function people({ kind, numbers }, policy) {
   if (kind === 'all') return 'everybody';
-  return listed(numbers.map(kind === 'groups' ? group : person));
+  return listed(numbers.map((it) => (kind === 'groups' ? group(it, policy) : person(it))));
 }
 
 // ---- rules
@@ -142,7 +151,7 @@ function where(objects, policy, isAllowed) {
  */
 export function rule({ allows, users, rights, objects }, policy) {
   const isNobody = !allows && users.kind === 'all';
-  const who = isNobody ? 'nobody' : people(users);
+  const who = isNobody ? 'nobody' : people(users, policy);
   return ended(`${capital(who)} ${allows || isNobody ? 'may' : 'may not'} ${deeds(rights)} ${where(objects, policy, allows)}`);
 }
 
@@ -201,10 +210,10 @@ const CHANGES = {
   deluser: ([user]) => `${capital(person(Number(user)))} ${isDevice(user) ? 'takes part with one device less' : 'may take part no more'}.`,
   addobj: ([number], policy) => ended(`Rules may be about ${object(Number(number), policy)}`),
   delobj: ([number]) => `Rules are about part ${number} no more.`,
-  addgroup: ([number]) => (directory.nameOf(Number(number)) === null ? `There is a group ${number}.` : `${capital(group(Number(number)))} takes part.`),
+  addgroup: ([number], policy) => (directory.nameOf(Number(number)) === null ? `There may be rules about ${group(Number(number), policy)}.` : `${capital(group(Number(number)))} takes part.`),
   delgroup: ([number]) => `There is no ${group(Number(number))} in the rules any more.`,
-  addmember: ([number, user]) => `Rules about ${group(Number(number))} are about ${member(number, user)} too.`,
-  delmember: ([number, user]) => `Rules about ${group(Number(number))} are about ${member(number, user)} no more.`,
+  addmember: ([number, user], policy) => `Rules about ${group(Number(number), policy)} are about ${member(number, user)} too.`,
+  delmember: ([number, user], policy) => `Rules about ${group(Number(number), policy)} are about ${member(number, user)} no more.`,
   delauth: ([place]) => `Rule ${Number(place) + 1} of the list is gone.`,
   validate: ([name]) => `The edit ${name} is confirmed.`,
 };
@@ -249,6 +258,21 @@ function changes(entries, policy) {
 export function change({ version, op: [kind, ...words] }, policy) {
   const made = policy.made.get(version);
   return kind === 'addauth' && made ? rule(made, policy) : CHANGES[kind](words, policy);
+}
+
+// ---- groups
+
+export const FEW_FOR_A_GROUP = 'Choose two people or more who have opened this document: a group is made of their devices.';
+
+/**
+ * Whether a group is to be made, as a question.
+ *
+ * @param {number[]} persons
+ * @param {number[]} others who were chosen too, and have no device here yet
+ */
+export function makingGroup(persons, others) {
+  const more = others.length ? ` ${named(others)} can be put in later, behind the first visit.` : '';
+  return `Make a group of ${named(persons)}?${more}`;
 }
 
 // ---- what was undone

@@ -1,5 +1,5 @@
 // Measures a host beside y-websocket's server, on the same work: 20 writers in one document, all of what each writes to all.
-// Outside the gate.
+// Outside the suite.
 //
 //   NODE_PATH=/usr/share/nodejs node bench/hosting/beside.mjs HOST [EDITS]
 //

@@ -1,5 +1,5 @@
 // Tries the page of a team in headless Firefox at a running host, beside one in Chromium: what it is told, and whether two people write to each
-// other. Outside the gate.
+// other. Outside the suite.
 //
 //   node --experimental-websocket bench/hosting/firefox.mjs FIREFOX CHROMIUM HOST [PICTURE]
 //

@@ -1,4 +1,4 @@
-// Measures what a new user waits for: from a clone to a host that answers, and to two people who write in a browser. Outside the gate.
+// Measures what a new user waits for: from a clone to a host that answers, and to two people who write in a browser. Outside the suite.
 //
 //   node bench/hosting/front_door.mjs CHROMIUM [FOLDER]
 //

@@ -1,132 +1,166 @@
-// Two people press keys at random in one document at a running host, each now and then without a link. In the end both pages show the same,
-// and each shows what its peer has. Outside the gate.
+// Two or three people press keys at random in one document at a running host, each now and then without a link or with the page loaded anew,
+// while the owner takes rights away and gives them back, and protects paragraphs. In the end all pages show the same, each what its peer has, and
+// the host has that too. Outside the suite.
 //
-//   node bench/hosting/page_fuzz.mjs CHROMIUM HOST [SEED [KEYS]]
+//   node bench/hosting/page_fuzz.mjs CHROMIUM HOST [--seeds FIRST-LAST] [--rounds N] [--side-by-side N] [--ended FILE]
+//
+// HOST is the built program of a host. Each seed is a team at a host of its own: of two where it is even, else of three. FILE has a line for each
+// seed that ended; who calls it again goes on behind these.
 import assert from 'node:assert/strict';
-import { spawn } from 'node:child_process';
-import { mkdtempSync, rmSync } from 'node:fs';
-import { tmpdir } from 'node:os';
-import { join } from 'node:path';
-import { fileURLToPath } from 'node:url';
-import { Browser, CONTROL, pause, SHIFT } from '../../.ci/devtools.mjs';
+import { appendFileSync, existsSync, readFileSync } from 'node:fs';
+import { Browser, pause } from '../../.ci/devtools.mjs';
+import { Host, until } from '../../.ci/running_host.mjs';
+import { act, Dice, endQuestion, order } from './random_keys.mjs';
 
-const [chromium, program, seed = '1', keys = '120'] = process.argv.slice(2);
-const PORT = 20000 + (Number(seed) % 20000);
-const WEB = fileURLToPath(new URL('../../web', import.meta.url));
-const PATIENCE = 600; // looks
-const WORDS = ['tea', ' cup ', 'x', 'milk\n', 'é', ' and', '\n'];
-const MASK = (1n << 64n) - 1n;
+const SIZE = { width: 900, height: 700 };
+const SETTLE_MS = 700;
+const ORDER_IN = 6; // rounds
+const RESTART_IN = 60;
+const NAMES = ['Bea', 'Cy'];
+const PATIENCE_MS = 240000; // beside other work
 
-let state = BigInt(seed) + 88172645463325252n;
-function draw(n) {
-  state ^= (state << 13n) & MASK;
-  state ^= state >> 7n;
-  state ^= (state << 17n) & MASK;
-  return Number(state % BigInt(n));
+function option(name, usual) {
+  const at = process.argv.indexOf(name);
+  return at < 0 ? usual : process.argv[at + 1];
 }
 
+const ROUNDS = Number(option('--rounds', 60));
 const standing = (page) => page.value(`document.getElementById('standing')?.textContent`);
 
-async function saved(page) {
-  for (let i = 0; (await standing(page)) !== 'Saved'; i++) {
-    if (i > PATIENCE) assert.fail(`never saved: ${page.faults.slice(0, 3).join(' // ')} ${await page.value('document.body.innerText.slice(0, 400)')}`);
-    await pause(50);
-  }
-}
+const saved = (page) => until(async () => `it is saved: ${await page.value('document.body.innerText.slice(0, 400)')} ${page.faults.slice(0, 3).join(' // ')}`, async () => (await standing(page)) === 'Saved', PATIENCE_MS);
 
 async function open(browser, address) {
-  const page = await browser.page(address, await browser.profile(), { width: 900, height: 700 });
+  const page = await browser.page(address, await browser.profile(), SIZE);
   await saved(page);
   await page.value('document.getElementById("text").focus(), null');
   return page;
 }
 
-// Selects some letters from a place on.
-async function selectSome(page, length) {
-  const from = draw(length + 1);
-  await page.value(`page.surface.select(${from}, ${Math.min(length, from + draw(12))}), null`);
+async function invite(browser, ada, name) {
+  const address = `document.getElementById('invited-address').value`;
+  const before = await ada.value(address);
+  await ada.value(`document.getElementById('new-name').value = '${name}', document.querySelector('#new-person button').click(), null`);
+  await until('there is an address', async () => (await ada.value(address)) !== before, PATIENCE_MS);
+  return open(browser, await ada.value(address));
 }
 
-async function compose(page) {
-  await page.call('Input.imeSetComposition', { text: 'ni', selectionStart: 2, selectionEnd: 2 });
-  await pause(draw(60));
-  await page.insert('你');
-}
-
-// The link is cut, or comes again.
-function turnLink(page) {
-  const again = 'page.sync.line.dial = (it) => new WebSocket(it), page.sync.line.hurry()';
-  const cut = `page.sync.line.dial = () => new WebSocket('ws://localhost:1/'), page.sync.line.socket?.close()`;
-  return page.value(`page.sync.line.dial.toString().includes('1/') ? (${again}) : (${cut}), null`);
-}
-
-// What a page does next.
-async function act(page) {
-  const length = await page.value('page.writer.view().text.length');
-  const kind = draw(20);
-  if (kind < 9) return page.type(WORDS[draw(WORDS.length)]);
-  if (kind < 11) return page.value(`page.surface.select(${draw(length + 1)}), null`);
-  if (kind < 13) return page.key('Backspace');
-  if (kind === 13) return page.key('Delete');
-  if (kind === 14) return page.key('Backspace', CONTROL, ['deleteWordBackward']);
-  if (kind === 15) {
-    await selectSome(page, length);
-    return draw(2) ? page.key('Backspace') : page.insert('a line that is pasted 𝟝 ');
-  }
-  if (kind === 16) return page.key('z', CONTROL);
-  if (kind === 17) return page.key('z', CONTROL | SHIFT);
-  return kind === 18 ? compose(page) : turnLink(page);
-}
-
-// What a page shows, what its peer has, how long its journal is, and whether it knows who put each piece in.
+// What a page shows, what its peer has, how long its journal is, and whether it knows the pieces and who put each in.
 const TOLD = `(() => {
   const { peer, pieces, journal } = page.copy;
+  const text = new TextDecoder('utf-8', { ignoreBOM: true }).decode(peer.text());
   const users = [...pieces.users.slice(0, pieces.count)].every((it, i) => it === Number(peer.nameAt(i).split('.')[1]));
-  return [page.surface.read(), new TextDecoder('utf-8', { ignoreBOM: true }).decode(peer.text()), journal.count, users && peer.sizes().length === pieces.count];
+  return { shown: page.surface.read(), text, items: journal.count, isKnown: users && pieces.text === text && peer.sizes().length === pieces.count };
 })()`;
 
-async function settle(pages) {
-  for (const it of pages) await it.value('page.writer.flush(), page.sync.line.dial = (it) => new WebSocket(it), page.sync.line.hurry(), null');
-  for (let i = 0; i < 3; i++) {
-    for (const it of pages) await saved(it);
-    await pause(700);
+// A team of a seed at work.
+class Team {
+  constructor(browser, program, seed) {
+    this.browser = browser;
+    this.program = program;
+    this.seed = seed;
+    this.dice = new Dice(seed);
+    this.trace = [];
   }
-}
 
-async function play(browser, invitation) {
-  const ada = await open(browser, invitation);
-  await ada.value(`document.getElementById('new-name').value = 'Bea', document.querySelector('#new-person button').click(), null`);
-  while (!(await ada.value(`document.getElementById('invited-address').value`))) await pause(50);
-  const bea = await open(browser, await ada.value(`document.getElementById('invited-address').value`));
-  await ada.value('document.getElementById("text").focus(), null');
-  const pages = [ada, bea];
-  for (let i = 0; i < Number(keys); i++) {
-    await Promise.all(pages.map(act));
-    if (draw(6) === 0) await pause(draw(500));
-    for (const it of pages) {
-      const [shown, held] = await it.value('[page.surface.read(), page.writer.view().text]');
-      assert.equal(shown, held, `behind ${i} ${it === ada ? 'Ada' : 'Bea'} ${it.faults}`);
+  async begin() {
+    this.host = await Host.start(this.program, 'text');
+    const ada = await open(this.browser, this.host.invitation);
+    this.pages = [ada];
+    for (const name of NAMES.slice(0, 1 + (this.seed % 2))) this.pages.push(await invite(this.browser, ada, name));
+    this.dices = this.pages.map((_, i) => new Dice(1000 * this.seed + i));
+    await ada.value('document.getElementById("text").focus(), null');
+  }
+
+  async play() {
+    for (let round = 0; round < ROUNDS; round++) {
+      const acts = await Promise.all(this.pages.map((it, i) => this.turn(it, i)));
+      this.trace.push(acts.join(' | '));
+      if (this.dice.draw(ORDER_IN) === 0) await pause(this.dice.draw(500));
+      if (this.dice.draw(RESTART_IN) === 0) await this.restart();
+      for (const it of this.pages) await this.look(it);
     }
+    return this.end();
   }
-  await settle(pages);
-  const told = await Promise.all(pages.map((it) => it.value(TOLD)));
-  for (const [shown, peer, , isKnown] of told) {
-    assert.equal(shown, peer);
-    assert.ok(isKnown);
+
+  // The owner orders something now and then; else each writes.
+  turn(page, i) {
+    const dice = this.dices[i];
+    const orders = i === 0 && dice.draw(ORDER_IN) === 0;
+    return orders ? order(page, dice, this.pages.length) : act(page, dice);
   }
-  assert.equal(told[0][0], told[1][0]);
-  assert.deepEqual([...ada.faults, ...bea.faults], []);
-  console.log(`page_fuzz: seed ${seed}: alike, ${told[0][0].length} letters, ${told[0][2]} messages`);
+
+  async restart() {
+    this.trace.push('the host is killed');
+    await this.host.stop();
+    await pause(this.dice.draw(400));
+    await this.host.run();
+  }
+
+  async look(page) {
+    const [shown, held] = await page.value('[page.surface.read(), page.writer.view().text.replaceAll("\\r", "\\n")]');
+    assert.equal(shown, held, `what the page of ${this.pages.indexOf(page)} shows; its faults: ${page.faults.join(' // ')}`);
+  }
+
+  async end() {
+    for (const it of this.pages) await endQuestion(it, 'no');
+    for (const it of this.pages) await it.value('page.writer.flush(), page.sync.line.dial = (it) => new WebSocket(it), page.sync.line.hurry(), null');
+    for (let i = 0; i < 3; i++) {
+      for (const it of this.pages) await saved(it);
+      await pause(SETTLE_MS);
+    }
+    const told = await Promise.all(this.pages.map((it) => it.value(TOLD)));
+    const [{ text, items }] = told;
+    for (const it of told) assert.deepEqual(it, { shown: text.replaceAll('\r', '\n'), text, items, isKnown: true });
+    assert.equal(await this.host.text(await this.pages[0].value('page.at.device')), text);
+    assert.deepEqual(this.pages.flatMap(({ faults }) => faults), []);
+    const undone = await this.pages[0].value('page.copy.undone.count');
+    return `${this.pages.length} people alike, ${text.length} letters, ${items} messages, ${undone} undone`;
+  }
+
+  async close() {
+    await Promise.all((this.pages ?? []).map((it) => it.close()));
+    await this.host?.close();
+  }
 }
 
-const folder = mkdtempSync(join(tmpdir(), 'page-fuzz-'));
-const host = spawn(program, ['host', join(folder, 'text'), '--port', String(PORT), '--web', WEB], { stdio: ['ignore', 'pipe', 'ignore'] });
-const invitation = await new Promise((done) => host.stdout.once('data', (data) => done(data.toString().trim())));
-const browser = new Browser(chromium);
-try {
-  await play(browser, invitation);
-} finally {
-  await browser.close();
-  host.kill();
-  rmSync(folder, { recursive: true, force: true });
+// Plays a seed, and tells how it ended.
+async function ended(browser, program, seed) {
+  const team = new Team(browser, program, seed);
+  try {
+    await team.begin();
+    return `seed ${seed}: ${await team.play()}`;
+  } catch (error) {
+    console.log(`page_fuzz: seed ${seed}: ${error.stack}\n${team.trace.slice(-12).join('\n')}`);
+    return `seed ${seed}: FAILED behind ${team.trace.length} rounds: ${error.message.split('\n')[0]}`;
+  } finally {
+    await team.close();
+  }
 }
+
+async function main() {
+  const [chromium, program] = process.argv.slice(2);
+  const [first, last = first] = option('--seeds', '1').split('-').map(Number);
+  const file = option('--ended', '');
+  const before = file && existsSync(file) ? readFileSync(file, 'utf8').split('\n').filter(Boolean) : [];
+  const known = new Set(before.map((it) => Number(/^seed (\d+):/.exec(it)?.[1])));
+  const seeds = Array.from({ length: last - first + 1 }, (_, i) => first + i).filter((it) => !known.has(it));
+  const browser = new Browser(chromium);
+  const lines = before;
+  const work = async () => {
+    for (let seed = seeds.shift(); seed !== undefined; seed = seeds.shift()) {
+      lines.push(await ended(browser, program, seed));
+      console.log(`page_fuzz: ${lines.at(-1)}`);
+      if (file) appendFileSync(file, `${lines.at(-1)}\n`);
+    }
+  };
+  try {
+    await Promise.all(Array.from({ length: Number(option('--side-by-side', 1)) }, work));
+  } finally {
+    await browser.close();
+  }
+  const failed = lines.filter((it) => it.includes('FAILED'));
+  console.log(`page_fuzz: ${lines.length} seeds ended, ${lines.length - failed.length} of them alike`);
+  process.exit(failed.length ? 1 : 0);
+}
+
+await main();
