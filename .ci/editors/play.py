@@ -2,6 +2,8 @@
 the link, a right that is taken away, letters of every length, and random edits that end in one text.
 
     python3 .ci/editors/play.py HOST FOLLOW [EDITS] [EDITOR ..]
+
+EDITOR is vim, nvim, emacs, or page: a page in Chromium, which takes part in the random edits alone. Its module has to be built.
 """
 import os
 import random
@@ -12,6 +14,7 @@ import time
 
 sys.dont_write_bytecode = True
 from editor import SECONDS, Emacs, Neovim, Vim, Wrong, wait_for
+from page import Page
 from team import Team
 from follower import Follower
 from follower import Wrong as WrongFollower
@@ -19,6 +22,7 @@ from host_peer import Ended
 from link_peer import Broken
 
 EDITORS = {"vim": Vim, "nvim": Neovim, "emacs": Emacs}
+SEED = int(os.environ.get("EDITOR_SEED", "11"))
 LETTERS = ["a", "b", "c", " ", "\n", "\\", "é", "ß", "€", "漢", "𝄞", "\t", "#", "'", '"', "e\u0301"]
 FEW = 40  # so many edits without a number
 FAULTS = (Wrong, WrongFollower, Ended, Broken, OSError)
@@ -317,13 +321,14 @@ class Guest:
 
     def __init__(self, kind, stage, follow, folder):
         secret, _ = stage.team.invite(f"writer {kind}")
-        address = stage.team.address(secret, is_cut=True)
-        self.way = stage.team.ways[-1]
-        self.editor = EDITORS[kind](kind + "-guest", folder, follow, address)
+        is_page = kind == "page"
+        address = stage.team.address(secret, is_cut=not is_page)  # a host lets in pages that came from it
+        self.editor = (Page if is_page else EDITORS[kind])(kind + "-guest", folder, follow, address)
+        self.way = self.editor if is_page else stage.team.ways[-1]
 
 
 def play(kinds, host, follow, edits, folder):
-    for kind in kinds:
+    for kind in filter(EDITORS.get, kinds):
         stage = Stage(kind, host, follow, os.path.join(folder, kind))
         try:
             for part in PARTS:
@@ -345,8 +350,8 @@ def play_together(kinds, host, follow, edits, folder):
     guests = []
     try:
         guests += [Guest(kind, stage, follow, os.path.join(folder, "together")) for kind in rest]
-        text = play_random([stage, *guests], edits, random.Random(11))
-        print(f"editors: {edits} random edits of {', '.join(kinds)} and a follower ended in one text of {len(text)} letters")
+        text = play_random([stage, *guests], edits, random.Random(SEED))
+        print(f"editors: {edits} random edits (seed {SEED}) of {', '.join(kinds)} and a follower ended in one text of {len(text)} letters")
     finally:
         for guest in guests:
             guest.editor.end()

@@ -65,7 +65,7 @@
   (pending nil)              ; changes that aren't sent yet, the last in front: (AT OUT PUT)
   (seen 0) (unanswered 0)
   (timer nil)
-  (rows nil) (rows-count 0)  ; changes that came and aren't in the buffer yet, the last in front: (AT OUT PUT)
+  (rows nil)                 ; changes that came and aren't in the buffer yet, the last in front: (AT OUT PUT)
   (rows-reason nil)          ; why these came
   (reason nil)               ; why the next change comes, where it takes something back
   (undoing nil) (rows-undone 0)
@@ -445,13 +445,8 @@ and comes again."
   (when (string-match "\\`\\([0-9]+\\) \\([0-9]+\\) ?" rest)
     (let* ((at (string-to-number (match-string 1 rest)))
            (out (string-to-number (match-string 2 rest)))
-           (put (roastcliff--read (substring rest (match-end 0))))
-           (rows (roastcliff--document-rows document))
-           ;; A piece that is replaced comes as two changes.
-           (joined (roastcliff--joined (car rows) at out put)))
-      (setf (roastcliff--document-rows document)
-            (if joined (cons joined (cdr rows)) (cons (list at out put) rows)))))
-  (cl-incf (roastcliff--document-rows-count document))
+           (put (roastcliff--read (substring rest (match-end 0)))))
+      (push (list at out put) (roastcliff--document-rows document))))
   (setf (roastcliff--document-rows-reason document) (roastcliff--document-reason document)
         (roastcliff--document-reason document) nil))
 
@@ -461,7 +456,7 @@ and comes again."
     (roastcliff--send document)
     (let ((rows (reverse (roastcliff--document-rows document)))
           (reason (roastcliff--document-rows-reason document)))
-      (cl-incf (roastcliff--document-seen document) (roastcliff--document-rows-count document))
+      (cl-incf (roastcliff--document-seen document) (length rows))
       (roastcliff--forget-rows document)
       (pcase-dolist (`(,at ,out ,put) rows)
         (roastcliff--show-row document at out put reason))
@@ -470,7 +465,6 @@ and comes again."
 (defun roastcliff--forget-rows (document)
   "Leave out the changes of DOCUMENT that came and aren't in its buffer yet."
   (setf (roastcliff--document-rows document) nil
-        (roastcliff--document-rows-count document) 0
         (roastcliff--document-rows-reason document) nil))
 
 (defun roastcliff--alike (one other)

@@ -605,26 +605,8 @@ function! s:take_changed(document, rest) abort
   let space = stridx(a:rest, ' ')
   let end = stridx(a:rest, ' ', space + 1)
   let put = end < 0 ? '' : s:read(strpart(a:rest, end + 1))
-  call s:join_row(a:document.rows, [str2nr(a:rest), str2nr(strpart(a:rest, space + 1)), put])
-  let a:document.rows_count += 1
+  call add(a:document.rows, [str2nr(a:rest), str2nr(strpart(a:rest, space + 1)), put])
   let [a:document.rows_reason, a:document.reason] = [a:document.reason, {}]
-endfunction
-
-" Puts a change behind others, or makes one of it and the last, where they touch: a piece that is replaced comes as two changes.
-function! s:join_row(rows, row) abort
-  let [at, out, put] = a:row
-  let [last_at, last_out, last_put] = empty(a:rows) ? [-1, 0, ''] : a:rows[-1]
-  let from = at - last_at
-  if from == 0 && empty(put) && empty(last_put)
-    let a:rows[-1][1] += out
-  elseif last_at >= 0 && from >= 0 && from <= strchars(last_put)
-    let in = min([out, strchars(last_put) - from])
-    let a:rows[-1] = [last_at, last_out + out - in, strcharpart(last_put, 0, from) . put . strcharpart(last_put, from + in)]
-  elseif at < last_at && at + out == last_at
-    let a:rows[-1] = [at, last_out + out, put . last_put]
-  else
-    call add(a:rows, a:row)
-  endif
 endfunction
 
 " Makes the changes that came in the buffer.
@@ -634,7 +616,7 @@ function! s:show_rows(document) abort
   endif
   call s:send(a:document)
   let [rows, reason] = [a:document.rows, a:document.rows_reason]
-  let a:document.seen += a:document.rows_count
+  let a:document.seen += len(rows)
   call s:forget_rows(a:document)
   for [at, out, put] in rows
     call s:show_row(a:document, s:change_at(a:document.text, at, out, put), reason)
@@ -654,7 +636,7 @@ endfunction
 
 " Leaves out the changes that came and aren't in the buffer yet.
 function! s:forget_rows(document) abort
-  let [a:document.rows, a:document.rows_count, a:document.rows_reason] = [[], 0, {}]
+  let [a:document.rows, a:document.rows_reason] = [[], {}]
 endfunction
 
 " How many edits the entry that came last undid, and in how many rows, which come next.
@@ -1086,7 +1068,7 @@ function! s:document(buffer, address, file) abort
         \ 'is_open': 0, 'is_left': 0, 'tries': 0, 'state': 'opening', 'closed': '', 'error': '',
         \ 'text': '', 'tick': 0, 'seen': 0, 'unanswered': 0, 'timer': -1,
         \ 'past': [], 'undone': [], 'is_typing': 0,
-        \ 'rows': [], 'rows_count': 0, 'rows_reason': {},
+        \ 'rows': [], 'rows_reason': {},
         \ 'reason': {}, 'undoing': {}, 'rows_undone': 0, 'marks': [],
         \ 'person': 0, 'role': '', 'people': {}, 'devices': {}, 'here': [], 'rules': s:no_rules() }
 endfunction
