@@ -56,7 +56,7 @@ def proved(crate, kept):
         if line.startswith("checked "):
             functions.append(line.removeprefix("checked ").rsplit(",", 1)[0].split("::", 1)[1].replace("::", "."))
     if proving.wait() != 0:
-        print(f"gating: {crate.name} isn't proved, so not all of it is here: {line.strip()}", file=sys.stderr)
+        print(f"proving: {crate.name} isn't proved, so not all of it is here: {line.strip()}", file=sys.stderr)
     return functions, clock
 
 
