@@ -1,10 +1,14 @@
 #!/usr/bin/env python3
-"""Has `rt lib` know the libraries that `rt ci` proved and built below a crate: known_libraries.py CRATE
+"""Has other commands of the kit know the libraries that `rt ci` proved: known_libraries.py before FILE, and after it known_libraries.py after FILE
 
-`rt ci` leaves them without the stamp by which other commands tell what a library was made from, and without it they prove each once more.
-This writes the stamps of those that are newer than all that they are made from.
+`rt ci` leaves the libraries that it made, or had kept and gave back, without the stamp by which other commands tell what a library was made
+from, and without it they prove each once more. `before` notes in FILE which libraries stand there and what each would be made from; `after`
+stamps those that are there since, whose sources are still the same, and that fit the libraries below them.
 """
 import functools
+import glob
+import hashlib
+import json
 import os
 import shutil
 import sys
@@ -13,36 +17,60 @@ sys.dont_write_bytecode = True
 sys.path.insert(0, os.path.dirname(os.path.realpath(shutil.which("rt"))))
 import rtlib  # noqa: E402 (the kit's own)
 
-
-def newest_below(folder):
-    """When the newest file below this folder was written, or 0 where there is none."""
-    return max((os.path.getmtime(f"{at}/{name}") for at, _, names in os.walk(folder) for name in names), default=0)
+TOP = os.path.dirname(os.path.dirname(os.path.realpath(__file__)))
 
 
-@functools.lru_cache(maxsize=None)
-def sources_time(crate):
-    """When the newest source of the crate, or of those that it stands on, was written."""
-    own = max(newest_below(f"{crate.folder}/{part}") for part in rtlib.PARTS)
-    return max([own, *map(sources_time, crate.deps)])
+def libraries():
+    """The crates that are libraries, each below those that stand on it."""
+    known, found = {}, {}
+    for path in sorted(glob.glob(f"{TOP}/crates/*/src/lib.rt")):
+        crate = rtlib.Crate(os.path.dirname(os.path.dirname(path)), TOP, known)
+        for it in [*crate.below(), crate]:
+            found.setdefault(it.name, it)
+    return [crate for crate in found.values() if crate.makes_rlib()]
 
 
-def stamp(crate):
-    """Writes the stamp of a library that has none and is new; says whether it did."""
-    rlib = f"{crate.folder}/out/rlib"
-    built = newest_below(rlib)
-    if os.path.exists(f"{rlib}/stamp") or built <= sources_time(crate):
+def folder_number(crate):
+    """The number by which the system knows the folder of its library, or nothing if it has none."""
+    folder = os.path.dirname(crate.rlib)
+    return os.stat(folder).st_ino if os.path.isdir(crate.rlib) else None
+
+
+def format_of(crate):
+    """The file of its library that holds the sums of its other files, and of that file in each library below."""
+    with open(f"{crate.rlib}/format", "rb") as file:
+        return file.read()
+
+
+def fits(crate):
+    """Whether its library was proved over those that stand below it."""
+    over = dict(line.split()[1:] for line in format_of(crate).decode().splitlines() if line.startswith("over "))
+    below = [it for it in crate.below() if it.makes_rlib()]
+    return all(folder_number(it) and over.get(it.name) == hashlib.sha256(format_of(it)).hexdigest() for it in below)
+
+
+def stamp(crate, noted):
+    """Stamps its library, if it is there since what was noted, and made from the same; says whether it did."""
+    is_new = folder_number(crate) not in (None, noted["folder"])
+    known = f"{os.path.dirname(crate.rlib)}/stamp"
+    if not is_new or os.path.exists(known) or crate.stamp() != noted["stamp"] or not fits(crate):
         return False
-    with open(f"{rlib}/stamp", "w", encoding="utf-8") as file:
-        file.write(crate.stamp())
+    with open(known, "w", encoding="utf-8") as file:
+        file.write(noted["stamp"])
     return True
 
 
 def main():
-    top = os.path.dirname(os.path.dirname(os.path.realpath(__file__)))
+    when, path = sys.argv[1:]
     rtlib.Crate.stamp = functools.lru_cache(maxsize=None)(rtlib.Crate.stamp)
-    crate = rtlib.Crate(f"{top}/crates/{sys.argv[1]}", top, {})
-    count = sum(stamp(library) for library in crate.below())
-    print(f"known_libraries: {count} stamped", file=sys.stderr)
+    if when == "before":
+        with open(path, "w", encoding="utf-8") as file:
+            json.dump({crate.name: {"stamp": crate.stamp(), "folder": folder_number(crate)} for crate in libraries()}, file)
+        return
+    with open(path, encoding="utf-8") as file:
+        noted = json.load(file)
+    count = sum(stamp(crate, noted[crate.name]) for crate in libraries() if crate.name in noted)
+    print(f"known_libraries: {count} of {len(noted)} libraries are proved anew and known", file=sys.stderr)
 
 
 main()
