@@ -102,10 +102,19 @@ class History:
         self.say(f"crash {more}", f"left {len(left)}")
         self.links = []
         self.host = self.begun(Peer(0, Journal(left)))
+        if self.draw.chance(0.3):
+            self.change_role()
         if self.draw.chance(0.9):
             self.tell_people()
         else:
             self.people, self.devices = 0, {}
+
+    def change_role(self) -> None:
+        """A person's devices may do more or less from now on. A host learns of it when it begins."""
+        person, role = self.draw.number(self.people + 1), self.draw.one([OWNER, WRITER, READER])
+        for known in self.devices.values():
+            if known.person == person:
+                known.role = role
 
     def tell_people(self) -> None:
         """A host that goes on is told of the people of the one before it."""
