@@ -81,6 +81,13 @@ impl Members {
     {
         self.numbers.len()
     }
+
+    /// Their numbers, in ascending order.
+    pub fn as_slice(&self) -> &[u16]
+        ensures { result.now ≡ self.now }
+    {
+        self.numbers.as_slice()
+    }
 }
 
 impl Numbered for Object {

@@ -13,7 +13,7 @@ use crate::fault::{ApplyFault, EntryFault};
 use crate::limits::MAX_OF_KIND;
 use crate::numbered::find;
 use crate::op::AdminOp;
-use crate::parts::{Members, NumberedAuth, Object};
+use crate::parts::{Group, Members, NumberedAuth, Object};
 use crate::ranges::operation_in_range;
 use crate::reach::Reach;
 use crate::tables::Tables;
@@ -145,6 +145,30 @@ impl Policy {
         ensures limits { IsWithinLimits self.now }
     {
         self.tables.auths.as_slice()
+    }
+
+    /// The numbers of the users, in ascending order.
+    pub fn users(&self) -> &[u16]
+        ensures value { result.now ≡ self.now.users }
+        ensures limits { IsWithinLimits self.now }
+    {
+        self.tables.users.as_slice()
+    }
+
+    /// The objects, in ascending order of their numbers.
+    pub fn objects(&self) -> &[Object]
+        ensures value { result.now ≡ self.now.objects }
+        ensures limits { IsWithinLimits self.now }
+    {
+        self.tables.objects.as_slice()
+    }
+
+    /// The groups, in ascending order of their numbers.
+    pub fn groups(&self) -> &[Group]
+        ensures value { result.now ≡ self.now.groups }
+        ensures limits { IsWithinLimits self.now }
+    {
+        self.tables.groups.as_slice()
     }
 
     /// The first fault of an operation on this policy; none where it is legal. Whether a name was
