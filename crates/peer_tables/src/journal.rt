@@ -1,5 +1,5 @@
 //! The journal, with what is kept of it.
-ghost use Rattle.std.specs.Prelude.{◌≡◌, ◌<◌, ◌≤◌, [], ◌∷◌, ◌++◌, Some, length, slice_get, option_map, is_some, IfOk, OnOk, OnErr};
+ghost use Rattle.std.specs.Prelude.{◌≡◌, ◌<◌, ◌≤◌, [], ◌∷◌, ◌++◌, Some, true, length, slice_get, option_map, is_some, IfOk, OnOk, OnErr};
 ghost use Rattle.std.specs.Option.{option_copied};
 ghost use Rattle.element_name.specs.declared.limits.TheConstants.{MAX_STAMP, MAX_VERSION};
 ghost use Rattle.element_name.specs.Cases.{when};
@@ -11,7 +11,8 @@ ghost use Rattle.policy_book.specs.Entry.{Entry};
 ghost use Rattle.edit_message.specs.declared.message.Message.TheVariants.{Coop, Admin};
 ghost use Rattle.edit_message.specs.Message.{find_key, requests_of, entries_of};
 ghost use Rattle.edit_message.specs.Missing.{missing_end};
-ghost use Rattle.admin_log.specs.Log.{entry_fault, FollowsLog};
+ghost use Rattle.auth_match.specs.Coverage.{covers};
+ghost use Rattle.admin_log.specs.Log.{policy_of, entry_fault, FollowsLog};
 ghost use Rattle.check_local.specs.Local.{with_version};
 ghost use Rattle.check_remote.specs.State.{verdict_at};
 ghost use Rattle.peer_tables.specs.Derived.{is_full_journal, state_in, cell_in, shown_in, text_in, missing_in, undone_between, greatest_stamp};
@@ -29,14 +30,14 @@ use crate::reached::reached_elements;
 use crate::sweep::Sweep;
 use crate::text::text_of;
 use admin_log::AdminLog;
-use auth_match::Verdict;
+use auth_match::{Verdict, covers};
 use check_local::{LocalVerdict, check_local};
 use coop_request::{MAX_REQUESTS, Request};
 use edit_message::{Key, Message, Missing};
 use elem_show::{Cell, ElemTable};
 use element_name::{Name, NoMemory};
 use peer_step::Text;
-use policy_book::{AdminOp, Entry, EntryFault, Reach};
+use policy_book::{AdminOp, Entry, EntryFault, Extent, Policy, Reach};
 use request_state::{State, StateTable, Undone};
 use std::alloc::Global;
 use std::marker::Model;
@@ -146,6 +147,22 @@ impl Journal {
         ensures in_range { result ≤ MAX_STAMP }
     {
         self.stamp
+    }
+
+    /// The policy of its front.
+    pub fn policy(&self) -> &Policy
+        ensures { result.now ≡ policy_of (entries_of self.now) }
+    {
+        self.log.policy()
+    }
+
+    /// Whether an extent covers an element.
+    #[tactic(auto, using(crate::proofs::KeptLemmas::Reads::read_names))]
+    pub fn covers(&self, extent: &Extent, element: Name) -> bool
+        requires { has_name (text_order (requests_of self.now)) element ≡ true }
+        ensures { result ≡ covers (text_order (requests_of self.now)) extent.now element }
+    {
+        covers(&self.seq, extent, element)
     }
 
     /// The fault of an operation as the next entry's.
