@@ -1,15 +1,12 @@
 -- Pieces that are cut from bytes with others in place of some.
-use Rattle.std.proofs.Common.{◌≡◌, ℕ, zero, suc, ◌+◌, ◌-◌, ◌<◌, ◌≤◌, List, [], ◌∷◌, ◌++◌, length, take, drop, get_or, map, Some, refl, ap, sym, ◌∙◌, arith, append_assoc, length-append}
+use Rattle.std.proofs.Common.{◌≡◌, ℕ, zero, suc, ◌+◌, ◌-◌, ◌<◌, ◌≤◌, List, [], ◌∷◌, ◌++◌, length, take, drop, get_or, map, refl, ap, sym, ◌∙◌, arith, length-append}
 use Rattle.std.specs.Prelude.{sum, insert, remove, slice_set, slice_get, option_map, unwrap_or}
 use Rattle.std.specs.declared.option.Option.{Option}
 use Rattle.std.specs.List.{concat}
 use Rattle.std.proofs.Math.Seq.{take-length, take-add}
-use Rattle.std.proofs.lemmas.List.{take-append-drop, drop-drop, length-drop, length-take-le, take-append-le, drop-append-le, take-take, drop-take, take_at, drop_at, take_more, map-append, append-nil, set_split, set_past}
-use Rattle.std.proofs.lemmas.Option.{slice_get-get_or, cond_some}
-use Rattle.std.proofs.lemmas.List.Folds.{concat-append}
+use Rattle.std.proofs.lemmas.List.{drop-drop, length-drop, length-take-le, take-append-le, drop-append-le, take-take, drop-take, take_at, drop_at, take_more, map-append, set_split, set_past}
+use Rattle.std.proofs.lemmas.Option.{slice_get-get_or}
 use Rattle.std.proofs.lemmas.List.Sums.{sum_by-cons, sum_by-append, sum_by-take-le, sum_by-take-drop}
-use Rattle.element_name.specs.Cases.{when}
-use Rattle.coop_request.specs.Piece.{is_piece}
 use Rattle.peer_step.specs.Text.{cut}
 use Rattle.follow_text.specs.Rows.{replaced}
 use Rattle.follow_text.specs.Shown.{with_pieces}
@@ -150,17 +147,3 @@ sizes_more pieces n size found old new there found_is size_is old_is new_is =
     new_is ∙ ap (λ (xs : List ℕ). xs ++ size ∷ []) old_is ∙ ap (λ (s : ℕ). map (λ (p : List ℕ). length p) (take n pieces) ++ s ∷ []) at
     ∙ sym (map-append (λ (p : List ℕ). length p) (take n pieces) (get_or pieces n [] ∷ []))
     ∙ ap (λ (ps : List (List ℕ)). map (λ (p : List ℕ). length p) ps) (sym (take_more pieces n [] there))
-
--- ---- a text that is cut
-
--- one more piece that is cut from a text
-pub piece_cut : (pieces : List (List ℕ)) (piece front back rest all : List ℕ) (len : ℕ) → Some piece ≡ when (is_piece front) front → front ≡ take len rest → back ≡ drop len rest
-    → concat pieces ++ rest ≡ all → concat (pieces ++ piece ∷ []) ++ back ≡ all
-piece_cut pieces piece front back rest all len found front_is back_is before =
-    let same : piece ≡ front = sym (cond_some (is_piece front) front piece (sym found)).1 in
-    ap (λ (xs : List ℕ). xs ++ back) (concat-append pieces (piece ∷ []))
-    ∙ ap (λ (xs : List ℕ). (concat pieces ++ xs) ++ back) (append-nil piece ∙ same ∙ front_is)
-    ∙ append_assoc (concat pieces) (take len rest) back
-    ∙ ap (λ (xs : List ℕ). concat pieces ++ (take len rest ++ xs)) back_is
-    ∙ ap (λ (xs : List ℕ). concat pieces ++ xs) (take-append-drop len rest)
-    ∙ before
