@@ -16,7 +16,7 @@ use Rattle.peer_core.specs.After.{peer_after}
 use Rattle.follow_core.specs.declared.event.FollowEvent.{FollowEvent}
 use Rattle.follow_core.specs.declared.event.FollowEvent.TheVariants.{Began, Made}
 use Rattle.text_change.specs.Told.{AreRowsOf}
-use Rattle.follow_core.specs.Past.{follow_peer, saved_journal, is_own, is_own_at, back_of}
+use Rattle.follow_core.specs.Past.{follow_peer, follow_saved, is_request_of, is_own_at, back_of}
 use Rattle.follow_core.specs.Happens.{StandsAt, Owes}
 use Rattle.follow_core.proofs.Truncated.{follows}
 
@@ -40,13 +40,13 @@ pub kept_peer : (p q : Peer) (es new : List FollowEvent) → SamePeer p es → q
 kept_peer p q es new h same stays = ap began (same ∙ same_peer p es h ∙ sym stays)
 
 -- what is kept is kept where what was saved stays
-pub kept_still : {K : Type 0} (keeps : K → List Message → Type 0) (k l : K) (es new : List FollowEvent) → saved_journal new ≡ saved_journal es
-    → ((J : List Message) → keeps k J → keeps l J) → ∥ keeps k (saved_journal es) ∥₁ → ∥ keeps l (saved_journal new) ∥₁
-kept_still keeps k l es new stays more h = subst (λ (J : List Message). ∥ keeps l J ∥₁) (sym stays) (follows (more (saved_journal es)) h)
+pub kept_still : {K : Type 0} (keeps : K → List Message → Type 0) (k l : K) (es new : List FollowEvent) → follow_saved new ≡ follow_saved es
+    → ((J : List Message) → keeps k J → keeps l J) → ∥ keeps k (follow_saved es) ∥₁ → ∥ keeps l (follow_saved new) ∥₁
+kept_still keeps k l es new stays more h = subst (λ (J : List Message). ∥ keeps l J ∥₁) (sym stays) (follows (more (follow_saved es)) h)
 
 -- where all is saved the whole journal is kept
-pub kept_whole : {K : Type 0} (keeps : K → List Message → Type 0) (k : K) (es : List FollowEvent) → saved_journal es ≡ (follow_peer es).journal
-    → ∥ keeps k (saved_journal es) ∥₁ → ∥ keeps k (follow_peer es).journal ∥₁
+pub kept_whole : {K : Type 0} (keeps : K → List Message → Type 0) (k : K) (es : List FollowEvent) → follow_saved es ≡ (follow_peer es).journal
+    → ∥ keeps k (follow_saved es) ∥₁ → ∥ keeps k (follow_peer es).journal ∥₁
 kept_whole keeps k es whole h = subst (λ (J : List Message). ∥ keeps k J ∥₁) whole h
 
 -- the rows of a step are those of what has happened
@@ -59,9 +59,9 @@ rows_are p q es new step rows h after grown told =
 -- what stands at a place and has the name of the device's own request is one
 pub own_there : (es : List FollowEvent) (place : ℕ) (id : Name) → StandsAt es place id → id.site ≡ (follow_peer es).site → is_own_at es place ≡ true
 own_there es place id stands site =
-    ap (λ (o : Option Message). unwrap_or (option_map (is_own (follow_peer es).site) o) false) stands.1 ∙ by stands.0 stands.2
+    ap (λ (o : Option Message). unwrap_or (option_map (is_request_of (follow_peer es).site) o) false) stands.1 ∙ by stands.0 stands.2
   where
-    by : (m : Message) → key_of m ≡ keys.Coop id → is_own (follow_peer es).site m ≡ true
+    by : (m : Message) → key_of m ≡ keys.Coop id → is_request_of (follow_peer es).site m ≡ true
     by (Coop q) key = let same : q.id ≡ id = cc in eq-eqb q.id.site (follow_peer es).site (ap (λ (n : Name). n.site) same ∙ site)
     by (Admin e) key = absurd cc
 
@@ -72,4 +72,4 @@ owes_none es n all none owes = sym (by owes.0 owes.1 (cases_lt owes.0 n)) ∙ ow
     by : (place : ℕ) → back_of es ≤ place → (place < n) ⊎ (n ≤ place) → is_own_at es place ≡ false
     by place behind (inl early) = none place behind early
     by place behind (inr late) =
-        ap (λ (o : Option Message). unwrap_or (option_map (is_own (follow_peer es).site) o) false) (slice_get_past (follow_peer es).journal place (omega arith))
+        ap (λ (o : Option Message). unwrap_or (option_map (is_request_of (follow_peer es).site) o) false) (slice_get_past (follow_peer es).journal place (omega arith))

@@ -11,7 +11,7 @@ use Rattle.peer_core.proofs.AfterLemmas.{journal_grows}
 use Rattle.follow_core.specs.declared.event.Stretch.{Stretch}
 use Rattle.follow_core.specs.declared.event.FollowEvent.{FollowEvent}
 use Rattle.follow_core.specs.declared.event.FollowEvent.TheVariants.{Began, Made, Saved, Linked, Passed}
-use Rattle.follow_core.specs.Past.{follow_peer, saved_journal, back_of, link_of, moved_on, passed_on, stretch_from}
+use Rattle.follow_core.specs.Past.{follow_peer, follow_saved, back_of, standing_link, longer_stretch, passed_on, stretch_from}
 use Rattle.follow_core.specs.Laws.{PassedInOrder, PassedInOrderLaw, AllPassedLaw}
 use Rattle.follow_core.proofs.Saving.{beginning, short_saved, back_saved}
 
@@ -36,7 +36,7 @@ saved_in_order J S T passed x longer old = let b = old.within in record { behind
 
 -- a link on which the next message is passed
 passed_in_order : (J S passed : List Message) (m : Message) (x : Stretch) → slice_get J x.mark ≡ Some m → x.mark < length S
-    → PassedInOrder J S passed x → PassedInOrder J S (passed ++ m ∷ []) (moved_on x)
+    → PassedInOrder J S passed x → PassedInOrder J S (passed ++ m ∷ []) (longer_stretch x)
 passed_in_order J S passed m x next saved old =
     let a = old.behind in
     let more : x.mark + 1 ≡ suc x.mark = omega arith in
@@ -53,21 +53,21 @@ passed_in_order J S passed m x next saved old =
 
 pub in_order : PassedInOrderLaw
 in_order [] x h is = absurd cc
-in_order (Began p back ∷ es) x h is = let bad : link_of [] ≡ Some x = subst (λ (fs : List FollowEvent). link_of fs ≡ Some x) h.0.0 is in absurd cc
+in_order (Began p back ∷ es) x h is = let bad : standing_link [] ≡ Some x = subst (λ (fs : List FollowEvent). standing_link fs ≡ Some x) h.0.0 is in absurd cc
 in_order (Made step ∷ es) x h is =
     let grown = journal_grows (follow_peer es) step (answer_of (follow_peer es) step) in
-    subst (λ (J : List Message). PassedInOrder J (saved_journal es) (passed_on es) x) (sym grown.1)
-    (grown_in_order (follow_peer es).journal grown.0 (saved_journal es) (passed_on es) x (short_saved es h.1) (in_order es x h.1 is))
-in_order (Saved ∷ es) x h is = saved_in_order (follow_peer es).journal (saved_journal es) (follow_peer es).journal (passed_on es) x (short_saved es h.1) (in_order es x h.1 is)
+    subst (λ (J : List Message). PassedInOrder J (follow_saved es) (passed_on es) x) (sym grown.1)
+    (grown_in_order (follow_peer es).journal grown.0 (follow_saved es) (passed_on es) x (short_saved es h.1) (in_order es x h.1 is))
+in_order (Saved ∷ es) x h is = saved_in_order (follow_peer es).journal (follow_saved es) (follow_peer es).journal (passed_on es) x (short_saved es h.1) (in_order es x h.1 is)
 in_order (Linked from ∷ es) x h is =
     let saved = back_saved es h.1 in
     let same : from ≡ back_of es = h.0 in
-    subst (PassedInOrder (follow_peer es).journal (saved_journal es) []) (same_Some (stretch_from from) x is)
-    (opened_in_order (follow_peer es).journal (saved_journal es) from (omega arith))
+    subst (PassedInOrder (follow_peer es).journal (follow_saved es) []) (same_Some (stretch_from from) x is)
+    (opened_in_order (follow_peer es).journal (follow_saved es) from (omega arith))
 in_order (Passed m ∷ es) x h is =
-    let known : option_map moved_on (Some h.0.link) ≡ Some x = subst (λ (o : Option Stretch). option_map moved_on o ≡ Some x) h.0.link_is is in
-    subst (PassedInOrder (follow_peer es).journal (saved_journal es) (passed_on es ++ m ∷ [])) (same_Some (moved_on h.0.link) x known)
-    (passed_in_order (follow_peer es).journal (saved_journal es) (passed_on es) m h.0.link h.0.next h.0.saved (in_order es h.0.link h.1 h.0.link_is))
+    let known : option_map longer_stretch (Some h.0.link) ≡ Some x = subst (λ (o : Option Stretch). option_map longer_stretch o ≡ Some x) h.0.link_is is in
+    subst (PassedInOrder (follow_peer es).journal (follow_saved es) (passed_on es ++ m ∷ [])) (same_Some (longer_stretch h.0.link) x known)
+    (passed_in_order (follow_peer es).journal (follow_saved es) (passed_on es) m h.0.link h.0.next h.0.saved (in_order es h.0.link h.1 h.0.link_is))
 in_order (e ∷ es) x h is = in_order es x h.1 is
 
 pub all_passed : AllPassedLaw
@@ -75,4 +75,4 @@ all_passed es x h is whole =
     let order = in_order es x h is in
     let front = beginning es h in
     let within = order.within in
-    order.order ∙ ap (take x.mark) front.1 ∙ take_at (saved_journal es) front.0 x.mark (omega arith)
+    order.order ∙ ap (take x.mark) front.1 ∙ take_at (follow_saved es) front.0 x.mark (omega arith)

@@ -7,8 +7,8 @@ use Rattle.peer_core.specs.Restore.{peer_of_journal}
 use Rattle.peer_core.specs.Sound.{IsSound}
 use Rattle.follow_core.specs.declared.event.FollowEvent.TheVariants.{Began, Saved, Told, Linked}
 use Rattle.follow_core.specs.Happens.{IsFollowPast}
-use Rattle.follow_core.specs.Samples.{sample_message, written, sample_past, restarted}
-use Rattle.follow_core.specs.Samples.{SavedSample, OneMessageSample, PassedInOrderSample, BackSample, TakenOnceSample, ReplaySample}
+use Rattle.follow_core.specs.Samples.{written_message, written_past, sent_past, went_on}
+use Rattle.follow_core.specs.Samples.{SavedBeforePassedSample, OneMessageSample, PassedInOrderSample, BackSample, TakenOnceSample, ReplaySample}
 
 -- the letter is text
 letter_is_text : is_utf8 (97 ∷ []) ≡ true
@@ -19,7 +19,7 @@ letter_is_text = is_utf8-from_IsUtf8 (97 ∷ []) (IsUtf8-from_ascii (97 ∷ []) 
     low (suc i) = omega arith
 
 -- a peer that has the request alone is sound
-sound_sample : IsSound (peer_of_journal 0 (sample_message ∷ []))
+sound_sample : IsSound (peer_of_journal 0 (written_message ∷ []))
 sound_sample = record {
   journal = (record { new = refl; complete = refl; legal = refl }, tt);
   keys = (refl, tt);
@@ -30,10 +30,10 @@ sound_sample = record {
   foreign = refl;
 }
 
-happens : IsFollowPast sample_past
+happens : IsFollowPast sent_past
 happens = (record { link = _; link_is = refl; next = refl; saved = omega arith }, (refl, (omega arith, (tt, (tt, ((refl, omega arith), tt))))))
 
-pub saved_sample : SavedSample
+pub saved_sample : SavedBeforePassedSample
 saved_sample = (happens, refl, refl, refl)
 
 pub no_fork_sample : OneMessageSample
@@ -42,8 +42,8 @@ no_fork_sample = (
   (record { link = _; link_is = refl; next = refl; saved = omega arith }, (refl, ((refl, omega arith), tt))),
   sound_sample,
   record { more = []; journal = refl },
-  record { later = []; earlier = Linked 0 ∷ Told ∷ Saved ∷ written; passed = refl },
-  record { later = []; earlier = Linked 0 ∷ Began (peer_of_journal 0 (sample_message ∷ [])) 0 ∷ []; passed = refl },
+  record { later = []; earlier = Linked 0 ∷ Told ∷ Saved ∷ written_past; passed = refl },
+  record { later = []; earlier = Linked 0 ∷ Began (peer_of_journal 0 (written_message ∷ [])) 0 ∷ []; passed = refl },
 )
 
 pub in_order_sample : PassedInOrderSample
@@ -57,7 +57,7 @@ back_sample = (
 )
 
 pub taken_once_sample : TakenOnceSample
-taken_once_sample = (sound_sample, Contains-from_Has (sample_message ∷ []) sample_message (inl refl))
+taken_once_sample = (sound_sample, Contains-from_Has (written_message ∷ []) written_message (inl refl))
 
 pub replay_sample : ReplaySample
 replay_sample = (happens, refl, refl)

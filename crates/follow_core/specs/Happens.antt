@@ -7,11 +7,11 @@ use Rattle.edit_message.specs.Message.{key_of}
 use Rattle.follow_core.specs.declared.event.Stretch.{Stretch}
 use Rattle.follow_core.specs.declared.event.FollowEvent.{FollowEvent}
 use Rattle.follow_core.specs.declared.event.FollowEvent.TheVariants.{Began, Made, Saved, Told, CameBack, Linked, Passed}
-use Rattle.follow_core.specs.Past.{follow_peer, saved_journal, is_own_at, back_of, link_of}
+use Rattle.follow_core.specs.Past.{follow_peer, follow_saved, is_own_at, back_of, standing_link}
 
 -- all that the journal has is saved
 abbrev pub HasSavedAll : List FollowEvent → Type 0
-HasSavedAll es = length (follow_peer es).journal ≤ length (saved_journal es)
+HasSavedAll es = length (follow_peer es).journal ≤ length (follow_saved es)
 
 -- the message at a place of the journal is the request of a name
 abbrev pub StandsAt : List FollowEvent → ℕ → Name → Type 0
@@ -24,15 +24,15 @@ Owes es = (place : ℕ) × (back_of es ≤ place) × (is_own_at es place ≡ tru
 -- a request of the device's own comes back, which is saved, behind those that came back before
 pub record ComesBack (es : List FollowEvent) (place : ℕ) : Type 0 where
   pub behind : back_of es ≤ place
-  pub saved : place < length (saved_journal es)
+  pub saved : place < length (follow_saved es)
   pub own : is_own_at es place ≡ true
 
 -- a link is passed the message at its mark, which is saved
 pub record PassesItem (es : List FollowEvent) (m : Message) : Type 0 where
   pub link : Stretch
-  pub link_is : link_of es ≡ Some link
+  pub link_is : standing_link es ≡ Some link
   pub next : slice_get (follow_peer es).journal link.mark ≡ Some m
-  pub saved : link.mark < length (saved_journal es)
+  pub saved : link.mark < length (follow_saved es)
 
 -- what may happen next
 abbrev pub MayComeNext : List FollowEvent → FollowEvent → Type 0
@@ -52,6 +52,6 @@ IsFollowPast (e ∷ es) = MayComeNext es e × IsFollowPast es
 -- how much is saved, what came back, and how far the journal was passed on the link that stands
 pub record IsOutboxOf (es : List FollowEvent) (saved back : ℕ) (link : Option Stretch) : Type 0 where
   pub past : IsFollowPast es
-  pub saved_is : saved ≡ length (saved_journal es)
+  pub saved_is : saved ≡ length (follow_saved es)
   pub back_is : back ≡ back_of es
-  pub link_is : link ≡ link_of es
+  pub link_is : link ≡ standing_link es

@@ -11,30 +11,30 @@ use Rattle.peer_core.specs.Sound.{IsSound}
 use Rattle.follow_core.specs.declared.event.Stretch.{Stretch}
 use Rattle.follow_core.specs.declared.event.FollowEvent.{FollowEvent}
 use Rattle.follow_core.specs.declared.event.FollowEvent.TheVariants.{Told, CameBack, Passed}
-use Rattle.follow_core.specs.Past.{first_peer, follow_peer, saved_journal, steps_made, first_back, back_of, link_of, passed_on}
+use Rattle.follow_core.specs.Past.{starting_peer, follow_peer, follow_saved, follow_steps, first_back, back_of, standing_link, passed_on}
 use Rattle.follow_core.specs.Happens.{IsFollowPast}
 
 -- ---- saved before sent and told
 
 -- each message that was passed was saved by then
-abbrev pub SavedLaw : Type 0
-SavedLaw = (later earlier : List FollowEvent) (m : Message) → IsFollowPast (later ++ Passed m ∷ earlier) → Contains (saved_journal earlier) m
+abbrev pub SavedBeforePassedLaw : Type 0
+SavedBeforePassedLaw = (later earlier : List FollowEvent) (m : Message) → IsFollowPast (later ++ Passed m ∷ earlier) → Contains (follow_saved earlier) m
 
 -- what is saved is a beginning of the journal
 abbrev pub SavedFirstLaw : Type 0
-SavedFirstLaw = (es : List FollowEvent) → IsFollowPast es → (more : List Message) × ((follow_peer es).journal ≡ saved_journal es ++ more)
+SavedFirstLaw = (es : List FollowEvent) → IsFollowPast es → (more : List Message) × ((follow_peer es).journal ≡ follow_saved es ++ more)
 
 -- when the program was told its answers, all that the journal had at any time before was saved
-abbrev pub ToldLaw : Type 0
-ToldLaw = (later between es : List FollowEvent) → IsFollowPast (later ++ Told ∷ (between ++ es))
-    → (more : List Message) × (saved_journal (between ++ es) ≡ (follow_peer es).journal ++ more)
+abbrev pub ProgramToldLaw : Type 0
+ProgramToldLaw = (later between es : List FollowEvent) → IsFollowPast (later ++ Told ∷ (between ++ es))
+    → (more : List Message) × (follow_saved (between ++ es) ≡ (follow_peer es).journal ++ more)
 
 -- ---- no fork
 
 -- a follower begins with a peer whose journal begins with what an earlier one had saved, as each crash leaves it
 pub record GoesOnFrom (es fs : List FollowEvent) : Type 0 where
   pub more : List Message
-  pub journal : (first_peer fs).journal ≡ saved_journal es ++ more
+  pub journal : (starting_peer fs).journal ≡ follow_saved es ++ more
 
 -- a message was passed on some link
 pub record WasPassed (es : List FollowEvent) (m : Message) : Type 0 where
@@ -56,12 +56,12 @@ pub record PassedInOrder (journal saved passed : List Message) (x : Stretch) : T
   pub order : take x.from journal ++ passed ≡ take x.mark journal
 
 abbrev pub PassedInOrderLaw : Type 0
-PassedInOrderLaw = (es : List FollowEvent) (x : Stretch) → IsFollowPast es → link_of es ≡ Some x → PassedInOrder (follow_peer es).journal (saved_journal es) (passed_on es) x
+PassedInOrderLaw = (es : List FollowEvent) (x : Stretch) → IsFollowPast es → standing_link es ≡ Some x → PassedInOrder (follow_peer es).journal (follow_saved es) (passed_on es) x
 
 -- where its mark has come to the end of what is saved all of that was passed behind where it began
 abbrev pub AllPassedLaw : Type 0
-AllPassedLaw = (es : List FollowEvent) (x : Stretch) → IsFollowPast es → link_of es ≡ Some x → length (saved_journal es) ≤ x.mark
-    → take x.from (follow_peer es).journal ++ passed_on es ≡ saved_journal es
+AllPassedLaw = (es : List FollowEvent) (x : Stretch) → IsFollowPast es → standing_link es ≡ Some x → length (follow_saved es) ≤ x.mark
+    → take x.from (follow_peer es).journal ++ passed_on es ≡ follow_saved es
 
 -- ---- nothing is left out
 
@@ -85,4 +85,4 @@ TakenOnceLaw = (p : Peer) (m : Message) → IsSound p → Contains p.journal m �
 
 -- the peer is the first one, after all steps in order
 abbrev pub SameAnswersLaw : Type 0
-SameAnswersLaw = (es : List FollowEvent) → IsFollowPast es → follow_peer es ≡ fold peer_after (first_peer es) (steps_made es)
+SameAnswersLaw = (es : List FollowEvent) → IsFollowPast es → follow_peer es ≡ fold peer_after (starting_peer es) (follow_steps es)

@@ -12,10 +12,10 @@ use Rattle.follow_core.specs.declared.event.FollowEvent.TheVariants.{Began, Made
 -- ---- the device's peer
 
 -- the peer that the follower began with
-abbrev pub first_peer : List FollowEvent → Peer
-first_peer [] = fresh_peer 0
-first_peer (Began p back ∷ es) = p
-first_peer (e ∷ es) = first_peer es
+abbrev pub starting_peer : List FollowEvent → Peer
+starting_peer [] = fresh_peer 0
+starting_peer (Began p back ∷ es) = p
+starting_peer (e ∷ es) = starting_peer es
 
 -- its peer now: the first one, after all steps that were made
 abbrev pub follow_peer : List FollowEvent → Peer
@@ -25,28 +25,28 @@ follow_peer (Made step ∷ es) = peer_after (follow_peer es) step
 follow_peer (e ∷ es) = follow_peer es
 
 -- the journal when all was saved the last time
-abbrev pub saved_journal : List FollowEvent → List Message
-saved_journal [] = []
-saved_journal (Began p back ∷ es) = p.journal
-saved_journal (Saved ∷ es) = (follow_peer es).journal
-saved_journal (e ∷ es) = saved_journal es
+abbrev pub follow_saved : List FollowEvent → List Message
+follow_saved [] = []
+follow_saved (Began p back ∷ es) = p.journal
+follow_saved (Saved ∷ es) = (follow_peer es).journal
+follow_saved (e ∷ es) = follow_saved es
 
 -- the steps that were made, in order
-abbrev pub steps_made : List FollowEvent → List Step
-steps_made [] = []
-steps_made (Made step ∷ es) = steps_made es ++ step ∷ []
-steps_made (e ∷ es) = steps_made es
+abbrev pub follow_steps : List FollowEvent → List Step
+follow_steps [] = []
+follow_steps (Made step ∷ es) = follow_steps es ++ step ∷ []
+follow_steps (e ∷ es) = follow_steps es
 
 -- ---- what is at the host
 
 -- a message is a request of a site
-abbrev pub is_own : ℕ → Message → Bool
-is_own site (Coop q) = q.id.site == site
-is_own site (Admin e) = false
+abbrev pub is_request_of : ℕ → Message → Bool
+is_request_of site (Coop q) = q.id.site == site
+is_request_of site (Admin e) = false
 
 -- the message at a place of the journal is a request of the device's own
 abbrev pub is_own_at : List FollowEvent → ℕ → Bool
-is_own_at es place = unwrap_or (option_map (is_own (follow_peer es).site) (slice_get (follow_peer es).journal place)) false
+is_own_at es place = unwrap_or (option_map (is_request_of (follow_peer es).site) (slice_get (follow_peer es).journal place)) false
 
 -- below which place the device's own requests were at the host at the start
 abbrev pub first_back : List FollowEvent → ℕ
@@ -68,15 +68,15 @@ abbrev pub stretch_from : ℕ → Stretch
 stretch_from from = record { from = from; mark = from }
 
 -- one more message was passed on it
-abbrev pub moved_on : Stretch → Stretch
-moved_on x = record x { mark = x.mark + 1 }
+abbrev pub longer_stretch : Stretch → Stretch
+longer_stretch x = record x { mark = x.mark + 1 }
 
 -- how far the journal was passed on the link that stands
-abbrev pub link_of : List FollowEvent → Option Stretch
-link_of [] = None
-link_of (Linked from ∷ es) = Some (stretch_from from)
-link_of (Passed m ∷ es) = option_map moved_on (link_of es)
-link_of (e ∷ es) = link_of es
+abbrev pub standing_link : List FollowEvent → Option Stretch
+standing_link [] = None
+standing_link (Linked from ∷ es) = Some (stretch_from from)
+standing_link (Passed m ∷ es) = option_map longer_stretch (standing_link es)
+standing_link (e ∷ es) = standing_link es
 
 -- what was passed on it, in order
 abbrev pub passed_on : List FollowEvent → List Message

@@ -6,7 +6,7 @@ ghost use Rattle.peer_core.specs.Sound.{IsSound};
 ghost use Rattle.peer_core.specs.Answers.{answer_of};
 ghost use Rattle.text_change.specs.Told.{AreRowsOf};
 ghost use Rattle.follow_core.specs.declared.event.FollowEvent.{FollowEvent};
-ghost use Rattle.follow_core.specs.Past.{follow_peer, saved_journal, is_own, is_own_at, back_of, link_of};
+ghost use Rattle.follow_core.specs.Past.{follow_peer, follow_saved, is_request_of, is_own_at, back_of, standing_link};
 ghost use Rattle.follow_core.specs.Happens.{HasSavedAll, StandsAt, Owes, ComesBack, IsFollowPast};
 
 use crate::outbox::Outbox;
@@ -30,12 +30,12 @@ pub struct Follower<K: Keeper> {
     ghost peer_is: { FollowEvent.Began (K.peer keeper) 0 ∷ [] ≡ FollowEvent.Began (follow_peer outbox) 0 ∷ [] } by { Coded-set outbox-code (FollowEvent.Began (K.peer keeper) 0 ∷ []) (FollowEvent.Began (follow_peer outbox) 0 ∷ []) },
 
     // It keeps what was saved.
-    ghost kept: { ∥ K.keeps keeper (saved_journal outbox) ∥₁ },
+    ghost kept: { ∥ K.keeps keeper (follow_saved outbox) ∥₁ },
 }
 
 // Whether a message is a request of a site.
-fn is_own(site: u16, message: &Message) -> bool
-    ensures { result ≡ is_own site message.now }
+fn is_request_of(site: u16, message: &Message) -> bool
+    ensures { result ≡ is_request_of site message.now }
 {
     match message {
         Message::Coop(request) => request.id().site() == site,
@@ -152,7 +152,7 @@ impl<K: Keeper> Follower<K> {
     pub fn pass(&mut self) -> Result<Option<Message>, KeepFail>
         ensures passed { IfOk result (λ found. IfSome found (λ m. self.new.outbox ≡ FollowEvent.Passed m ∷ self.old.outbox)) }
         ensures kept { IfOk result (λ found. IfSome found (λ m. ∥ ((J : List Message) × K.keeps self.new.keeper J × Contains J m) ∥₁)) }
-        ensures none { IfOk result (λ found. IsNone found → IfSome (link_of self.old.outbox) (λ x. length (saved_journal self.old.outbox) ≤ x.mark)) }
+        ensures none { IfOk result (λ found. IsNone found → IfSome (standing_link self.old.outbox) (λ x. length (follow_saved self.old.outbox) ≤ x.mark)) }
         ensures none_changed { IfOk result (λ found. IsNone found → self.new ≡ self.old) }
         ensures unchanged { OnErr result (self.new ≡ self.old) }
     {
@@ -174,9 +174,9 @@ impl<K: Keeper> Follower<K> {
 
     /// Whether a message is a request of the device's own.
     pub fn is_own(&self, message: &Message) -> bool
-        ensures { result ≡ is_own (follow_peer self.now.outbox).site message.now }
+        ensures { result ≡ is_request_of (follow_peer self.now.outbox).site message.now }
     {
-        is_own(self.peer().site(), message)
+        is_request_of(self.peer().site(), message)
     }
 
     // Whether the message at a place of the journal is the request of a name.
@@ -192,7 +192,7 @@ impl<K: Keeper> Follower<K> {
     // Where the request of a name stands that is saved, behind those that came back.
     fn place_of(&self, id: Name) -> Option<u32>
         ensures behind { IfSome result (λ place. back_of self.now.outbox ≤ place) }
-        ensures saved { IfSome result (λ place. place + 1 ≤ length (saved_journal self.now.outbox)) }
+        ensures saved { IfSome result (λ place. place + 1 ≤ length (follow_saved self.now.outbox)) }
         ensures stands { IfSome result (λ place. StandsAt self.now.outbox place id) }
     {
         for place in self.outbox.back()..self.outbox.saved() {

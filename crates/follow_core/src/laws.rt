@@ -1,15 +1,15 @@
 //! Laws of what happens at followers. They hold of each follower at every moment, since what has happened at it is a past.
 //! Each has a sample, a small past on which its premises hold.
-ghost use Rattle.follow_core.specs.Laws.{SavedLaw, SavedFirstLaw, ToldLaw, OneMessageLaw, PassedInOrderLaw, AllPassedLaw, BackLaw, SameAnswersLaw, TakenOnceLaw};
-ghost use Rattle.follow_core.specs.Samples.{SavedSample, OneMessageSample, PassedInOrderSample, BackSample, TakenOnceSample, ReplaySample};
+ghost use Rattle.follow_core.specs.Laws.{SavedBeforePassedLaw, SavedFirstLaw, ProgramToldLaw, OneMessageLaw, PassedInOrderLaw, AllPassedLaw, BackLaw, SameAnswersLaw, TakenOnceLaw};
+ghost use Rattle.follow_core.specs.Samples.{SavedBeforePassedSample, OneMessageSample, PassedInOrderSample, BackSample, TakenOnceSample, ReplaySample};
 
 /// Each message that was passed was saved by then, and what is saved is a beginning of the journal. When the program is
 /// told the answers of its steps, all that they left is saved.
 pub fn saved_before_sent()
-    ensures passed { SavedLaw }
-    ensures told { ToldLaw }
+    ensures passed { SavedBeforePassedLaw }
+    ensures told { ProgramToldLaw }
     ensures beginning { SavedFirstLaw }
-    ensures sample { SavedSample }
+    ensures sample { SavedBeforePassedSample }
 {}
 
 /// Over crashes and restarts no two messages are passed under one name or one version.

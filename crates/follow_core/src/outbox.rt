@@ -1,7 +1,7 @@
 //! What of the journal is saved, what of it came back from the host, and how far it was passed on the link that stands.
 ghost use Rattle.std.specs.Prelude.{◌≡◌, ◌↔◌, ◌∷◌, [], ◌<◌, ◌≤◌, Some, Contains, length, slice_get, IsTrue};
 ghost use Rattle.follow_core.specs.declared.event.FollowEvent.{FollowEvent};
-ghost use Rattle.follow_core.specs.Past.{follow_peer, saved_journal, back_of, link_of};
+ghost use Rattle.follow_core.specs.Past.{follow_peer, follow_saved, back_of, standing_link};
 ghost use Rattle.follow_core.specs.Happens.{HasSavedAll, ComesBack, IsFollowPast};
 
 use crate::event::{FollowEvent, Stretch};
@@ -61,7 +61,7 @@ impl Outbox {
 
     /// How many messages of the journal are saved.
     pub fn saved(&self) -> u32
-        ensures count { result ≡ length (saved_journal self.now) }
+        ensures count { result ≡ length (follow_saved self.now) }
         ensures past { IsFollowPast self.now }
     {
         self.saved
@@ -70,14 +70,14 @@ impl Outbox {
     /// Below which place of the journal the device's own requests are known to be at the host.
     pub fn back(&self) -> u32
         ensures place { result ≡ back_of self.now }
-        ensures saved { back_of self.now ≤ length (saved_journal self.now) }
+        ensures saved { back_of self.now ≤ length (follow_saved self.now) }
     {
         self.back
     }
 
     /// How far the journal was passed on the link that stands.
     pub fn link(&self) -> Option<Stretch>
-        ensures { result ≡ link_of self.now }
+        ensures { result ≡ standing_link self.now }
     {
         self.link
     }
@@ -118,7 +118,7 @@ impl Outbox {
     pub(crate) fn told(&mut self)
         requires { HasSavedAll self.old }
         ensures told { self.new ≡ FollowEvent.Told ∷ self.old }
-        ensures whole { saved_journal self.old ≡ (follow_peer self.old).journal }
+        ensures whole { follow_saved self.old ≡ (follow_peer self.old).journal }
     {
         self.past = self.past.changed(&());
     }
@@ -144,11 +144,11 @@ impl Outbox {
 
     /// The message at the mark, which is saved, was passed.
     pub(crate) fn passed(&mut self, known: Stretch, message: &Message)
-        requires known { link_of self.old ≡ Some known }
+        requires known { standing_link self.old ≡ Some known }
         requires next { slice_get (follow_peer self.old).journal known.mark ≡ Some message.now }
-        requires saved { known.mark < length (saved_journal self.old) }
+        requires saved { known.mark < length (follow_saved self.old) }
         ensures passed { self.new ≡ FollowEvent.Passed message.now ∷ self.old }
-        ensures among { Contains (saved_journal self.old) message.now }
+        ensures among { Contains (follow_saved self.old) message.now }
     {
         let Stretch { from, mark } = known;
         prove!(mark < self.saved);

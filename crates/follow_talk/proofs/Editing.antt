@@ -22,7 +22,7 @@ use Rattle.text_change.specs.Told.{is_done}
 use Rattle.follow_core.specs.declared.event.FollowEvent.{FollowEvent}
 use Rattle.follow_core.specs.declared.event.FollowEvent.TheVariants.{Made}
 use Rattle.follow_core.specs.Past.{follow_peer}
-use Rattle.follow_text.specs.Edits.{deletes, inserts, ReplacedLaw}
+use Rattle.follow_text.specs.Edits.{deletions, inserts, ReplacedLaw}
 use Rattle.follow_text.specs.Shown.{with_pieces}
 use Rattle.follow_talk.specs.Mirrors.{ShowsText}
 
@@ -57,17 +57,17 @@ edit_shows law (Err e) es fs edit a old mid new rows sound is after same shows t
 
 -- ---- many
 
-deletes_push : (at n : ℕ) → deletes at (suc n) ≡ deletes at n ++ Delete at ∷ []
-deletes_push at zero = refl
-deletes_push at (suc n) = ap (λ (es : List LocalEdit). Delete at ∷ es) (deletes_push at n)
+deletions_push : (at n : ℕ) → deletions at (suc n) ≡ deletions at n ++ Delete at ∷ []
+deletions_push at zero = refl
+deletions_push at (suc n) = ap (λ (es : List LocalEdit). Delete at ∷ es) (deletions_push at n)
 
 -- one more piece goes
-pub one_gone : (pieces old new : Pieces) (at n : ℕ) → old ≡ text_told pieces (deletes at n) → new ≡ text_edited old (Delete at) → new ≡ text_told pieces (deletes at (n + 1))
+pub one_gone : (pieces old new : Pieces) (at n : ℕ) → old ≡ text_told pieces (deletions at n) → new ≡ text_edited old (Delete at) → new ≡ text_told pieces (deletions at (n + 1))
 one_gone pieces old new at n old_is new_is =
     new_is ∙ ap (λ (p : Pieces). text_edited p (Delete at)) old_is
-    ∙ sym (fold-append text_edited pieces (deletes at n) (Delete at ∷ []))
-    ∙ ap (λ (es : List LocalEdit). text_told pieces es) (sym (deletes_push at n))
-    ∙ ap (λ (k : ℕ). text_told pieces (deletes at k)) (sym (add-one n))
+    ∙ sym (fold-append text_edited pieces (deletions at n) (Delete at ∷ []))
+    ∙ ap (λ (es : List LocalEdit). text_told pieces es) (sym (deletions_push at n))
+    ∙ ap (λ (k : ℕ). text_told pieces (deletions at k)) (sym (add-one n))
 
 inserts_push : (at : ℕ) (put : Pieces) (letter : List ℕ) → inserts at (put ++ letter ∷ []) ≡ inserts at put ++ Insert (at + length put) letter ∷ []
 inserts_push at [] letter = ap (λ (k : ℕ). Insert k letter ∷ []) (omega arith)
@@ -95,6 +95,6 @@ next_put pieces old new P at n letter there is old_is new_is =
 
 -- pieces that go and others that come there replace a range
 pub range_replaced : ReplacedLaw → (old new put : Pieces) (at out : ℕ) (bytes : List ℕ) → at + out ≤ length old → concat (with_pieces old at out put) ≡ bytes
-    → new ≡ text_told (text_told old (deletes at out)) (inserts at put) → concat new ≡ bytes
+    → new ≡ text_told (text_told old (deletions at out)) (inserts at put) → concat new ≡ bytes
 range_replaced law old new put at out bytes few bytes_are new_is =
-    ap (λ (p : Pieces). concat p) (new_is ∙ sym (fold-append text_edited old (deletes at out) (inserts at put)) ∙ law old put at out few) ∙ bytes_are
+    ap (λ (p : Pieces). concat p) (new_is ∙ sym (fold-append text_edited old (deletions at out) (inserts at put)) ∙ law old put at out few) ∙ bytes_are

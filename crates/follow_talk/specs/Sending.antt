@@ -5,7 +5,7 @@ use Rattle.edit_frame.specs.declared.frame.Frame.TheVariants.{Item}
 use Rattle.edit_frame.specs.Spelling.{spelling}
 use Rattle.follow_core.specs.declared.event.FollowEvent.{FollowEvent}
 use Rattle.follow_core.specs.declared.event.FollowEvent.TheVariants.{Passed}
-use Rattle.follow_core.specs.Past.{follow_peer, is_own}
+use Rattle.follow_core.specs.Past.{follow_peer, is_request_of}
 
 -- what has happened behind the pass of messages, one after another
 abbrev pub behind_passes : List Message → List FollowEvent → List FollowEvent
@@ -14,7 +14,7 @@ behind_passes (m ∷ ms) es = behind_passes ms (Passed m ∷ es)
 
 -- the frame of a message, if it is a request of a site
 abbrev pub own_frame : ℕ → Message → List ℕ
-own_frame site m = if is_own site m then spelling (Item m) else []
+own_frame site m = if is_request_of site m then spelling (Item m) else []
 
 -- the frames of those of messages that are requests of a site, one behind the other
 abbrev pub own_frames : ℕ → List Message → List ℕ

@@ -6,7 +6,7 @@ ghost use Rattle.peer_core.specs.Laws.{text_edited};
 ghost use Rattle.text_change.specs.Rows.{text_told};
 ghost use Rattle.text_change.specs.Told.{is_done};
 ghost use Rattle.follow_core.specs.Past.{follow_peer};
-ghost use Rattle.follow_text.specs.Edits.{deletes, inserts};
+ghost use Rattle.follow_text.specs.Edits.{deletions, inserts};
 ghost use Rattle.follow_text.specs.Letters.{IsLetterPlace};
 ghost use Rattle.follow_text.specs.Rows.{replaced};
 
@@ -117,7 +117,7 @@ impl<K: Keeper> Talk<K> {
 
     // Takes so many pieces out from a place on.
     fn take_out(&mut self, at: u32, out: usize, written: &mut Written) -> Result<bool, Stop>
-        ensures { IfOk result (λ made. made ≡ true → self.new.mirror.shown ≡ text_told self.old.mirror.shown (deletes at out)) }
+        ensures { IfOk result (λ made. made ≡ true → self.new.mirror.shown ≡ text_told self.old.mirror.shown (deletions at out)) }
     {
         for gone in 0..out {
             let _ = gone;
@@ -164,7 +164,7 @@ impl<K: Keeper> Talk<K> {
         written: &mut Written,
     ) -> Result<bool, Stop>
         ensures { IfOk result (λ made. made ≡ true
-            → self.new.mirror.shown ≡ text_told (text_told self.old.mirror.shown (deletes at out)) (inserts at put.now)) }
+            → self.new.mirror.shown ≡ text_told (text_told self.old.mirror.shown (deletions at out)) (inserts at put.now)) }
     {
         if at >= MOST_PIECES || put.len() >= MOST_PIECES - at {
             return Err(Stop::NoMemory);

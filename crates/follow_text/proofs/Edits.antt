@@ -4,7 +4,7 @@ use Rattle.std.specs.Prelude.{fold, insert, remove}
 use Rattle.std.proofs.lemmas.List.{take-append-drop, drop-drop, length-drop, length-take-le}
 use Rattle.std.proofs.lemmas.List.Sums.{fold-append}
 use Rattle.peer_core.specs.Laws.{text_edited}
-use Rattle.follow_text.specs.Edits.{deletes, inserts, ReplacedLaw}
+use Rattle.follow_text.specs.Edits.{deletions, inserts, ReplacedLaw}
 
 abbrev Pieces : Type 0
 Pieces = List (List ℕ)
@@ -19,10 +19,10 @@ inserted : (front back : Pieces) (piece : List ℕ) → insert (front ++ back) (
 inserted [] back piece = refl
 inserted (x ∷ front) back piece = ap (λ (rest : Pieces). x ∷ rest) (inserted front back piece)
 
-all_removed : (front middle back : Pieces) → fold text_edited (front ++ (middle ++ back)) (deletes (length front) (length middle)) ≡ front ++ back
+all_removed : (front middle back : Pieces) → fold text_edited (front ++ (middle ++ back)) (deletions (length front) (length middle)) ≡ front ++ back
 all_removed front [] back = refl
 all_removed front (piece ∷ middle) back =
-    ap (λ (P : Pieces). fold text_edited P (deletes (length front) (length middle))) (removed front (middle ++ back) piece) ∙ all_removed front middle back
+    ap (λ (P : Pieces). fold text_edited P (deletions (length front) (length middle))) (removed front (middle ++ back) piece) ∙ all_removed front middle back
 
 all_inserted : (front put back : Pieces) → fold text_edited (front ++ back) (inserts (length front) put) ≡ front ++ (put ++ back)
 all_inserted front [] back = refl
@@ -47,9 +47,9 @@ replaced_by pieces put at out few =
     let n : length front ≡ at = length-take-le at pieces (omega arith) in
     let left = length-drop at pieces in
     let m : length middle ≡ out = length-take-le out (drop at pieces) (omega arith) in
-    fold-append text_edited pieces (deletes at out) (inserts at put)
-    ∙ ap (λ (P : Pieces). fold text_edited (fold text_edited P (deletes at out)) (inserts at put)) (parts pieces at out)
-    ∙ ap (λ (k : ℕ). fold text_edited (fold text_edited (front ++ (middle ++ back)) (deletes at k)) (inserts at put)) (sym m)
-    ∙ ap (λ (k : ℕ). fold text_edited (fold text_edited (front ++ (middle ++ back)) (deletes k (length middle))) (inserts k put)) (sym n)
+    fold-append text_edited pieces (deletions at out) (inserts at put)
+    ∙ ap (λ (P : Pieces). fold text_edited (fold text_edited P (deletions at out)) (inserts at put)) (parts pieces at out)
+    ∙ ap (λ (k : ℕ). fold text_edited (fold text_edited (front ++ (middle ++ back)) (deletions at k)) (inserts at put)) (sym m)
+    ∙ ap (λ (k : ℕ). fold text_edited (fold text_edited (front ++ (middle ++ back)) (deletions k (length middle))) (inserts k put)) (sym n)
     ∙ ap (λ (P : Pieces). fold text_edited P (inserts (length front) put)) (all_removed front middle back)
     ∙ all_inserted front put back

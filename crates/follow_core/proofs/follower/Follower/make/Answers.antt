@@ -2,7 +2,7 @@ use Rattle.std.proofs.Common.{refl, ap, subst, ◌∙◌}
 use Rattle.peer_core.specs.Peer.{Peer}
 use Rattle.text_change.specs.Ahead.{IsAheadOf}
 use Rattle.text_change.specs.Told.{AreRowsOf}
-use Rattle.follow_core.specs.Past.{saved_journal}
+use Rattle.follow_core.specs.Past.{follow_saved}
 use Rattle.follow_core.proofs.Kept.{made_peer, kept_peer, kept_still, rows_are}
 use Rattle.follow_core.proofs.follower.Follower.make.Goals as goal
 
@@ -15,7 +15,7 @@ invariant_of-self g c = record {
 pub invariant_of-self-2 : goal.invariant_of-self-2
 invariant_of-self-2 g c = record {
   peer_is = made_peer _ _ c.args.step _ _ c.args.self.now.peer_is c.in_ok-answer.ensures.after (c.made.ensures ∙ c.foreseen-past.ensures);
-  kept = kept_still g.K.Keeper.keeps _ _ c.args.self.now.outbox c.made.new.self (ap saved_journal (c.made.ensures ∙ c.foreseen-past.ensures)) c.make.ensures.kept c.args.self.now.kept;
+  kept = kept_still g.K.Keeper.keeps _ _ c.args.self.now.outbox c.made.new.self (ap follow_saved (c.made.ensures ∙ c.foreseen-past.ensures)) c.make.ensures.kept c.args.self.now.kept;
 }
 
 pub returns-clause-rows : goal.returns-clause-rows
