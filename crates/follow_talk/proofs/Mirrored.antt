@@ -1,6 +1,6 @@
 -- What a program has of a text that shows, as that changes and it is told.
 use Rattle.std.proofs.Common.{◌≡◌, ℕ, List, sym, subst, ◌∙◌, arith}
-use Rattle.std.specs.Prelude.{Option, Some, None, Result, Ok, Err, OnErr, IsSome}
+use Rattle.std.specs.Prelude.{Option, Some, None, IsSome}
 use Rattle.std.proofs.Math.Logic.{∥∥₁_map}
 use Rattle.std.proofs.lemmas.Grind.{merely}
 use Rattle.std.specs.List.{concat}
@@ -62,11 +62,6 @@ step_seen t u pending shown same h = subst (λ (bytes : List ℕ). Meets bytes p
 -- what it has seen of the rows that it was told doesn't matter
 pub in_step_seen : (t u : Tracked) (pending : Option TextRow) (shown : List (List ℕ)) → told_bytes u ≡ told_bytes t → ∥ IsInStep (Some t) pending shown ∥₁ → ∥ IsInStep (Some u) pending shown ∥₁
 in_step_seen t u pending shown same h = ∥∥₁_map h (step_seen t u pending shown same)
-
--- what holds anyway holds where a call fails
-pub where_err : {A E P : Type 0} (result : Result A E) → P → OnErr result P
-where_err (Ok x) p = tt
-where_err (Err e) p = p
 
 step_as : (tracked : Option Tracked) (before after : Option TextRow) (shown : List (List ℕ)) → MeetsAs before after → IsInStep tracked before shown → IsInStep tracked after shown
 step_as None before after shown as_ h = tt

@@ -2,4 +2,4 @@ pub mod Edges
 pub mod Cutting
 pub mod Rows
 pub mod Edits
-mod Joining
+pub mod Joining

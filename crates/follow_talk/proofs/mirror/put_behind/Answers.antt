@@ -2,7 +2,8 @@ use Rattle.std.proofs.Common.{Some, sym, subst}
 use Rattle.std.specs.Prelude.{Option}
 use Rattle.follow_text.specs.declared.text_row.TextRow.{TextRow}
 use Rattle.follow_talk.specs.Mirrors.{MeetsAs, TakesIn}
-use Rattle.follow_talk.proofs.Mirrored.{behind_some, where_err}
+use Rattle.follow_text.proofs.Joining.{where_err}
+use Rattle.follow_talk.proofs.Mirrored.{behind_some}
 use Rattle.follow_talk.proofs.mirror.put_behind.Goals as goal
 
 pub returns-in_err-join-in-Some-clause-stays : goal.returns-in_err-join-in-Some-clause-stays
