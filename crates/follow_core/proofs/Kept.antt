@@ -16,9 +16,8 @@ use Rattle.peer_core.specs.After.{peer_after}
 use Rattle.follow_core.specs.declared.event.FollowEvent.{FollowEvent}
 use Rattle.follow_core.specs.declared.event.FollowEvent.TheVariants.{Began, Made}
 use Rattle.text_change.specs.Told.{AreRowsOf}
-use Rattle.follow_core.specs.Past.{follow_peer, follow_saved, is_request_of, is_own_at, back_of}
+use Rattle.follow_core.specs.Past.{follow_peer, is_request_of, is_own_at, back_of}
 use Rattle.follow_core.specs.Happens.{StandsAt, Owes}
-use Rattle.follow_core.proofs.Truncated.{follows}
 
 -- a keeper's peer is that of what has happened
 abbrev pub SamePeer : Peer → List FollowEvent → Type 0
@@ -38,16 +37,6 @@ made_peer p q step es new h after grown = ap began (after ∙ ap (λ (r : Peer).
 -- where the peer and what has happened of it stay
 pub kept_peer : (p q : Peer) (es new : List FollowEvent) → SamePeer p es → q ≡ p → follow_peer new ≡ follow_peer es → SamePeer q new
 kept_peer p q es new h same stays = ap began (same ∙ same_peer p es h ∙ sym stays)
-
--- what is kept is kept where what was saved stays
-pub kept_still : {K : Type 0} (keeps : K → List Message → Type 0) (k l : K) (es new : List FollowEvent) → follow_saved new ≡ follow_saved es
-    → ((J : List Message) → keeps k J → keeps l J) → ∥ keeps k (follow_saved es) ∥₁ → ∥ keeps l (follow_saved new) ∥₁
-kept_still keeps k l es new stays more h = subst (λ (J : List Message). ∥ keeps l J ∥₁) (sym stays) (follows (more (follow_saved es)) h)
-
--- where all is saved the whole journal is kept
-pub kept_whole : {K : Type 0} (keeps : K → List Message → Type 0) (k : K) (es : List FollowEvent) → follow_saved es ≡ (follow_peer es).journal
-    → ∥ keeps k (follow_saved es) ∥₁ → ∥ keeps k (follow_peer es).journal ∥₁
-kept_whole keeps k es whole h = subst (λ (J : List Message). ∥ keeps k J ∥₁) whole h
 
 -- the rows of a step are those of what has happened
 pub rows_are : (p q : Peer) (es new : List FollowEvent) (step : Step) (rows : List LocalEdit) → SamePeer p es → q ≡ peer_after p step → new ≡ Made step ∷ es

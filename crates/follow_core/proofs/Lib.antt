@@ -1,4 +1,3 @@
-pub mod Truncated
 pub mod Kept
 pub mod Saving
 pub mod PassedInOrder

@@ -1,53 +1,20 @@
 -- What is saved, and what was passed of it.
-use Rattle.std.proofs.Common.{◌≡◌, ℕ, zero, suc, ◌+◌, ◌<◌, ◌≤◌, inl, inr, ⊎_elim, List, [], ◌∷◌, ◌++◌, length, get_or, Some, None, refl, ap, sym, subst, ◌∙◌, arith, append_assoc, length-append}
+use Rattle.std.proofs.Common.{◌≡◌, ℕ, ◌+◌, ◌<◌, ◌≤◌, inl, inr, ⊎_elim, List, [], ◌∷◌, ◌++◌, length, Some, None, refl, ap, sym, subst, ◌∙◌, arith}
 use Rattle.std.specs.Prelude.{slice_get, fold, Contains}
-use Rattle.std.proofs.lemmas.List.{append-nil}
-use Rattle.std.proofs.lemmas.List.Elements.{Contains-append_left}
 use Rattle.std.proofs.lemmas.List.Sums.{fold_push}
-use Rattle.std.proofs.lemmas.Option.{slice_get_cases}
 use Rattle.edit_message.specs.declared.message.Message.{Message}
 use Rattle.peer_core.specs.Peer.{Peer}
 use Rattle.peer_core.specs.Answers.{answer_of}
 use Rattle.peer_core.specs.After.{peer_after}
 use Rattle.peer_core.proofs.AfterLemmas.{journal_grows}
-use Rattle.peer_core.proofs.KeyLemmas.{same_by_key}
-use Rattle.tomb_seq.proofs.Has.{Has, Has-from_Contains, Contains-from_Has}
+use Rattle.peer_core.proofs.BeginningLemmas.{Begins, same_begins, begins_on, begins_has, begins_short, begins_whole, begins_early, begins_longer, none_before, reads_early}
+use Rattle.peer_core.proofs.KeyLemmas.{one_message}
+use Rattle.tomb_seq.proofs.Has.{Has, Has-from_Contains}
 use Rattle.follow_core.specs.declared.event.FollowEvent.{FollowEvent}
 use Rattle.follow_core.specs.declared.event.FollowEvent.TheVariants.{Began, Made, Saved, Told, CameBack, Passed}
 use Rattle.follow_core.specs.Past.{starting_peer, follow_peer, follow_saved, back_of, first_back, follow_steps}
 use Rattle.follow_core.specs.Happens.{HasSavedAll, IsFollowPast}
 use Rattle.follow_core.specs.Laws.{SavedBeforePassedLaw, SavedFirstLaw, ProgramToldLaw, WasPassed, OneMessageLaw, BackLaw, CameBackAt, SameAnswersLaw}
-
--- a journal begins with these messages
-abbrev Begins : List Message → List Message → Type 0
-Begins J K = (more : List Message) × (K ≡ J ++ more)
-
-same_begins : (J : List Message) → Begins J J
-same_begins J = ([], sym (append-nil J))
-
-begins_on : (J K L : List Message) → Begins J K → Begins K L → Begins J L
-begins_on J K L first then = (first.0 ++ then.0, then.1 ∙ ap (λ (M : List Message). M ++ then.0) first.1 ∙ append_assoc J first.0 then.0)
-
-begins_has : (J K : List Message) (m : Message) → Begins J K → Has J m → Has K m
-begins_has J K m begins h =
-    subst (λ (L : List Message). Has L m) (sym begins.1)
-    (Has-from_Contains (J ++ begins.0) m (Contains-append_left J begins.0 m (Contains-from_Has J m h)))
-
--- what a longer list begins with is no longer
-begins_short : (J K : List Message) → Begins J K → length J ≤ length K
-begins_short J K begins =
-    let size = length-append J begins.0 in
-    let same : length K ≡ length (J ++ begins.0) = ap length begins.1 in
-    omega arith
-
--- of two beginnings of a journal the shorter is one of the longer
-shorter_begins : (J K more others : List Message) → length J ≤ length K → J ++ more ≡ K ++ others → Begins J K
-shorter_begins [] K more others less same = (K, refl)
-shorter_begins (x ∷ J) [] more others less same = absurd (omega arith)
-shorter_begins (x ∷ J) (y ∷ K) more others less same =
-    let rest = shorter_begins J K more others (omega arith) cc in
-    let head : x ≡ y = cc in
-    (rest.0, ap (λ (z : Message). z ∷ K) (sym head) ∙ ap (λ (M : List Message). x ∷ M) rest.1)
 
 -- ---- what is saved
 
@@ -67,14 +34,7 @@ short_saved es h = begins_short (follow_saved es) (follow_peer es).journal (begi
 
 -- where all is saved it is the journal
 pub all_saved : (es : List FollowEvent) → IsFollowPast es → HasSavedAll es → follow_saved es ≡ (follow_peer es).journal
-all_saved es h all = by (beginning es h).0 (beginning es h).1
-  where
-    by : (more : List Message) → (follow_peer es).journal ≡ follow_saved es ++ more → follow_saved es ≡ (follow_peer es).journal
-    by [] is = sym (is ∙ append-nil (follow_saved es))
-    by (m ∷ more) is =
-        let size = length-append (follow_saved es) (m ∷ more) in
-        let same : length (follow_peer es).journal ≡ length (follow_saved es ++ m ∷ more) = ap length is in
-        absurd (omega arith)
+all_saved es h all = begins_whole (follow_saved es) (follow_peer es).journal (beginning es h) all
 
 -- what came back is saved
 pub back_saved : (es : List FollowEvent) → IsFollowPast es → back_of es ≤ length (follow_saved es)
@@ -87,29 +47,15 @@ back_saved (Saved ∷ es) h =
     omega arith
 back_saved (e ∷ es) h = back_saved es h.1
 
--- what stands early in a list stands in its beginning
-early : (S more : List Message) (i : ℕ) (m : Message) → i < length S → slice_get (S ++ more) i ≡ Some m → Has S m
-early [] more i m h is = absurd (omega arith)
-early (x ∷ S) more zero m h is = inl cc
-early (x ∷ S) more (suc i) m h is = inr (early S more i m (omega arith) is)
-
 -- what stands in the journal where it is saved is among what is saved
 pub next_saved : (es : List FollowEvent) (i : ℕ) (m : Message) → IsFollowPast es → slice_get (follow_peer es).journal i ≡ Some m → i < length (follow_saved es)
     → Contains (follow_saved es) m
-next_saved es i m h next saved =
-    let front = beginning es h in
-    Contains-from_Has (follow_saved es) m
-    (early (follow_saved es) front.0 i m saved (subst (λ (J : List Message). slice_get J i ≡ Some m) front.1 next))
+next_saved es i m h next saved = begins_early (follow_saved es) (follow_peer es).journal i m (beginning es h) saved next
 
 -- so something stands there
 pub not_there : (es : List FollowEvent) (p : Peer) (i : ℕ) → IsFollowPast es → p ≡ follow_peer es → i < length (follow_saved es) → slice_get p.journal i ≡ None → ⊥
 not_there es p i h same saved none =
-    let short = short_saved es h in
-    let size : length p.journal ≡ length (follow_peer es).journal = ap (λ (q : Peer). length q.journal) same in
-    ⊎_elim
-    (λ (there : (x : Message) × (i < length p.journal) × (slice_get p.journal i ≡ Some x) × (get_or p.journal i x ≡ x)). let some = there.2 in cc)
-    (λ (past : (length p.journal ≤ i) × (slice_get p.journal i ≡ None)). let end = past.0 in omega arith)
-    (slice_get_cases p.journal i).1
+    reads_early (follow_saved es) (follow_peer es).journal i (beginning es h) saved (subst (λ (q : Peer). slice_get q.journal i ≡ None) same none)
 
 -- what happened before is a past
 pub past_before : (later es : List FollowEvent) → IsFollowPast (later ++ es) → IsFollowPast es
@@ -122,11 +68,6 @@ saved_before later earlier m h =
     next_saved earlier here.0.link.mark m here.1 here.0.next here.0.saved
 
 -- ---- what stays
-
--- nothing happened before what is first
-none_before : (later es : List FollowEvent) → later ++ es ≡ [] → es ≡ []
-none_before [] es h = h
-none_before (e ∷ later) es h = absurd cc
 
 -- what was saved stays
 saved_stays : (later es : List FollowEvent) → IsFollowPast (later ++ es) → Begins (follow_saved es) (follow_saved (later ++ es))
@@ -153,8 +94,7 @@ told_saved later between es h =
     let all : HasSavedAll (between ++ es) = here.0 in
     let then = journal_stays between es here.1 in
     let grown = begins_short (follow_peer es).journal (follow_peer (between ++ es)).journal then in
-    let saved = beginning (between ++ es) here.1 in
-    shorter_begins (follow_peer es).journal (follow_saved (between ++ es)) then.0 saved.0 (omega arith) (sym then.1 ∙ saved.1)
+    begins_longer (follow_peer es).journal (follow_saved (between ++ es)) (follow_peer (between ++ es)).journal then (beginning (between ++ es) here.1) (omega arith)
 
 -- ---- no fork
 
@@ -177,11 +117,8 @@ passed_saved es m h was =
 
 pub no_fork : OneMessageLaw
 no_fork es fs m n h g sound continues first second key =
-    let J : List Message = (follow_peer fs).journal in
-    let early_m : Has (starting_peer fs).journal m = begins_has (follow_saved es) (starting_peer fs).journal m (continues.more, continues.journal) (passed_saved es m h first) in
-    let has_m : Has J m = begins_has (starting_peer fs).journal J m (first_stays fs) early_m in
-    let has_n : Has J n = begins_has (follow_saved fs) J n (beginning fs g) (passed_saved fs n g second) in
-    same_by_key [] J m n sound.journal has_m has_n key
+    one_message (follow_saved es) (starting_peer fs).journal (follow_saved fs) (follow_peer fs).journal m n sound.journal
+    (continues.more, continues.journal) (first_stays fs) (beginning fs g) (passed_saved es m h first) (passed_saved fs n g second) key
 
 -- ---- what came back
 

@@ -8,6 +8,7 @@ use Rattle.peer_core.specs.Peer.{Peer}
 use Rattle.peer_core.specs.Answers.{answer_of}
 use Rattle.peer_core.specs.After.{peer_after}
 use Rattle.peer_core.specs.Sound.{IsSound}
+use Rattle.host_core.specs.Laws.{InOrder}
 use Rattle.follow_core.specs.declared.event.Stretch.{Stretch}
 use Rattle.follow_core.specs.declared.event.FollowEvent.{FollowEvent}
 use Rattle.follow_core.specs.declared.event.FollowEvent.TheVariants.{Told, CameBack, Passed}
@@ -50,13 +51,9 @@ OneMessageLaw = (es fs : List FollowEvent) (m n : Message) → IsFollowPast es �
 -- ---- in order, nothing skipped, nothing twice
 
 -- what was passed on a link is the journal from where it began up to its mark, all of which is saved
-pub record PassedInOrder (journal saved passed : List Message) (x : Stretch) : Type 0 where
-  pub behind : x.from ≤ x.mark
-  pub within : x.mark ≤ length saved
-  pub order : take x.from journal ++ passed ≡ take x.mark journal
-
 abbrev pub PassedInOrderLaw : Type 0
-PassedInOrderLaw = (es : List FollowEvent) (x : Stretch) → IsFollowPast es → standing_link es ≡ Some x → PassedInOrder (follow_peer es).journal (follow_saved es) (passed_on es) x
+PassedInOrderLaw = (es : List FollowEvent) (x : Stretch) → IsFollowPast es → standing_link es ≡ Some x
+    → InOrder (follow_peer es).journal (follow_saved es) (passed_on es) x.from x.mark
 
 -- where its mark has come to the end of what is saved all of that was passed behind where it began
 abbrev pub AllPassedLaw : Type 0

@@ -1,14 +1,14 @@
 -- What a link was given, in order.
-use Rattle.std.proofs.Common.{◌≡◌, ℕ, suc, ◌+◌, ◌<◌, ◌≤◌, Bool, true, false, cond, List, [], ◌∷◌, ◌++◌, length, take, Some, None, refl, ap, sym, subst, ◌∙◌, arith, append_assoc}
+use Rattle.std.proofs.Common.{◌≡◌, ℕ, ◌+◌, ◌<◌, ◌≤◌, Bool, true, false, cond, List, [], ◌∷◌, ◌++◌, length, take, Some, None, refl, ap, sym, subst, ◌∙◌, arith, append_assoc}
 use Rattle.std.specs.Prelude.{option_map, slice_get, nat_eq}
 use Rattle.std.specs.declared.option.Option.{Option}
 use Rattle.std.proofs.lemmas.Bool.{eqb-true}
 use Rattle.std.proofs.lemmas.List.{append-nil, take-append-le, take_at}
-use Rattle.std.proofs.lemmas.Option.{same_Some, slice_get_within, get_or_from_slice_get}
-use Rattle.std.proofs.Math.Seq.{take-suc}
+use Rattle.std.proofs.lemmas.Option.{same_Some}
 use Rattle.edit_message.specs.declared.message.Message.{Message}
 use Rattle.peer_core.specs.Answers.{answer_of}
 use Rattle.peer_core.proofs.AfterLemmas.{journal_grows}
+use Rattle.peer_core.proofs.BeginningLemmas.{Begins, take_one_more}
 use Rattle.host_core.specs.declared.event.Device.{Device}
 use Rattle.host_core.specs.declared.event.Hello.{Hello}
 use Rattle.host_core.specs.declared.event.LinkId.{LinkId}
@@ -46,41 +46,46 @@ given_link es l m u gives same =
 -- ---- in order
 
 -- a new link stands where it begins
-opened_in_order : (J S : List Message) (x : OpenLink) → x.from ≡ x.mark → x.mark ≤ length S → InOrder J S [] x
-opened_in_order J S x same behind =
-    record { behind = omega arith; within = behind; order = append-nil (take x.from J) ∙ ap (λ (n : ℕ). take n J) same }
+pub opened_in_order : (J S : List Message) (from : ℕ) → from ≤ length S → InOrder J S [] from from
+opened_in_order J S from behind = record { behind = omega arith; within = behind; order = append-nil (take from J) }
 
 -- a link stays in order where the journal grows
-grown_in_order : (J more S given : List Message) (x : OpenLink) → length S ≤ length J → InOrder J S given x → InOrder (J ++ more) S given x
-grown_in_order J more S given x short old =
+pub grown_in_order : (J K S given : List Message) (from mark : ℕ) → Begins J K → length S ≤ length J → InOrder J S given from mark → InOrder K S given from mark
+grown_in_order J K S given from mark grown short old =
     let a = old.behind in
     let b = old.within in
-    record {
+    subst (λ (L : List Message). InOrder L S given from mark) (sym grown.1) (record {
       behind = old.behind;
       within = old.within;
-      order = ap (λ (T : List Message). T ++ given) (take-append-le x.from J more (omega arith)) ∙ old.order ∙ sym (take-append-le x.mark J more (omega arith));
-    }
+      order = ap (λ (T : List Message). T ++ given) (take-append-le from J grown.0 (omega arith)) ∙ old.order ∙ sym (take-append-le mark J grown.0 (omega arith));
+    })
 
 -- and where more is saved
-saved_in_order : (J S T given : List Message) (x : OpenLink) → length S ≤ length T → InOrder J S given x → InOrder J T given x
-saved_in_order J S T given x longer old = let b = old.within in record { behind = old.behind; within = omega arith; order = old.order }
+pub saved_in_order : (J S T given : List Message) (from mark : ℕ) → length S ≤ length T → InOrder J S given from mark → InOrder J T given from mark
+saved_in_order J S T given from mark longer old = let b = old.within in record { behind = old.behind; within = omega arith; order = old.order }
 
 -- a link that is given the next message
-given_in_order : (J S given : List Message) (m : Message) (x y : OpenLink) → slice_get J x.mark ≡ Some m → x.mark < length S
-    → InOrder J S given x → Some (moved_on x) ≡ Some y → InOrder J S (given ++ m ∷ []) y
-given_in_order J S given m x y next saved old is =
+pub given_in_order : (J S given : List Message) (m : Message) (from mark : ℕ) → slice_get J mark ≡ Some m → mark < length S
+    → InOrder J S given from mark → InOrder J S (given ++ m ∷ []) from (mark + 1)
+given_in_order J S given m from mark next saved old =
     let a = old.behind in
-    let more : x.mark + 1 ≡ suc x.mark = omega arith in
-    let there : x.mark < length J = slice_get_within J x.mark m next in
-    subst (InOrder J S (given ++ m ∷ [])) (same_Some (moved_on x) y is) (record {
+    record {
       behind = omega arith;
       within = omega arith;
-      order = sym (append_assoc (take x.from J) given (m ∷ []))
+      order = sym (append_assoc (take from J) given (m ∷ []))
           ∙ ap (λ (T : List Message). T ++ m ∷ []) old.order
-          ∙ ap (λ (n : Message). take x.mark J ++ n ∷ []) (sym (get_or_from_slice_get J x.mark m m next))
-          ∙ sym (take-suc J x.mark m there)
-          ∙ ap (λ (n : ℕ). take n J) (sym more);
-    })
+          ∙ sym (take_one_more J mark m next);
+    }
+
+-- where its mark is at the end of what is saved it has all of that
+pub whole_in_order : (J S given : List Message) (from mark : ℕ) → Begins S J → length S ≤ mark → InOrder J S given from mark → take from J ++ given ≡ S
+whole_in_order J S given from mark front whole order =
+    let within = order.within in
+    order.order ∙ ap (take mark) front.1 ∙ take_at S front.0 mark (omega arith)
+
+-- what the link of a site was given is in order
+abbrev StandsInOrder : List HostEvent → List Message → OpenLink → Type 0
+StandsInOrder es given x = InOrder (host_peer es).journal (saved_journal es) given x.from x.mark
 
 pub in_order : InOrderLaw
 in_order [] u x h is = absurd cc
@@ -91,28 +96,28 @@ in_order (LinkClosed l ∷ es) u x h is = in_order es u x h.1 (not_closed (nat_e
 in_order (LinkOpened hello ∷ es) u x h is = by (nat_eq hello.site u) is (in_order es u x h.1)
   where
     by : (b : Bool) → cond b (option_map (link_by (links_opened es) hello) (device_of u es)) (link_of u es) ≡ Some x
-        → (link_of u es ≡ Some x → InOrder (host_peer es).journal (saved_journal es) (given_to u es) x)
-        → InOrder (host_peer es).journal (saved_journal es) (cond b [] (given_to u es)) x
+        → (link_of u es ≡ Some x → StandsInOrder es (given_to u es) x)
+        → StandsInOrder es (cond b [] (given_to u es)) x
     by true some rest =
         let opened = opened_by (links_opened es) hello (device_of u es) x some in
         let found = opens es hello h.0 in
-        subst (InOrder (host_peer es).journal (saved_journal es) []) opened.link_is
-        (opened_in_order (host_peer es).journal (saved_journal es) (link_by (links_opened es) hello opened.device) refl found.behind)
+        subst (StandsInOrder es []) opened.link_is (opened_in_order (host_peer es).journal (saved_journal es) hello.from found.behind)
     by false some rest = rest some
 in_order (Made by step ∷ es) u x h is =
-    let grown = journal_grows (host_peer es) step (answer_of (host_peer es) step) in
-    subst (λ (J : List Message). InOrder J (saved_journal es) (given_to u es) x) (sym grown.1)
-    (grown_in_order (host_peer es).journal grown.0 (saved_journal es) (given_to u es) x (short_saved es h.1) (in_order es u x h.1 is))
-in_order (Saved ∷ es) u x h is = saved_in_order (host_peer es).journal (saved_journal es) (host_peer es).journal (given_to u es) x (short_saved es h.1) (in_order es u x h.1 is)
+    grown_in_order (host_peer es).journal (host_peer (Made by step ∷ es)).journal (saved_journal es) (given_to u es) x.from x.mark
+    (journal_grows (host_peer es) step (answer_of (host_peer es) step)) (short_saved es h.1) (in_order es u x h.1 is)
+in_order (Saved ∷ es) u x h is =
+    saved_in_order (host_peer es).journal (saved_journal es) (host_peer es).journal (given_to u es) x.from x.mark (short_saved es h.1) (in_order es u x h.1 is)
 in_order (Gave l m ∷ es) u x h is = by (nat_eq l.site u) refl is (λ (y : OpenLink) known. in_order es u y h.1 known)
   where
     by : (b : Bool) → nat_eq l.site u ≡ b → cond b (option_map moved_on (link_of u es)) (link_of u es) ≡ Some x
-        → ((y : OpenLink) → link_of u es ≡ Some y → InOrder (host_peer es).journal (saved_journal es) (given_to u es) y)
-        → InOrder (host_peer es).journal (saved_journal es) (cond b (given_to u es ++ m ∷ []) (given_to u es)) x
+        → ((y : OpenLink) → link_of u es ≡ Some y → StandsInOrder es (given_to u es) y)
+        → StandsInOrder es (cond b (given_to u es ++ m ∷ []) (given_to u es)) x
     by true e some rest =
         let known = given_link es l m u h.0 e in
-        given_in_order (host_peer es).journal (saved_journal es) (given_to u es) m h.0.link x h.0.next h.0.saved (rest h.0.link known)
-        (subst (λ (o : Option OpenLink). option_map moved_on o ≡ Some x) known some)
+        subst (StandsInOrder es (given_to u es ++ m ∷ []))
+        (same_Some (moved_on h.0.link) x (subst (λ (o : Option OpenLink). option_map moved_on o ≡ Some x) known some))
+        (given_in_order (host_peer es).journal (saved_journal es) (given_to u es) m h.0.link.from h.0.link.mark h.0.next h.0.saved (rest h.0.link known))
     by false e some rest = rest x some
 in_order (e ∷ es) u x h is = in_order es u x h.1 is
 
@@ -120,7 +125,4 @@ in_order (e ∷ es) u x h is = in_order es u x h.1 is
 
 pub all_given : AllGivenLaw
 all_given es u x h is whole =
-    let order = in_order es u x h is in
-    let front = beginning es h in
-    let within = order.within in
-    order.order ∙ ap (take x.mark) front.1 ∙ take_at (saved_journal es) front.0 x.mark (omega arith)
+    whole_in_order (host_peer es).journal (saved_journal es) (given_to u es) x.from x.mark (beginning es h) whole (in_order es u x h is)

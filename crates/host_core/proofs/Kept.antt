@@ -8,7 +8,7 @@ use Rattle.peer_core.specs.After.{peer_after}
 use Rattle.host_core.specs.declared.event.LinkId.{LinkId}
 use Rattle.host_core.specs.declared.event.HostEvent.{HostEvent}
 use Rattle.host_core.specs.declared.event.HostEvent.TheVariants.{Began, Made}
-use Rattle.host_core.specs.Past.{host_peer, saved_journal}
+use Rattle.host_core.specs.Past.{host_peer}
 use Rattle.host_core.proofs.Truncated.{follows}
 
 -- a keeper's peer is that of what has happened
@@ -30,12 +30,7 @@ made_peer p q by step es new h after grown = ap began (after ∙ ap (λ (r : Pee
 pub kept_peer : (p q : Peer) (es new : List HostEvent) → SamePeer p es → q ≡ p → host_peer new ≡ host_peer es → SamePeer q new
 kept_peer p q es new h same stays = ap began (same ∙ same_peer p es h ∙ sym stays)
 
--- where all is saved the whole journal is kept
-pub kept_whole : {K : Type 0} (keeps : K → List Message → Type 0) (k : K) (es : List HostEvent) → saved_journal es ≡ (host_peer es).journal
-    → ∥ keeps k (saved_journal es) ∥₁ → ∥ keeps k (host_peer es).journal ∥₁
-kept_whole keeps k es whole h = subst (λ (J : List Message). ∥ keeps k J ∥₁) whole h
-
 -- what is kept is kept where what was saved stays
-pub kept_still : {K : Type 0} (keeps : K → List Message → Type 0) (k l : K) (es new : List HostEvent) → saved_journal new ≡ saved_journal es
-    → ((J : List Message) → keeps k J → keeps l J) → ∥ keeps k (saved_journal es) ∥₁ → ∥ keeps l (saved_journal new) ∥₁
-kept_still keeps k l es new stays more h = subst (λ (J : List Message). ∥ keeps l J ∥₁) (sym stays) (follows (more (saved_journal es)) h)
+pub kept_still : {K : Type 0} (keeps : K → List Message → Type 0) (k l : K) (S T : List Message) → T ≡ S
+    → ((J : List Message) → keeps k J → keeps l J) → ∥ keeps k S ∥₁ → ∥ keeps l T ∥₁
+kept_still keeps k l S T stays more h = subst (λ (J : List Message). ∥ keeps l J ∥₁) (sym stays) (follows (more S) h)

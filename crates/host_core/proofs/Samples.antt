@@ -1,11 +1,13 @@
 -- What small pasts give.
 use Rattle.std.proofs.Common.{◌≡◌, ℕ, ◌<◌, zero, suc, true, List, [], ◌∷◌, refl, arith, lit<, inl, get_or}
-use Rattle.std.specs.Prelude.{bytes_eq, nat_eq}
+use Rattle.std.specs.Prelude.{bytes_eq, nat_eq, IsTrue}
+use Rattle.std.specs.List.{list_all}
 use Rattle.std.specs.Str.{is_utf8}
 use Rattle.std.proofs.lemmas.Str.{IsUtf8-from_ascii, is_utf8-from_IsUtf8}
 use Rattle.sha2.specs.Sha256.{sha256}
 use Rattle.tomb_seq.proofs.Has.{Contains-from_Has}
 use Rattle.edit_message.specs.declared.message.Message.TheVariants.{Coop, Admin}
+use Rattle.edit_message.specs.Formed.{is_message}
 use Rattle.peer_core.specs.Restore.{peer_of_journal}
 use Rattle.peer_core.specs.Sound.{IsSound}
 use Rattle.host_core.proofs.Closing.{same_test}
@@ -57,29 +59,25 @@ letter_is_text = is_utf8-from_IsUtf8 (97 ∷ []) (IsUtf8-from_ascii (97 ∷ []) 
     low zero = omega arith
     low (suc i) = omega arith
 
--- a peer that has the writer's request alone is sound
-sound_offered : (site : ℕ) → IsSound (peer_of_journal site (sample_message ∷ []))
-sound_offered site = record {
+-- a peer that has the request of a user alone is sound
+pub sound_alone : (site user : ℕ) → IsTrue (list_all is_message (Coop (sample_request 1 user) ∷ [])) → IsSound (peer_of_journal site (Coop (sample_request 1 user) ∷ []))
+sound_alone site user formed = record {
   journal = (record { new = refl; complete = refl; legal = refl }, tt);
   keys = (refl, tt);
-  formed = rw letter_is_text refl;
+  formed = formed;
   requests = omega arith;
   entries = omega arith;
   few_held = omega arith;
   foreign = refl;
 }
 
--- and one that has the owner's edit alone
-sound_written : (site : ℕ) → IsSound (peer_of_journal site (Coop (sample_request 1 0) ∷ []))
-sound_written site = record {
-  journal = (record { new = refl; complete = refl; legal = refl }, tt);
-  keys = (refl, tt);
-  formed = rw letter_is_text refl;
-  requests = omega arith;
-  entries = omega arith;
-  few_held = omega arith;
-  foreign = refl;
-}
+-- the writer's
+sound_offered : (site : ℕ) → IsSound (peer_of_journal site (sample_message ∷ []))
+sound_offered site = sound_alone site 1 (rw letter_is_text refl)
+
+-- and the owner's
+pub sound_written : (site : ℕ) → IsSound (peer_of_journal site (Coop (sample_request 1 0) ∷ []))
+sound_written site = sound_alone site 0 (rw letter_is_text refl)
 
 pub no_fork_sample : NoForkSample
 no_fork_sample document secret = (

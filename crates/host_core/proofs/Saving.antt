@@ -1,35 +1,18 @@
 -- What is saved, and what was given of it.
-use Rattle.std.proofs.Common.{◌≡◌, ℕ, zero, suc, ◌<◌, ◌≤◌, inl, inr, ⊎_elim, List, [], ◌∷◌, ◌++◌, length, get_or, Some, None, refl, ap, sym, subst, ◌∙◌, arith, append_assoc, length-append}
+use Rattle.std.proofs.Common.{◌≡◌, ℕ, ◌<◌, ◌≤◌, List, [], ◌∷◌, ◌++◌, length, Some, None, refl, sym, subst, arith}
 use Rattle.std.specs.Prelude.{slice_get, Contains}
-use Rattle.std.proofs.lemmas.List.{append-nil}
-use Rattle.std.proofs.lemmas.Option.{slice_get_cases}
-use Rattle.std.proofs.lemmas.List.Elements.{Contains-append_left}
 use Rattle.edit_message.specs.declared.message.Message.{Message}
 use Rattle.peer_core.specs.Peer.{Peer}
 use Rattle.peer_core.specs.Answers.{answer_of}
-use Rattle.tomb_seq.proofs.Has.{Has, Has-from_Contains, Contains-from_Has}
+use Rattle.tomb_seq.proofs.Has.{Has, Has-from_Contains}
 use Rattle.peer_core.proofs.AfterLemmas.{journal_grows}
-use Rattle.peer_core.proofs.KeyLemmas.{same_by_key}
+use Rattle.peer_core.proofs.BeginningLemmas.{Begins, same_begins, begins_on, begins_has, begins_short, begins_whole, begins_early, begins_longer, none_before, reads_early}
+use Rattle.peer_core.proofs.KeyLemmas.{one_message}
 use Rattle.host_core.specs.declared.event.HostEvent.{HostEvent}
 use Rattle.host_core.specs.declared.event.HostEvent.TheVariants.{Began, Made, Saved, Gave, Told}
 use Rattle.host_core.specs.Past.{first_peer, host_peer, saved_journal}
 use Rattle.host_core.specs.Happens.{IsAllSaved, IsPast}
 use Rattle.host_core.specs.Laws.{SavedLaw, BeginningLaw, WholeSavedLaw, ToldLaw, WasGiven, NoForkLaw}
-
--- a journal begins with these messages
-abbrev Begins : List Message → List Message → Type 0
-Begins J K = (more : List Message) × (K ≡ J ++ more)
-
-same_begins : (J : List Message) → Begins J J
-same_begins J = ([], sym (append-nil J))
-
-begins_on : (J K L : List Message) → Begins J K → Begins K L → Begins J L
-begins_on J K L first then = (first.0 ++ then.0, then.1 ∙ ap (λ (M : List Message). M ++ then.0) first.1 ∙ append_assoc J first.0 then.0)
-
-begins_has : (J K : List Message) (m : Message) → Begins J K → Has J m → Has K m
-begins_has J K m begins h =
-    subst (λ (L : List Message). Has L m) (sym begins.1)
-    (Has-from_Contains (J ++ begins.0) m (Contains-append_left J begins.0 m (Contains-from_Has J m h)))
 
 -- what is saved is a beginning of the journal
 pub beginning : BeginningLaw
@@ -43,46 +26,21 @@ beginning (e ∷ es) h = beginning es h.1
 
 -- so it is no longer
 pub short_saved : (es : List HostEvent) → IsPast es → length (saved_journal es) ≤ length (host_peer es).journal
-short_saved es h =
-    let front = beginning es h in
-    let size = length-append (saved_journal es) front.0 in
-    let same : length (host_peer es).journal ≡ length (saved_journal es ++ front.0) = ap length front.1 in
-    omega arith
+short_saved es h = begins_short (saved_journal es) (host_peer es).journal (beginning es h)
 
 -- where all is saved it is the journal
 pub all_saved : (es : List HostEvent) → IsPast es → IsAllSaved es → saved_journal es ≡ (host_peer es).journal
-all_saved es h all = by (beginning es h).0 (beginning es h).1
-  where
-    by : (more : List Message) → (host_peer es).journal ≡ saved_journal es ++ more → saved_journal es ≡ (host_peer es).journal
-    by [] is = sym (is ∙ append-nil (saved_journal es))
-    by (m ∷ more) is =
-        let size = length-append (saved_journal es) (m ∷ more) in
-        let same : length (host_peer es).journal ≡ length (saved_journal es ++ m ∷ more) = ap length is in
-        absurd (omega arith)
-
--- what stands early in a list stands in its beginning
-early : (S more : List Message) (i : ℕ) (m : Message) → i < length S → slice_get (S ++ more) i ≡ Some m → Has S m
-early [] more i m h is = absurd (omega arith)
-early (x ∷ S) more zero m h is = inl cc
-early (x ∷ S) more (suc i) m h is = inr (early S more i m (omega arith) is)
+all_saved es h all = begins_whole (saved_journal es) (host_peer es).journal (beginning es h) all
 
 -- what stands in the journal where it is saved is among what is saved
 pub next_saved : (es : List HostEvent) (i : ℕ) (m : Message) → IsPast es → slice_get (host_peer es).journal i ≡ Some m → i < length (saved_journal es)
     → Contains (saved_journal es) m
-next_saved es i m h next saved =
-    let front = beginning es h in
-    Contains-from_Has (saved_journal es) m
-    (early (saved_journal es) front.0 i m saved (subst (λ (J : List Message). slice_get J i ≡ Some m) front.1 next))
+next_saved es i m h next saved = begins_early (saved_journal es) (host_peer es).journal i m (beginning es h) saved next
 
 -- so something stands there
 pub not_there : (es : List HostEvent) (p : Peer) (i : ℕ) → IsPast es → p ≡ host_peer es → i < length (saved_journal es) → slice_get p.journal i ≡ None → ⊥
 not_there es p i h same saved none =
-    let short = short_saved es h in
-    let size : length p.journal ≡ length (host_peer es).journal = ap (λ (q : Peer). length q.journal) same in
-    ⊎_elim
-    (λ (there : (x : Message) × (i < length p.journal) × (slice_get p.journal i ≡ Some x) × (get_or p.journal i x ≡ x)). let some = there.2 in cc)
-    (λ (past : (length p.journal ≤ i) × (slice_get p.journal i ≡ None)). let end = past.0 in omega arith)
-    (slice_get_cases p.journal i).1
+    reads_early (saved_journal es) (host_peer es).journal i (beginning es h) saved (subst (λ (q : Peer). slice_get q.journal i ≡ None) same none)
 
 -- what happened before is a past
 pub past_before : (later es : List HostEvent) → IsPast (later ++ es) → IsPast es
@@ -96,11 +54,6 @@ saved_before later earlier l m h =
 
 -- ---- no fork
 
--- nothing happened before what is first
-none_before : (later es : List HostEvent) → later ++ es ≡ [] → es ≡ []
-none_before [] es h = h
-none_before (e ∷ later) es h = absurd cc
-
 -- what was saved stays
 saved_stays : (later es : List HostEvent) → IsPast (later ++ es) → Begins (saved_journal es) (saved_journal (later ++ es))
 saved_stays [] es h = same_begins (saved_journal es)
@@ -109,15 +62,6 @@ saved_stays (Began p document ∷ later) es h =
 saved_stays (Saved ∷ later) es h =
     begins_on (saved_journal es) (saved_journal (later ++ es)) (host_peer (later ++ es)).journal (saved_stays later es h.1) (beginning (later ++ es) h.1)
 saved_stays (e ∷ later) es h = saved_stays later es h.1
-
--- of two beginnings of a journal the shorter is one of the longer
-shorter_begins : (J K more others : List Message) → length J ≤ length K → J ++ more ≡ K ++ others → Begins J K
-shorter_begins [] K more others less same = (K, refl)
-shorter_begins (x ∷ J) [] more others less same = absurd (omega arith)
-shorter_begins (x ∷ J) (y ∷ K) more others less same =
-    let rest = shorter_begins J K more others (omega arith) cc in
-    let head : x ≡ y = cc in
-    (rest.0, ap (λ (z : Message). z ∷ K) (sym head) ∙ ap (λ (M : List Message). x ∷ M) rest.1)
 
 -- what the journal had stays
 host_stays : (later es : List HostEvent) → IsPast (later ++ es) → Begins (host_peer es).journal (host_peer (later ++ es)).journal
@@ -131,16 +75,7 @@ host_stays (e ∷ later) es h = host_stays later es h.1
 
 pub whole_saved : WholeSavedLaw
 whole_saved later es h enough =
-    let then = host_stays later es h in
-    let saved = beginning (later ++ es) h in
-    shorter_begins (host_peer es).journal (saved_journal (later ++ es)) then.0 saved.0 enough (sym then.1 ∙ saved.1)
-
--- what a longer list begins with is no longer
-begins_short : (J K : List Message) → Begins J K → length J ≤ length K
-begins_short J K begins =
-    let size = length-append J begins.0 in
-    let same : length K ≡ length (J ++ begins.0) = ap length begins.1 in
-    omega arith
+    begins_longer (host_peer es).journal (saved_journal (later ++ es)) (host_peer (later ++ es)).journal (host_stays later es h) (beginning (later ++ es) h) enough
 
 pub told_saved : ToldLaw
 told_saved later between es l h =
@@ -168,8 +103,5 @@ given_saved es m h was =
 
 pub no_fork : NoForkLaw
 no_fork es fs m n h g sound continues first second key =
-    let J : List Message = (host_peer fs).journal in
-    let early_m : Has (first_peer fs).journal m = begins_has (saved_journal es) (first_peer fs).journal m (continues.more, continues.journal) (given_saved es m h first) in
-    let has_m : Has J m = begins_has (first_peer fs).journal J m (first_stays fs) early_m in
-    let has_n : Has J n = begins_has (saved_journal fs) J n (beginning fs g) (given_saved fs n g second) in
-    same_by_key [] J m n sound.journal has_m has_n key
+    one_message (saved_journal es) (first_peer fs).journal (saved_journal fs) (host_peer fs).journal m n sound.journal
+    (continues.more, continues.journal) (first_stays fs) (beginning fs g) (given_saved es m h first) (given_saved fs n g second) key

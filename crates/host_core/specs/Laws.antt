@@ -125,15 +125,15 @@ NoForkLaw = (es fs : List HostEvent) (m n : Message) → IsPast es → IsPast fs
 
 -- ---- in order, nothing skipped, nothing twice
 
--- what the link had, and what it was given behind it, are a beginning of the journal, all of which is saved
-pub record InOrder (journal saved given : List Message) (x : OpenLink) : Type 0 where
-  pub behind : x.from ≤ x.mark
-  pub within : x.mark ≤ length saved
-  pub order : take x.from journal ++ given ≡ take x.mark journal
+-- what a link had, and what it was given behind it up to its mark, are a beginning of the journal, all of which is saved
+pub record InOrder (journal saved given : List Message) (from mark : ℕ) : Type 0 where
+  pub behind : from ≤ mark
+  pub within : mark ≤ length saved
+  pub order : take from journal ++ given ≡ take mark journal
 
 abbrev pub InOrderLaw : Type 0
 InOrderLaw = (es : List HostEvent) (u : ℕ) (x : OpenLink) → IsPast es → link_of u es ≡ Some x
-    → InOrder (host_peer es).journal (saved_journal es) (given_to u es) x
+    → InOrder (host_peer es).journal (saved_journal es) (given_to u es) x.from x.mark
 
 -- where its mark has come to the end of what is saved it has all of that
 abbrev pub AllGivenLaw : Type 0

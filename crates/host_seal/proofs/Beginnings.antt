@@ -1,8 +1,6 @@
 -- The first messages of a journal.
-use Rattle.std.proofs.Common.{◌≡◌, ℕ, ◌+◌, ◌≤◌, List, ◌∷◌, [], ◌++◌, length, take, Some, sym, ap, ◌∙◌, take-take, length-take, length-take-le, arith}
-use Rattle.std.specs.Prelude.{slice_get}
-use Rattle.std.proofs.lemmas.List.{take_more, take-append-le}
-use Rattle.std.proofs.lemmas.Option.{slice_get_within, get_or_from_slice_get}
+use Rattle.std.proofs.Common.{◌≡◌, ℕ, ◌+◌, ◌≤◌, List, ◌++◌, length, take, sym, ap, ◌∙◌, take-take, length-take, length-take-le, arith}
+use Rattle.std.proofs.lemmas.List.{take-append-le}
 use Rattle.edit_message.specs.declared.message.Message.{Message}
 use Rattle.host_seal.specs.Seals.{IsBeginning}
 
@@ -23,11 +21,6 @@ pub first_begin : (J : List Message) (i items : ℕ) → i ≤ items → items �
 first_begin J i items less within =
     let size = length-take-le i J (omega (arith, less, within)) in
     sym (take-take i items J less) ∙ ap (λ (n : ℕ). take n (take items J)) (sym size)
-
--- one more message stands behind the first ones
-pub one_more : (J : List Message) (i : ℕ) (m : Message) → slice_get J i ≡ Some m → take (i + 1) J ≡ take i J ++ m ∷ []
-one_more J i m there =
-    take_more J i m (slice_get_within J i m there) ∙ ap (λ (x : Message). take i J ++ x ∷ []) (get_or_from_slice_get J i m m there)
 
 -- a beginning of a list is one of each that goes on from it
 pub goes_on : (taken J more : List Message) → IsBeginning taken J → IsBeginning taken (J ++ more)

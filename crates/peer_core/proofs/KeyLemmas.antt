@@ -10,6 +10,7 @@ use Rattle.edit_message.specs.declared.message.Key.{Key}
 use Rattle.edit_message.specs.Message.{key_of, key_eq}
 use Rattle.peer_tables.specs.Journal.{has_key_of, FollowsJournal}
 use Rattle.peer_tables.proofs.PackedKeyLemmas.{own_key}
+use Rattle.peer_core.proofs.BeginningLemmas.{Begins, begins_has}
 
 -- the last of a list stands in it
 pub has_last : {X : Type 0} (xs : List X) (x : X) → Has (xs ++ x ∷ []) x
@@ -41,3 +42,7 @@ same_by_key B (x ∷ J) a b each (inl p) (inr g) same =
 same_by_key B (x ∷ J) a b each (inr h) (inl q) same =
     absurd (both_ways (has_key_of (B ++ x ∷ []) a) (later_new (B ++ x ∷ []) J a each.1 h) (key_known (B ++ x ∷ []) x a (has_last B x) (ap key_of q ∙ sym same)))
 same_by_key B (x ∷ J) a b each (inr h) (inr g) same = same_by_key (B ++ x ∷ []) J a b each.1 h g same
+
+-- so two that stand in beginnings of a journal, one of them in a beginning of a beginning, are one
+pub one_message : (S F T J : List Message) (a b : Message) → EachFrom FollowsJournal [] J → Begins S F → Begins F J → Begins T J → Has S a → Has T b → key_of a ≡ key_of b → a ≡ b
+one_message S F T J a b each first second other h g = same_by_key [] J a b each (begins_has F J a second (begins_has S F a first h)) (begins_has T J b other g)

@@ -3,19 +3,20 @@ use Rattle.peer_core.specs.Peer.{Peer}
 use Rattle.text_change.specs.Ahead.{IsAheadOf}
 use Rattle.text_change.specs.Told.{AreRowsOf}
 use Rattle.follow_core.specs.Past.{follow_saved}
-use Rattle.follow_core.proofs.Kept.{made_peer, kept_peer, kept_still, rows_are}
+use Rattle.host_core.proofs.Kept.{kept_still}
+use Rattle.follow_core.proofs.Kept.{made_peer, kept_peer, rows_are}
 use Rattle.follow_core.proofs.follower.Follower.make.Goals as goal
 
 pub invariant_of-self : goal.invariant_of-self
 invariant_of-self g c = record {
   peer_is = kept_peer _ _ c.args.self.now.outbox c.args.self.now.outbox c.args.self.now.peer_is c.in_err-answer.ensures.unchanged refl;
-  kept = kept_still g.K.Keeper.keeps _ _ c.args.self.now.outbox c.args.self.now.outbox refl c.make.ensures.kept c.args.self.now.kept;
+  kept = kept_still g.K.Keeper.keeps _ _ (follow_saved c.args.self.now.outbox) (follow_saved c.args.self.now.outbox) refl c.make.ensures.kept c.args.self.now.kept;
 }
 
 pub invariant_of-self-2 : goal.invariant_of-self-2
 invariant_of-self-2 g c = record {
   peer_is = made_peer _ _ c.args.step _ _ c.args.self.now.peer_is c.in_ok-answer.ensures.after (c.made.ensures ∙ c.foreseen-past.ensures);
-  kept = kept_still g.K.Keeper.keeps _ _ c.args.self.now.outbox c.made.new.self (ap follow_saved (c.made.ensures ∙ c.foreseen-past.ensures)) c.make.ensures.kept c.args.self.now.kept;
+  kept = kept_still g.K.Keeper.keeps _ _ (follow_saved c.args.self.now.outbox) (follow_saved c.made.new.self) (ap follow_saved (c.made.ensures ∙ c.foreseen-past.ensures)) c.make.ensures.kept c.args.self.now.kept;
 }
 
 pub returns-clause-rows : goal.returns-clause-rows

@@ -1,5 +1,5 @@
 use Rattle.std.proofs.Common.{sym, subst, ◌∙◌, ℕ, ◌<◌}
-use Rattle.follow_core.proofs.Truncated.{follows}
+use Rattle.host_core.proofs.Truncated.{follows}
 use Rattle.follow_core.proofs.Kept.{same_peer}
 use Rattle.follow_core.proofs.Saving.{not_there}
 use Rattle.follow_core.proofs.follower.Follower.pass.Goals as goal
