@@ -2,11 +2,5 @@ use Rattle.host_core.proofs.InOrder.{in_order, all_given}
 use Rattle.host_core.proofs.Samples.{in_order_sample}
 use Rattle.host_core.proofs.laws.in_order.Goals as goal
 
-pub returns-clause-order : goal.returns-clause-order
-returns-clause-order c = in_order
-
-pub returns-clause-whole : goal.returns-clause-whole
-returns-clause-whole c = all_given
-
-pub returns-clause-sample : goal.returns-clause-sample
-returns-clause-sample c = in_order_sample
+pub returns : goal.returns
+returns c = record { order = in_order; whole = all_given; sample = in_order_sample }

@@ -2,8 +2,5 @@ use Rattle.host_core.proofs.Saving.{no_fork}
 use Rattle.host_core.proofs.Samples.{no_fork_sample}
 use Rattle.host_core.proofs.laws.no_fork.Goals as goal
 
-pub returns-clause-law : goal.returns-clause-law
-returns-clause-law c = no_fork
-
-pub returns-clause-sample : goal.returns-clause-sample
-returns-clause-sample c = no_fork_sample
+pub returns : goal.returns
+returns c = record { law = no_fork; sample = no_fork_sample }
