@@ -9,6 +9,8 @@ export class Directory {
     this.people = new Map();
     /** @type {Map<number, number>} persons, by the sites of their devices */
     this.devices = new Map();
+    /** @type {Set<number>} the sites of those that are closed */
+    this.closed = new Set();
     this.version = 0; // so often what is known changed
   }
 
@@ -17,12 +19,13 @@ export class Directory {
     const before = JSON.stringify(this.kept);
     this.people = new Map(people.map((it) => [it.person, it]));
     this.devices = new Map(devices.map(({ site, person }) => [site, person]));
+    this.closed = new Set(devices.filter(({ isOpen }) => isOpen === false).map(({ site }) => site));
     if (JSON.stringify(this.kept) !== before) this.version++;
   }
 
   // The same, for a browser to keep.
   get kept() {
-    const devices = [...this.devices].map(([site, person]) => ({ site, person }));
+    const devices = [...this.devices].map(([site, person]) => ({ site, person, isOpen: !this.closed.has(site) }));
     return { people: [...this.people.values()], devices };
   }
 
@@ -53,6 +56,15 @@ export class Directory {
    */
   hasCome(person) {
     return [...this.devices.values()].includes(person);
+  }
+
+  /**
+   * Whether a person has come, and each device of that person is closed now.
+   *
+   * @param {number} person
+   */
+  isRemoved(person) {
+    return this.hasCome(person) && [...this.devices].every(([site, it]) => it !== person || this.closed.has(site));
   }
 
   /** @param {number} person */

@@ -7,7 +7,7 @@ test('who is known', () => {
   assert.equal(known.personOf(1), null);
   const told = {
     people: [{ person: 1, role: 'owner', name: 'Ada Lund' }, { person: 2, role: 'writer', name: 'Bea Okafor' }],
-    devices: [{ site: 1, person: 1 }, { site: 2, person: 2 }, { site: 3, person: 1 }],
+    devices: [{ site: 1, person: 1, isOpen: false }, { site: 2, person: 2, isOpen: false }, { site: 3, person: 1, isOpen: true }],
   };
   known.take({ kind: 'people', ...told });
   assert.deepEqual([known.personOf(3), known.nameOf(1), known.nameOf(3)], [1, 'Ada Lund', null]);
@@ -15,6 +15,7 @@ test('who is known', () => {
   assert.ok(!known.isSame(1, 2) && !known.isSame(8, 9));
   assert.deepEqual(known.kept, told);
   assert.ok(known.hasCome(2) && !known.hasCome(3));
+  assert.deepEqual([1, 2, 3].map((it) => known.isRemoved(it)), [false, true, false]);
   known.take({ kind: 'people', ...told });
   assert.equal(known.version, 1);
 });

@@ -6,7 +6,7 @@ import { Policy } from './policy.mjs';
 import * as words from './words.mjs';
 
 const PEOPLE = ['Ada', 'Bea', 'Cy'].map((name, i) => ({ person: i + 1, role: /** @type {const} */ ('writer'), name }));
-const DEVICES = [{ site: 4, person: 1 }, { site: 5, person: 2 }, { site: 6, person: 2 }, { site: 7, person: 3 }];
+const DEVICES = [1, 2, 2, 3].map((person, i) => ({ site: i + 4, person, isOpen: true }));
 const HAD = ['adduser 4', 'addgroup 1', 'addmember 1 4', 'adduser 5', 'addgroup 2', 'addmember 2 5', 'addgroup 65535', 'addmember 65535 4', 'addmember 65535 5'];
 
 function made(operations) {

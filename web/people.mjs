@@ -88,7 +88,7 @@ export class People {
     if (person === this.own) return 'self';
     if (present.has(person)) return 'here';
     const open = this.isOwner ? this.open : null;
-    if (open && !open.has(person)) return 'removed';
+    if (open ? !open.has(person) : directory.isRemoved(person)) return 'removed';
     return directory.hasCome(person) ? 'away' : 'invited';
   }
 

@@ -7,7 +7,7 @@ export const NO_IDENTITY = '-';
 /**
  * @typedef {'owner' | 'writer' | 'reader'} Role
  * @typedef {{ person: number, role: Role, name: string }} Person
- * @typedef {{ site: number, person: number }} DeviceOf whose the device of a site is
+ * @typedef {{ site: number, person: number, isOpen: boolean }} DeviceOf whose the device of a site is, and whether it may come in
  * @typedef {{ name: string, identity: string, state: string }} DocumentLine
  * @typedef {{ kind: 'welcome', identity: string, site: number, person: number, role: Role, saved: number }} Welcome
  * @typedef {{ kind: 'device', site: number, secret: string }} NewDevice
@@ -76,7 +76,7 @@ function readPeople(lines) {
   return {
     kind: 'people',
     people: people.map(([, person, role, ...name]) => ({ person: Number(person), role: /** @type {Role} */ (role), name: name.join(' ') })),
-    devices: devices.map(([, site, person]) => ({ site: Number(site), person: Number(person) })),
+    devices: devices.map(([, site, person, state]) => ({ site: Number(site), person: Number(person), isOpen: state !== 'closed' })),
   };
 }
 

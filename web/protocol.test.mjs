@@ -31,10 +31,10 @@ test('what a host says', () => {
 });
 
 test('people documents and keys', () => {
-  assert.deepEqual(readText('people\nperson 1 owner Ada van der Lund\nperson 2 reader Cai\ndevice 1 1\ndevice 2 1'), {
+  assert.deepEqual(readText('people\nperson 1 owner Ada van der Lund\nperson 2 reader Cai\ndevice 1 1\ndevice 2 1 closed'), {
     kind: 'people',
     people: [{ person: 1, role: 'owner', name: 'Ada van der Lund' }, { person: 2, role: 'reader', name: 'Cai' }],
-    devices: [{ site: 1, person: 1 }, { site: 2, person: 1 }],
+    devices: [{ site: 1, person: 1, isOpen: true }, { site: 2, person: 1, isOpen: false }],
   });
   const lines = [`document notes ${IDENTITY} open`, `document plan-2 ${IDENTITY} damaged`];
   const documents = [{ name: 'notes', identity: IDENTITY, state: 'open' }, { name: 'plan-2', identity: IDENTITY, state: 'damaged' }];

@@ -8,7 +8,7 @@ import * as words from './words.mjs';
 const PEOPLE = {
   kind: 'people',
   people: [{ person: 1, role: 'owner', name: 'Ada Lund' }, { person: 2, role: 'writer', name: 'Bea Okafor' }],
-  devices: [{ site: 1, person: 1 }, { site: 2, person: 2 }, { site: 3, person: 2 }],
+  devices: [1, 2, 2].map((person, i) => ({ site: i + 1, person, isOpen: true })),
 };
 
 // What an action says while people are known, without the signs around names.

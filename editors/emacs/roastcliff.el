@@ -519,6 +519,11 @@ and comes again."
   "The numbers that stand in WORDS."
   (mapcar #'string-to-number (split-string words " " t)))
 
+(defun roastcliff--take-device (document rest)
+  "A device of DOCUMENT, as REST says: SITE PERSON, and closed behind them where it was closed."
+  (let ((numbers (roastcliff--numbers rest)))
+    (push (cons (nth 0 numbers) (nth 1 numbers)) (roastcliff--document-devices document))))
+
 (defun roastcliff--take (document line)
   "Take a LINE of the follower of DOCUMENT."
   (let* ((space (string-search " " line))
@@ -534,7 +539,7 @@ and comes again."
       ("closed" (setf (roastcliff--document-closed document) rest) (message "roastcliff: the host closed the link: %s" rest))
       ("people" (setf (roastcliff--document-people document) nil (roastcliff--document-devices document) nil))
       ("person" (roastcliff--take-person document rest))
-      ("device" (push (apply #'cons (roastcliff--numbers rest)) (roastcliff--document-devices document)))
+      ("device" (roastcliff--take-device document rest))
       ("here" (setf (roastcliff--document-here document) (roastcliff--numbers rest)))
       ("told" (message "roastcliff: the host did not take an edit: %s" rest))
       ;; What is written as an error comes among the lines.

@@ -145,7 +145,10 @@ fn follow(desk: &mut Desk<'_>, consequence: Consequence) {
         Consequence::Nothing => {}
         Consequence::People => desk.people_changed = true,
         Consequence::Documents => desk.people_changed = true,
-        Consequence::Closed(site) => desk.end_where(Who::Device(site), Ending::Closed),
+        Consequence::Closed(site) => {
+            desk.people_changed = true;
+            desk.end_where(Who::Device(site), Ending::Closed);
+        }
         Consequence::Role(person) => {
             desk.people_changed = true;
             desk.end_where(Who::Person(person), Ending::NewRole);

@@ -27,7 +27,8 @@ pub fn welcome_text(
     format!(in alloc; "welcome {PROTOCOL} {document} {site} {person} {role} {saved}")
 }
 
-/// `people`, with a line `person PERSON ROLE NAME` for each person and `device SITE PERSON` for each device.
+/// `people`, with a line `person PERSON ROLE NAME` for each person and `device SITE PERSON` for each device, with ` closed` behind it where it
+/// was closed.
 pub fn people_text(alloc: Global, people: &People) -> Result<String, AllocError> {
     let mut text = String::from_str(alloc, "people")?;
     for (number, role) in people.roles() {
@@ -38,7 +39,8 @@ pub fn people_text(alloc: Global, people: &People) -> Result<String, AllocError>
     }
     for (site, holder) in people.devices() {
         let person = holder.person;
-        let line = format!(in alloc; "\ndevice {site} {person}")?;
+        let state = if holder.is_open { "" } else { " closed" };
+        let line = format!(in alloc; "\ndevice {site} {person}{state}")?;
         text.push_str(line.as_str())?;
     }
     Ok(text)

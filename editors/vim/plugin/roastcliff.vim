@@ -673,7 +673,7 @@ function! s:take_person(document, rest) abort
 endfunction
 
 function! s:take_device(document, rest) abort
-  let [site, person] = split(a:rest, ' ')
+  let [site, person; _] = split(a:rest, ' ')
   let a:document.devices[site] = person
 endfunction
 
