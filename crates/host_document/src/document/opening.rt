@@ -29,30 +29,6 @@ impl<'a> Document<'a> {
         }
     }
 
-    // Opens it, where it isn't open.
-    fn open_anew(
-        &mut self,
-        rt: &'a HostRuntime,
-        folder: &str,
-        seal: Option<Seal>,
-    ) -> Result<(), OpenFault>
-        ensures opened { OnOk result (IsSome self.new) }
-        ensures sealed { OnOk result (IsOpenedBy seal self.new) }
-        ensures closed { OnErr result (self.new ≡ None) }
-    {
-        match self.open_text(rt, folder, seal) {
-            Ok(opened) => {
-                self.replace_host(Some(opened));
-                self.standing = Standing::Closed;
-                Ok(())
-            }
-            Err(fault) => {
-                self.give_up(fault);
-                Err(fault)
-            }
-        }
-    }
-
     // Why it is never opened, if it isn't.
     fn bar(&self) -> Option<OpenFault>
         ensures { IsSome result → self.now ≡ None }
@@ -83,9 +59,19 @@ impl<'a> Document<'a> {
         if self.is_open() {
             return Ok(());
         }
-        match self.bar() {
-            Some(fault) => Err(fault),
-            None => self.open_anew(rt, folder, seal),
+        if let Some(fault) = self.bar() {
+            return Err(fault);
+        }
+        match self.open_text(rt, folder, seal) {
+            Ok(opened) => {
+                self.replace_host(Some(opened));
+                self.standing = Standing::Closed;
+                Ok(())
+            }
+            Err(fault) => {
+                self.give_up(fault);
+                Err(fault)
+            }
         }
     }
 
