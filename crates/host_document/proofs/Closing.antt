@@ -17,16 +17,10 @@ closed_link past link = rw (same_test link.site)
 pub closed_device : (past : List HostEvent) (site : ℕ) → device_of site (DeviceClosed site ∷ past) ≡ None
 closed_device past site = rw (same_test site)
 
--- what an event closes is none behind it, and was none before if the host refused it for that
-pub none_left : {A : Type 0} (found : List HostEvent → Option A) (result : Result (Unit {0}) Refusal) (why : Refusal) (event : HostEvent) (old new : List HostEvent)
-    → found (event ∷ old) ≡ None → OnOk result (new ≡ event ∷ old) → IfErr result (λ refusal. (refusal ≡ why) × (found old ≡ None)) → OnErr result (new ≡ old)
-    → found new ≡ None
-none_left found (Ok done) why event old new closed happened refused unchanged = rw happened closed
-none_left found (Err refusal) why event old new closed happened refused unchanged = rw unchanged refused.1
-
--- an event that leaves what is saved and the peer does so whether it happened or the host refused it
-pub both_left : (result : Result (Unit {0}) Refusal) (event : HostEvent) (old new : List HostEvent)
-    → saved_journal (event ∷ old) ≡ saved_journal old → host_peer (event ∷ old) ≡ host_peer old → OnOk result (new ≡ event ∷ old) → OnErr result (new ≡ old)
-    → (saved_journal new ≡ saved_journal old) × (host_peer new ≡ host_peer old)
-both_left (Ok done) event old new saved peer happened unchanged = rw happened (saved, peer)
-both_left (Err refusal) event old new saved peer happened unchanged = rw unchanged (refl, refl)
+-- what an event closes is none behind it, and was none before if the host refused it for that; what is saved and the peer stay
+pub left_closed : {A : Type 0} (found : List HostEvent → Option A) (result : Result (Unit {0}) Refusal) (why : Refusal) (event : HostEvent) (old new : List HostEvent)
+    → found (event ∷ old) ≡ None → saved_journal (event ∷ old) ≡ saved_journal old → host_peer (event ∷ old) ≡ host_peer old → OnOk result (new ≡ event ∷ old)
+    → IfErr result (λ refusal. (refusal ≡ why) × (found old ≡ None)) → OnErr result (new ≡ old)
+    → (found new ≡ None) × (saved_journal new ≡ saved_journal old) × (host_peer new ≡ host_peer old)
+left_closed found (Ok done) why event old new closed saved peer happened refused unchanged = rw happened (closed, saved, peer)
+left_closed found (Err refusal) why event old new closed saved peer happened refused unchanged = rw unchanged (refused.1, refl, refl)
