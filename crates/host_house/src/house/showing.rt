@@ -6,10 +6,27 @@ use hex::encode;
 use host_document::Document;
 use host_people::Holder;
 use std::alloc::{AllocError, Global};
+use std::collections::BTreeMap;
 
 // The word for whether a key is open.
 fn key_word(holder: &Holder) -> &'static str {
     if holder.is_open { "open" } else { "closed" }
+}
+
+// A line for each of these keys, behind line ends: what it is, its number, its person, and whether it is open.
+fn put_keys(
+    alloc: Global,
+    kind: &str,
+    keys: &BTreeMap<u16, Holder>,
+    text: &mut String,
+) -> Result<(), AllocError> {
+    for (number, holder) in keys {
+        let person = holder.person;
+        let state = key_word(holder);
+        let line = format!(in alloc; "\n{kind} {number} {person} {state}")?;
+        text.push_str(line.as_str())?;
+    }
+    Ok(())
 }
 
 // The line of a document, behind a line end.
@@ -45,33 +62,12 @@ impl<'a> House<'a> {
         Ok(text)
     }
 
-    // A line for each invitation, behind line ends.
-    fn put_invitations(&self, text: &mut String) -> Result<(), AllocError> {
-        for (number, holder) in self.people().invitations() {
-            let person = holder.person;
-            let state = key_word(holder);
-            let line = format!(in self.alloc; "\ninvitation {number} {person} {state}")?;
-            text.push_str(line.as_str())?;
-        }
-        Ok(())
-    }
-
-    // A line for each device, behind line ends.
-    fn put_devices(&self, text: &mut String) -> Result<(), AllocError> {
-        for (site, holder) in self.people().devices() {
-            let person = holder.person;
-            let state = key_word(holder);
-            let line = format!(in self.alloc; "\ndevice {site} {person} {state}")?;
-            text.push_str(line.as_str())?;
-        }
-        Ok(())
-    }
-
     // `keys`, with a line for each invitation and each device, with its number and its person.
     pub(super) fn keys(&self) -> Result<String, AllocError> {
         let mut text = String::from_str(self.alloc, "keys")?;
-        self.put_invitations(&mut text)?;
-        self.put_devices(&mut text)?;
+        let people = self.people();
+        put_keys(self.alloc, "invitation", people.invitations(), &mut text)?;
+        put_keys(self.alloc, "device", people.devices(), &mut text)?;
         Ok(text)
     }
 
