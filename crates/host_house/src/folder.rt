@@ -47,37 +47,36 @@ fn loss(rt: &HostRuntime, folder: &str, name: &str, why: ErrorKind) -> Option<Op
     }
 }
 
-// Puts the document of this name to the others, closed, if one stands in the folder.
-fn put_document(
+// What was found as the identity of the document of this name. None where there is none, or none may be called so.
+fn find_identity(
     rt: &HostRuntime,
     folder: &str,
     name: &str,
-    documents: &mut Vec<Document<'_>>,
-) -> io::Result<()> {
-    let owned = String::from_str(rt.alloc(), name)?;
-    let document = match read_identity(rt, folder, name) {
-        Ok(identity) => Document::new(owned, identity),
+) -> Option<Result<Identity, OpenFault>> {
+    if !is_document_name(name) {
+        return None;
+    }
+    match read_identity(rt, folder, name) {
+        Ok(identity) => Some(Ok(identity)),
         Err(error) => match loss(rt, folder, name, error.kind()) {
-            Some(fault) => Document::lost(owned, fault),
-            None => return Ok(()),
+            Some(fault) => Some(Err(fault)),
+            None => None,
         },
+    }
+}
+
+// Puts a document, closed, to the others.
+fn put_document(
+    documents: &mut Vec<Document<'_>>,
+    name: String,
+    identity: Result<Identity, OpenFault>,
+) -> io::Result<()> {
+    let document = match identity {
+        Ok(identity) => Document::new(name, identity),
+        Err(fault) => Document::lost(name, fault),
     };
     documents.push(document)?;
     Ok(())
-}
-
-// Puts what stands in an entry of the folder to the documents, if it may be called so.
-fn put_entry(
-    rt: &HostRuntime,
-    folder: &str,
-    name: &str,
-    documents: &mut Vec<Document<'_>>,
-) -> io::Result<()> {
-    if is_document_name(name) {
-        put_document(rt, folder, name, documents)
-    } else {
-        Ok(())
-    }
 }
 
 // Puts the documents that stand in a folder to the others.
@@ -87,7 +86,11 @@ fn put_documents(
     documents: &mut Vec<Document<'_>>,
 ) -> io::Result<()> {
     for entry in fs::read_dir(rt, folder)? {
-        put_entry(rt, folder, entry?.file_name(), documents)?;
+        let entry = entry?;
+        if let Some(identity) = find_identity(rt, folder, entry.file_name()) {
+            let name = String::from_str(rt.alloc(), entry.file_name())?;
+            put_document(documents, name, identity)?;
+        }
     }
     Ok(())
 }
@@ -170,13 +173,12 @@ pub(crate) fn make_folder(
     name: &str,
     identity: &Identity,
 ) -> io::Result<()> {
-    let alloc = rt.alloc();
-    let coming = format!(in alloc; "{folder}/.{name}.new")?;
+    let coming = format!(in rt.alloc(); "{folder}/.{name}.new")?;
     fs::create_dir_all(rt, coming.as_str())?;
-    let path = format!(in alloc; "{folder}/.{name}.new/identity")?;
+    let path = format!(in rt.alloc(); "{folder}/.{name}.new/identity")?;
     write_identity(rt, path.as_str(), identity)?;
     sync_names(rt, coming.as_str())?;
-    let at_last = format!(in alloc; "{folder}/{name}")?;
+    let at_last = format!(in rt.alloc(); "{folder}/{name}")?;
     rename_synced(rt, coming.as_str(), at_last.as_str(), &[folder])
 }
 
