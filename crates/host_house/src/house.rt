@@ -111,7 +111,7 @@ impl<'a> House<'a> {
     // Makes the owner.
     fn make_owner(&mut self) -> Result<(), HouseFault> {
         let name = String::from_str(self.alloc, FIRST_NAME)?;
-        self.add(&Change::Made {
+        self.add(Change::Made {
             person: FIRST_PERSON,
             role: Role::Owner,
             name,
@@ -165,12 +165,14 @@ impl<'a> House<'a> {
     }
 
     // Keeps a change of people.
-    fn add(&mut self, change: &Change) -> Result<(), HouseFault>
-        ensures added { OnOk result (self.new.changes ≡ change.now ∷ self.old.changes) }
+    fn add(&mut self, change: Change) -> Result<(), HouseFault>
+        ensures added { OnOk result (self.new.changes ≡ change ∷ self.old.changes) }
         ensures left { IfErr result (λ fault. (fault ≡ HouseFault.Book BookFault.DiskFault) ⊎ (self.new.changes ≡ self.old.changes)) }
         ensures documents { self.new.documents ≡ self.old.documents }
     {
-        match self.book.add(&mut self.disk, change) {
+        let added = self.book.add(&mut self.disk, &change);
+        drop(change);
+        match added {
             Ok(()) => Ok(()),
             Err(fault) => Err(HouseFault::Book(fault)),
         }

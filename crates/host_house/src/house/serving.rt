@@ -12,6 +12,7 @@ use host_core::{LinkId, Role};
 use host_document::OpenFault;
 use host_link::{Claim, Ending};
 use host_people::{BookFault, Change, Digest, Holder, Secret};
+use std::alloc::AllocError;
 
 /// A link of a device that was admitted to a document.
 #[derive(Clone, Copy, Debug, PartialEq, Eq)]
@@ -32,7 +33,19 @@ fn ending_by(fault: HouseFault) -> Ending {
 }
 
 impl<'a> House<'a> {
-    // Makes an invitation of a person, and gives its address behind these words.
+    // The number and the address of an invitation with this secret, behind these words.
+    fn invitation_text(
+        &self,
+        words: &str,
+        invitation: u16,
+        secret: &Secret,
+    ) -> Result<String, AllocError> {
+        let digits = encode(self.alloc, secret.as_slice())?;
+        let address = self.address.as_str();
+        format!(in self.alloc; "{words}{invitation} {address}#{digits}")
+    }
+
+    // Makes an invitation of a person, and gives its number and its address behind these words.
     pub(super) fn invite_by(&mut self, words: &str, person: u16) -> Result<String, HouseFault>
         ensures made { OnOk result (MakesInvitation person self.old.changes self.new.changes) }
         ensures documents { self.new.documents ≡ self.old.documents }
@@ -42,15 +55,12 @@ impl<'a> House<'a> {
         };
         let secret = new_secret(self.rt)?;
         let digest = digest_of(&secret);
-        let digits = encode(self.alloc, secret.as_slice())?;
-        let address = self.address.as_str();
-        let text = format!(in self.alloc; "{words}{invitation} {address}#{digits}")?;
-        let change = Change::Invited {
+        let text = self.invitation_text(words, invitation, &secret)?;
+        self.add(Change::Invited {
             invitation,
             person,
             digest,
-        };
-        self.add(&change)?;
+        })?;
         Ok(text)
     }
 
@@ -85,7 +95,7 @@ impl<'a> House<'a> {
             person,
             digest,
         };
-        match self.add(&joined) {
+        match self.add(joined) {
             Ok(()) => Ok((site, own)),
             Err(fault) => Err(ending_by(fault)),
         }

@@ -55,7 +55,7 @@ impl<'a> House<'a> {
         };
         let text = format!(in self.alloc; "person {person}")?;
         let name = String::from_str(self.alloc, name)?;
-        self.add(&Change::Made { person, role, name })?;
+        self.add(Change::Made { person, role, name })?;
         Ok(text)
     }
 
@@ -67,43 +67,54 @@ impl<'a> House<'a> {
         self.invite_by("invitation ", person)
     }
 
-    // Keeps a change of what is there, and gives the word for it.
-    fn change(
-        &mut self,
-        is_there: bool,
-        change: &Change,
-        word: &str,
-    ) -> Result<String, HouseFault> {
-        if !is_there {
-            return Err(HouseFault::Nobody);
+    // Keeps a change, and gives the word for it.
+    fn change(&mut self, change: Change, word: &str) -> Result<String, HouseFault> {
+        match String::from_str(self.alloc, word) {
+            Ok(text) => {
+                self.add(change)?;
+                Ok(text)
+            }
+            Err(_) => {
+                drop(change);
+                Err(HouseFault::NoMemory)
+            }
         }
-        let text = String::from_str(self.alloc, word)?;
-        self.add(change)?;
-        Ok(text)
     }
 
     // Keeps a change of a person who is there.
-    fn change_person(&mut self, person: u16, change: &Change) -> Result<String, HouseFault> {
-        let is_there = self.role(person).is_some();
-        self.change(is_there, change, "changed")
+    fn change_person(&mut self, person: u16, change: Change) -> Result<String, HouseFault> {
+        if self.role(person).is_none() {
+            drop(change);
+            return Err(HouseFault::Nobody);
+        }
+        self.change(change, "changed")
+    }
+
+    // Gives a person another role.
+    fn give_role(&mut self, person: u16, role: Role) -> Result<String, HouseFault> {
+        self.change_person(person, Change::GivenRole { person, role })
     }
 
     // Gives a person another name.
     fn rename_person(&mut self, person: u16, name: &str) -> Result<String, HouseFault> {
         let name = String::from_str(self.alloc, name)?;
-        self.change_person(person, &Change::Renamed { person, name })
+        self.change_person(person, Change::Renamed { person, name })
     }
 
     // Closes an invitation that is there.
     fn close_invitation(&mut self, invitation: u16) -> Result<String, HouseFault> {
-        let is_there = self.people().invitation(invitation).is_some();
-        self.change(is_there, &Change::Uninvited { invitation }, "closed")
+        if self.people().invitation(invitation).is_none() {
+            return Err(HouseFault::Nobody);
+        }
+        self.change(Change::Uninvited { invitation }, "closed")
     }
 
     // Closes a device that is there, also in the documents that are open.
     fn close_device(&mut self, site: u16) -> Result<String, HouseFault> {
-        let is_there = self.people().device(site).is_some();
-        let text = self.change(is_there, &Change::Left { site }, "closed")?;
+        if self.people().device(site).is_none() {
+            return Err(HouseFault::Nobody);
+        }
+        let text = self.change(Change::Left { site }, "closed")?;
         self.close_in_documents(site);
         Ok(text)
     }
@@ -118,11 +129,7 @@ impl<'a> House<'a> {
                 with(self.make_invitation(person), Consequence::Nothing)
             }
             HouseOrder::SetRole { person, role } => {
-                let change = Change::GivenRole { person, role };
-                with(
-                    self.change_person(person, &change),
-                    Consequence::Role(person),
-                )
+                with(self.give_role(person, role), Consequence::Role(person))
             }
             HouseOrder::Rename { person, name } => {
                 with(self.rename_person(person, name), Consequence::People)
