@@ -1,0 +1,7 @@
+use Rattle.std.proofs.Common.{take}
+use Rattle.policy_book.specs.Lists.{has_number}
+use Rattle.admin_log.specs.VersionTable.{NotesMore}
+use Rattle.admin_log.proofs.version_table.VersionTable.note_row.Given as goal
+
+abbrev pub invariant-loop-i : goal.invariant-loop-i
+invariant-loop-i l = NotesMore l.fn.self l.self l.version (has_number (take l.i l.users))
