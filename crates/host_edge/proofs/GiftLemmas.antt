@@ -8,7 +8,9 @@ use Rattle.host_core.specs.declared.event.LinkId.{LinkId}
 use Rattle.host_core.specs.declared.event.HostEvent.{HostEvent}
 use Rattle.host_core.specs.declared.event.HostEvent.TheVariants.{Gave}
 use Rattle.host_document.specs.HappensAt.{HappensAt}
-use Rattle.host_edge.specs.Gifts.{behind_gift, behind_gifts, item_frames, GivesFrames}
+use Rattle.host_seal.specs.Frames.{item_frames}
+use Rattle.host_seal.proofs.Frames.{frames_more}
+use Rattle.host_edge.specs.Gifts.{behind_gift, behind_gifts, GivesFrames}
 
 -- a gift that a document adds is one that happened behind it
 pub added_gift : (link : LinkId) (m : Message) (old new : Option (List HostEvent)) → HappensAt old new (Gave link m) → new ≡ behind_gift link m old
@@ -20,11 +22,6 @@ pub gifts_snoc : (link : LinkId) (ms : List Message) (m : Message) (old : Option
     → behind_gifts link (ms ++ m ∷ []) old ≡ behind_gift link m (behind_gifts link ms old)
 gifts_snoc link [] m old = refl
 gifts_snoc link (x ∷ xs) m old = gifts_snoc link xs m (behind_gift link x old)
-
--- the last frame stands behind the others
-pub frames_snoc : (ms : List Message) (m : Message) → item_frames (ms ++ m ∷ []) ≡ item_frames ms ++ spelling (Item m)
-frames_snoc [] m = append-nil (spelling (Item m))
-frames_snoc (x ∷ xs) m = rw (frames_snoc xs m) (sym (append_assoc (spelling (Item x)) (item_frames xs) (spelling (Item m))))
 
 -- where nothing was given nothing stands behind
 pub none_given : (link : LinkId) (old : Option (List HostEvent)) (before : List ℕ) → GivesFrames link 0 old old before before
@@ -39,5 +36,5 @@ one_more link count m old mid new before between after g given framed = record {
   so_many = length-append g.items (m ∷ []) ∙ ap (λ (n : ℕ). n + 1) g.so_many;
   given = given ∙ ap (λ (p : Option (List HostEvent)). behind_gift link m p) g.given ∙ sym (gifts_snoc link g.items m old);
   framed = framed ∙ ap (λ (bs : List ℕ). bs ++ spelling (Item m)) g.framed ∙ append_assoc before (item_frames g.items) (spelling (Item m))
-      ∙ ap (λ (bs : List ℕ). before ++ bs) (sym (frames_snoc g.items m));
+      ∙ ap (λ (bs : List ℕ). before ++ bs) (frames_more g.items m);
 }

@@ -1,13 +1,12 @@
 -- Messages that a document gives a link, and the frames that go to it.
 use Rattle.std.specs.Prelude.{◌≡◌, ℕ, List, [], ◌∷◌, ◌++◌, Option, option_map, length}
 use Rattle.edit_message.specs.declared.message.Message.{Message}
-use Rattle.edit_frame.specs.declared.frame.Frame.TheVariants.{Item}
-use Rattle.edit_frame.specs.Spelling.{spelling}
 use Rattle.tungstenite.specs.Content.{binary}
 use Rattle.tungstenite.specs.Socket.{Socket}
 use Rattle.host_core.specs.declared.event.LinkId.{LinkId}
 use Rattle.host_core.specs.declared.event.HostEvent.{HostEvent}
 use Rattle.host_core.specs.declared.event.HostEvent.TheVariants.{Gave}
+use Rattle.host_seal.specs.Frames.{item_frames}
 use Rattle.host_socket.specs.Sent.{IsSent}
 
 -- what has happened at a document behind the gift of a message to a link, if it is open
@@ -18,11 +17,6 @@ behind_gift link m past = option_map (λ events. Gave link m ∷ events) past
 abbrev pub behind_gifts : LinkId → List Message → Option (List HostEvent) → Option (List HostEvent)
 behind_gifts link [] past = past
 behind_gifts link (m ∷ ms) past = behind_gifts link ms (behind_gift link m past)
-
--- the frames of messages, one behind the other
-abbrev pub item_frames : List Message → List ℕ
-item_frames [] = []
-item_frames (m ∷ ms) = spelling (Item m) ++ item_frames ms
 
 -- a document gave a link so many messages, and their frames, whole and in order, stand behind others
 pub record GivesFrames (link : LinkId) (count : ℕ) (old new : Option (List HostEvent)) (before after : List ℕ) : Type 0 where

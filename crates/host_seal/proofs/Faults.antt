@@ -10,7 +10,7 @@ use Rattle.edit_message.specs.declared.message.Message.{Message}
 use Rattle.host_seal.specs.declared.seal.Seal.{Seal}
 use Rattle.host_seal.specs.declared.seal.SealFault.{SealFault}
 use Rattle.host_seal.specs.declared.seal.SealFault.TheVariants.{Fewer, Others}
-use Rattle.host_seal.specs.Frames.{sealed_frames}
+use Rattle.host_seal.specs.Frames.{item_frames}
 use Rattle.host_seal.specs.Seals.{seal_of, seal_fault, IsSealed}
 use Rattle.host_seal.specs.Laws.{FaultLaw, GrowthLaw}
 
@@ -24,7 +24,7 @@ seal_by items digest = record { items = items; digest = digest }
 
 -- whether the digest of a journal's first messages is that of a seal
 abbrev pub has_digest : Seal → List Message → Bool
-has_digest seal messages = bytes_eq (sha256 (sealed_frames messages)) seal.digest
+has_digest seal messages = bytes_eq (sha256 (item_frames messages)) seal.digest
 
 -- where no fault is found there are enough messages, and their digest is that of the seal
 faultless_parts : (fewer same : Bool) → fault_by fewer same ≡ None → (fewer ≡ false) × (same ≡ true)
@@ -38,7 +38,7 @@ begins_sealed seal J none =
     let parts = faultless_parts (nat_lt (length J) seal.items) (has_digest seal (take seal.items J)) none in
     let enough = ltb-false (length J) seal.items parts.0 in
     let count = length-take-le seal.items J enough in
-    let digest = (bytes_eq-Decides (sha256 (sealed_frames (take seal.items J))) seal.digest).0 parts.1 in
+    let digest = (bytes_eq-Decides (sha256 (item_frames (take seal.items J))) seal.digest).0 parts.1 in
     ap₂ seal_by (sym count) (sym digest)
 
 -- and one that begins so has no fault
@@ -46,9 +46,9 @@ pub no_fault : (seal : Seal) (J : List Message) → IsSealed seal J → seal_fau
 no_fault seal J is =
     let count : seal.items ≡ length (take seal.items J) = ap (λ (s : Seal). s.items) is in
     let least = length-take seal.items J in
-    let digest : sha256 (sealed_frames (take seal.items J)) ≡ seal.digest = sym (ap (λ (s : Seal). s.digest) is) in
+    let digest : sha256 (item_frames (take seal.items J)) ≡ seal.digest = sym (ap (λ (s : Seal). s.digest) is) in
     ap₂ fault_by (le-ltb (length J) seal.items (omega (arith, count, least)))
-    ((bytes_eq-Decides (sha256 (sealed_frames (take seal.items J))) seal.digest).1 digest)
+    ((bytes_eq-Decides (sha256 (item_frames (take seal.items J))) seal.digest).1 digest)
 
 pub faults : FaultLaw
 faults seal J = (begins_sealed seal J, no_fault seal J)

@@ -7,11 +7,11 @@ use Rattle.edit_message.specs.declared.message.Message.{Message}
 use Rattle.host_seal.specs.declared.seal.Seal.{Seal}
 use Rattle.host_seal.specs.declared.seal.SealFault.{SealFault}
 use Rattle.host_seal.specs.declared.seal.SealFault.TheVariants.{Fewer, Others}
-use Rattle.host_seal.specs.Frames.{sealed_frames}
+use Rattle.host_seal.specs.Frames.{item_frames}
 
 -- the seal of messages: their number, and the digest of their frames
 abbrev pub seal_of : List Message → Seal
-seal_of messages = record { items = length messages; digest = sha256 (sealed_frames messages) }
+seal_of messages = record { items = length messages; digest = sha256 (item_frames messages) }
 
 -- messages are the first of a journal
 abbrev pub IsBeginning : List Message → List Message → Type 0
@@ -25,7 +25,7 @@ IsSealed seal journal = seal ≡ seal_of (take seal.items journal)
 abbrev pub seal_fault : Seal → List Message → Option SealFault
 seal_fault seal journal = first_of (
     when (nat_lt (length journal) seal.items) Fewer
-    ∷ when (not (bytes_eq (sha256 (sealed_frames (take seal.items journal))) seal.digest)) Others
+    ∷ when (not (bytes_eq (sha256 (item_frames (take seal.items journal))) seal.digest)) Others
     ∷ [])
 
 -- the bytes of a seal: the number of messages, highest byte first, and the digest
