@@ -195,18 +195,12 @@ impl<'a> Desk<'a> {
 
     // What a stage becomes whose link ends.
     fn ended_stage(&mut self, slot: usize, conn: Conn, why: Ending) -> Option<Conn> {
-        let Conn {
-            stage,
-            until,
-            unread,
-        } = conn;
-        match stage {
-            Stage::Linked(linked) => self.ended_link(slot, linked, why),
-            stage => Some(Conn {
-                stage,
-                until,
-                unread,
-            }),
+        match conn {
+            Conn {
+                stage: Stage::Linked(linked),
+                ..
+            } => self.ended_link(slot, linked, why),
+            other => Some(other),
         }
     }
 
