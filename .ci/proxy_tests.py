@@ -106,7 +106,7 @@ class Behind(Host):
     def __init__(self, program, folder, path):
         self.path = path
         self.proxy = None
-        super().__init__(program, os.path.join(folder, path), "--origin", f"https://{NAME}/{path}", web=os.path.join(TOP, "web"))
+        super().__init__(program, os.path.join(folder, path), "--origin", f"https://{NAME}/{path}", "--behind-proxy", web=os.path.join(TOP, "web"))
 
     @property
     def name(self):
@@ -170,7 +170,7 @@ def try_restart(notes, device, late):
     except (Broken, Ended):
         pass
     same("a host that is away", notes.ask("/")[0], 502)
-    notes.start("--origin", f"https://{NAME}/notes")
+    notes.start("--origin", f"https://{NAME}/notes", "--behind-proxy")
     back = device.link(notes, "/d/notes/link")
     same("what it has", len(back.first_items(back.saved)), back.saved)
 

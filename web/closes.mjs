@@ -21,6 +21,7 @@ const CLOSES = {
   4006: { words: 'The host has less than it gave this page: older files were put back there. Export the text, and tell who hosts it.', then: 'end' },
   4007: { words: 'The host heard nothing of this page for a minute, so it is linked again.', then: 'again' },
   4008: { words: 'This page took too long to take what the host sent, so it is linked again.', then: 'again' },
+  4009: { words: 'Too many wrong keys came from where you are, so the host lets nobody in from there for a minute. It is tried again.', then: 'again' },
   4010: { words: 'The host has no room left for this document, so it takes nothing more.', then: 'again' },
   4011: { words: 'The host’s disk failed, so it takes nothing more. Tell who hosts it.', then: 'again' },
   4012: { words: 'The host has no memory left at the moment. It is linked again.', then: 'again' },

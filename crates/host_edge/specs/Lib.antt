@@ -2,3 +2,4 @@ pub mod Replies
 pub mod Gifts
 pub mod Rooms
 pub mod Taken
+pub mod Slowed

@@ -2,8 +2,9 @@
 
 use host_core::LinkId;
 use host_link::Ending;
-use host_socket::Socket;
+use host_socket::{Network, Socket};
 use mio::net::TcpStream;
+use std::net::IpAddr;
 
 /// Where a link leads.
 #[derive(Clone, Copy, PartialEq, Eq)]
@@ -18,6 +19,8 @@ pub(crate) enum Place {
 #[derive(Drop)]
 pub(crate) struct Asking {
     pub(crate) stream: TcpStream,
+    /// The address at its other end.
+    pub(crate) peer: IpAddr,
     pub(crate) head: Vec<u8>,
 }
 
@@ -35,6 +38,8 @@ pub(crate) struct Answering {
 pub(crate) struct Unknown {
     pub(crate) socket: Socket,
     pub(crate) place: Place,
+    /// From where its keys come, where wrong ones are counted.
+    pub(crate) from: Option<Network>,
 }
 
 /// A link that was welcomed.

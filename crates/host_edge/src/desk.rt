@@ -6,7 +6,7 @@ use crate::room::{Room, Seat, Who};
 use host_house::House;
 use host_http::{Origins, Pages, Routes};
 use host_link::Ending;
-use host_socket::{Counts, Happening, Limits, Socket, send_close};
+use host_socket::{Counts, Happening, Limits, Socket, WrongKeys, send_close};
 use std::alloc::Global;
 
 /// A house with its connections.
@@ -19,6 +19,9 @@ pub struct Desk<'a> {
     pub(crate) routes: Routes,
     pub(crate) origins: Origins,
     pub(crate) limits: Limits,
+    pub(crate) wrong_keys: WrongKeys,
+    // Whether a proxy's word is taken on where a request comes from.
+    pub(crate) trusts_proxy: bool,
     pub(crate) counts: Counts,
     pub(crate) happened: Vec<Happening>,
     pub(crate) now: u64,
@@ -50,7 +53,7 @@ fn add_rooms(alloc: Global, rooms: &mut Vec<Room>, count: usize) -> Result<(), E
 }
 
 impl<'a> Desk<'a> {
-    /// A desk with no connection. It takes no memory.
+    /// A desk with no connection, to which connections come by themselves. It takes no memory.
     pub fn new(
         rt: &'a HostRuntime,
         house: House<'a>,
@@ -58,6 +61,7 @@ impl<'a> Desk<'a> {
         routes: Routes,
         origins: Origins,
         limits: Limits,
+        wrong_keys: WrongKeys,
     ) -> Desk<'a> {
         let alloc = rt.alloc();
         Desk {
@@ -68,6 +72,8 @@ impl<'a> Desk<'a> {
             routes,
             origins,
             limits,
+            wrong_keys,
+            trusts_proxy: false,
             counts: Counts::NONE,
             happened: Vec::new(alloc),
             now: 0,
@@ -86,9 +92,14 @@ impl<'a> Desk<'a> {
         }
     }
 
+    /// From now on connections come by a proxy, whose word is taken on where each comes from.
+    pub fn trust_proxy(&mut self) {
+        self.trusts_proxy = true;
+    }
+
     // Has a room for each document.
     pub(crate) fn make_rooms(&mut self) -> Result<(), Ending>
-        ensures { self.new.house ≡ self.old.house }
+        ensures { self.new ≡ record self.old { rooms = self.new.rooms } }
     {
         let count = self.house.documents().len();
         add_rooms(self.alloc, &mut self.rooms, count)

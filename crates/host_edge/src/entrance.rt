@@ -7,7 +7,7 @@ use host_socket::Happening;
 use mio::net::{TcpListener, TcpStream};
 use mio::{Interest, Poll, Token};
 use std::io::{self, ErrorKind};
-use std::net::{Net, SocketAddr};
+use std::net::{IpAddr, Net, SocketAddr};
 
 /// What events name the listener by.
 pub(crate) const LISTENER: Token = Token(usize::MAX);
@@ -68,8 +68,8 @@ impl<'a> Desk<'a> {
         Ok(Some(slot))
     }
 
-    // Takes a stream in. One too many is dropped.
-    fn take_in(&mut self, poll: &Poll, mut stream: TcpStream) -> io::Result<()> {
+    // Takes in a stream from an address. One too many is dropped.
+    fn take_in(&mut self, poll: &Poll, mut stream: TcpStream, peer: IpAddr) -> io::Result<()> {
         let Some(slot) = self.new_slot()? else {
             return Ok(());
         };
@@ -85,6 +85,7 @@ impl<'a> Desk<'a> {
         }
         let asking = Asking {
             stream,
+            peer,
             head: Vec::new(self.alloc),
         };
         let until = self.now.saturating_add(self.limits.head);
@@ -100,8 +101,8 @@ impl<'a> Desk<'a> {
         }
         for _ in 0..MOST_ACCEPTED {
             match entrance.listener.accept() {
-                Ok((stream, _)) => {
-                    let _ = self.take_in(&entrance.poll, stream);
+                Ok((stream, address)) => {
+                    let _ = self.take_in(&entrance.poll, stream, address.ip());
                 }
                 Err(error) if error.kind() == ErrorKind::WouldBlock => {
                     entrance.is_waiting = false;

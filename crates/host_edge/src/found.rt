@@ -1,10 +1,20 @@
 //! What stands at a route of HTTP, and who may be told of it.
-ghost use Rattle.std.specs.Prelude.{◌≡◌, Err, IfSome, IsOk};
+ghost use Rattle.std.specs.Prelude.{◌≡◌, Some, Err, IsSome, IfSome, IsOk};
 ghost use Rattle.host_http.specs.declared.route.Route.{Route};
+ghost use Rattle.host_http.specs.declared.answer.Status.{Status};
 ghost use Rattle.host_edge.specs.Replies.{shows_device, key_status, part_status, refused_status};
+ghost use Rattle.host_edge.specs.Slowed.{waits, CountsWrong};
 
 use crate::desk::Desk;
 use host_http::{Credential, Part, Route, Status};
+use host_socket::Network;
+
+/// Who asks: the device that he shows, and from where he comes, where wrong keys are counted.
+#[derive(Clone, Copy)]
+pub(crate) struct Asker {
+    pub(crate) credential: Option<Credential>,
+    pub(crate) from: Option<Network>,
+}
 
 /// What is told of what stands at a route.
 #[derive(Clone, Copy)]
@@ -29,6 +39,26 @@ fn shows_device(desk: &Desk<'_>, credential: Option<Credential>) -> bool
         Some(it) => desk.house.holder(it.site, &it.secret).is_some(),
         None => false,
     }
+}
+
+// Why what only devices are told isn't told to who asks. A wrong key is counted.
+fn check_key(desk: &mut Desk<'_>, asker: Asker) -> Option<Status>
+    ensures checked { let slowed = waits asker.credential asker.from desk.old.now desk.old.limits desk.old.wrong_keys in
+        result ≡ key_status slowed (shows_device asker.credential desk.old.house.changes) }
+    ensures counted { (result ≡ Some Status.Unauthorized) → IsSome asker.credential → CountsWrong asker.from desk.old.now desk.old.wrong_keys desk.new.wrong_keys }
+    ensures others { desk.new ≡ record desk.old { wrong_keys = desk.new.wrong_keys } }
+{
+    if asker.credential.is_none() {
+        return Some(Status::Unauthorized);
+    }
+    if desk.has_to_wait(asker.from) {
+        return Some(Status::TooManyRequests);
+    }
+    if shows_device(desk, asker.credential) {
+        return None;
+    }
+    desk.count_wrong(asker.from);
+    Some(Status::Unauthorized)
 }
 
 // The file of the page of this name.
@@ -56,15 +86,15 @@ fn part_at<'r>(
     desk: &mut Desk<'_>,
     name: &str,
     part: Part,
-    credential: Option<Credential>,
+    asker: Asker,
 ) -> Result<Found<'r>, Status>
-    ensures { IfSome (key_status (shows_device credential desk.old.house.changes))
+    ensures { let slowed = waits asker.credential asker.from desk.old.now desk.old.limits desk.old.wrong_keys in
+        IfSome (key_status slowed (shows_device asker.credential desk.old.house.changes))
         (λ status. (result ≡ Err status) × (desk.new.house ≡ desk.old.house)) }
 {
-    if shows_device(desk, credential) {
-        opened_part(desk, name, part)
-    } else {
-        Err(Status::Unauthorized)
+    match check_key(desk, asker) {
+        Some(status) => Err(status),
+        None => opened_part(desk, name, part),
     }
 }
 
@@ -73,35 +103,37 @@ fn document_at<'r>(
     desk: &mut Desk<'_>,
     name: &'r str,
     part: Part,
-    credential: Option<Credential>,
+    asker: Asker,
 ) -> Result<Found<'r>, Status>
-    ensures refused { IfSome (part_status part (shows_device credential desk.old.house.changes))
+    ensures { let slowed = waits asker.credential asker.from desk.old.now desk.old.limits desk.old.wrong_keys in
+        IfSome (part_status part slowed (shows_device asker.credential desk.old.house.changes))
         (λ status. (result ≡ Err status) × (desk.new.house ≡ desk.old.house)) }
 {
     match part {
         Part::Page => Ok(Found::Page(name)),
         Part::Link => Err(Status::BadRequest),
-        Part::Text => part_at(desk, name, Part::Text, credential),
-        Part::Journal => part_at(desk, name, Part::Journal, credential),
-        Part::Certificate => part_at(desk, name, Part::Certificate, credential),
+        Part::Text => part_at(desk, name, Part::Text, asker),
+        Part::Journal => part_at(desk, name, Part::Journal, asker),
+        Part::Certificate => part_at(desk, name, Part::Certificate, asker),
     }
 }
 
-/// What stands at a route, for who shows this. Where it is refused whatever stands in the folder, nothing is opened.
+/// What stands at a route, for who asks. Where it is refused whatever stands in the folder, nothing is opened.
 pub(crate) fn found_at<'r>(
     desk: &mut Desk<'_>,
     route: &'r Route,
-    credential: Option<Credential>,
+    asker: Asker,
 ) -> Result<Found<'r>, Status>
     ensures health { route.now ≡ Route.Health → IsOk result }
-    ensures refused { IfSome (refused_status route.now (shows_device credential desk.old.house.changes))
+    ensures refused { let slowed = waits asker.credential asker.from desk.old.now desk.old.limits desk.old.wrong_keys in
+        IfSome (refused_status route.now slowed (shows_device asker.credential desk.old.house.changes))
         (λ status. (result ≡ Err status) × (desk.new.house ≡ desk.old.house)) }
 {
     match route {
         Route::Health => Ok(Found::Health),
         Route::Metrics => Ok(Found::Metrics),
         Route::House => Err(Status::BadRequest),
-        Route::Document { name, part } => document_at(desk, name.as_str(), *part, credential),
+        Route::Document { name, part } => document_at(desk, name.as_str(), *part, asker),
         Route::File(name) => file_at(desk, name.as_str()),
         Route::Nothing => Err(Status::NotFound),
     }

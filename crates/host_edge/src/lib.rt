@@ -16,6 +16,7 @@ mod running;
 mod saving;
 mod serving;
 mod telling;
+mod trying;
 mod web;
 
 pub use desk::Desk;

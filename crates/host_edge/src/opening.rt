@@ -1,6 +1,8 @@
 //! Sockets that have to show a secret.
-ghost use Rattle.std.specs.Prelude.{IfOk};
+ghost use Rattle.std.specs.Prelude.{◌≡◌, true, Err, IfOk};
+ghost use Rattle.host_link.specs.declared.ending.Ending.{Ending};
 ghost use Rattle.host_house.specs.Household.{HoldsKey};
+ghost use Rattle.host_edge.specs.Slowed.{slows, CountsWrong};
 
 use crate::conn::{Conn, Linked, Place, Stage, Unknown};
 use crate::desk::Desk;
@@ -12,7 +14,7 @@ use host_link::{
     Claim, Ending, Identity, NotOpening, Opening, device_text, read_opening, welcome_text,
 };
 use host_people::Secret;
-use host_socket::{After, Came, Happening, Socket, next_message, no_memory, send_text};
+use host_socket::{After, Came, Happening, Network, Socket, next_message, no_memory, send_text};
 
 // How many messages are read before it is the others' turn.
 const MOST_AT_ONCE: u32 = 16;
@@ -44,6 +46,7 @@ fn enter_house(desk: &Desk<'_>, claim: &Claim) -> Result<Admitted, Ending>
 // Lets a link in to the document of a number.
 fn enter_document(desk: &mut Desk<'_>, number: usize, claim: &Claim) -> Result<Admitted, Ending>
     ensures key { IfOk result (λ admitted. HoldsKey admitted.person claim.now.site claim.now.secret desk.old.house.changes) }
+    ensures others { desk.new ≡ record desk.old { house = desk.new.house; rooms = desk.new.rooms } }
 {
     desk.make_rooms()?;
     let admitted = desk.house.admit(number, claim);
@@ -54,10 +57,31 @@ fn enter_document(desk: &mut Desk<'_>, number: usize, claim: &Claim) -> Result<A
 // Lets a link in where it wants to.
 fn enter(desk: &mut Desk<'_>, place: Place, claim: &Claim) -> Result<Admitted, Ending>
     ensures key { IfOk result (λ admitted. HoldsKey admitted.person claim.now.site claim.now.secret desk.old.house.changes) }
+    ensures others { desk.new ≡ record desk.old { house = desk.new.house; rooms = desk.new.rooms } }
 {
     match place {
         Place::House => enter_house(desk, claim),
         Place::Document(number) => enter_document(desk, number, claim),
+    }
+}
+
+// Lets a link in that comes from there, unless it has to wait: then nothing is looked at. A wrong key is counted.
+fn enter_from(
+    desk: &mut Desk<'_>,
+    from: Option<Network>,
+    place: Place,
+    claim: &Claim,
+) -> Result<Admitted, Ending>
+    ensures key { IfOk result (λ admitted. HoldsKey admitted.person claim.now.site claim.now.secret desk.old.house.changes) }
+    ensures slowed { slows from desk.old.now desk.old.limits desk.old.wrong_keys ≡ true → (result ≡ Err Ending.TooManyTries) × (desk.new ≡ desk.old) }
+    ensures counted { result ≡ Err Ending.WrongSecret → CountsWrong from desk.old.now desk.old.wrong_keys desk.new.wrong_keys }
+{
+    if desk.has_to_wait(from) {
+        return Err(Ending::TooManyTries);
+    }
+    match enter(desk, place, claim) {
+        Ok(admitted) => Ok(admitted),
+        Err(why) => Err(desk.counted(from, why)),
     }
 }
 
@@ -117,8 +141,12 @@ fn note_linked(desk: &mut Desk<'_>, place: Place, site: u16) {
 }
 
 // The link of a socket that was let in.
-fn linked_of(desk: &Desk<'_>, unknown: Unknown, admitted: &Admitted) -> Linked {
-    let Unknown { socket, place } = unknown;
+fn linked_of(desk: &Desk<'_>, unknown: Unknown, admitted: &Admitted) -> Linked
+    ensures place { result.place ≡ unknown.place }
+    ensures link { result.link ≡ admitted.now.link }
+    ensures person { result.person ≡ admitted.now.person }
+{
+    let Unknown { socket, place, .. } = unknown;
     Linked {
         socket,
         place,
@@ -168,16 +196,35 @@ fn welcome(
     }
 }
 
+// Makes a device of who comes from there and shows an invitation, unless he has to wait: then nothing is looked at. A wrong key is
+// counted.
+fn join_from(
+    desk: &mut Desk<'_>,
+    from: Option<Network>,
+    secret: &Secret,
+) -> Result<(u16, Secret), Ending>
+    ensures slowed { slows from desk.old.now desk.old.limits desk.old.wrong_keys ≡ true → (result ≡ Err Ending.TooManyTries) × (desk.new ≡ desk.old) }
+    ensures counted { result ≡ Err Ending.WrongSecret → CountsWrong from desk.old.now desk.old.wrong_keys desk.new.wrong_keys }
+{
+    if desk.has_to_wait(from) {
+        return Err(Ending::TooManyTries);
+    }
+    match desk.house.join(secret) {
+        Ok(made) => Ok(made),
+        Err(why) => Err(desk.counted(from, why)),
+    }
+}
+
 // Makes a device, and tells its secret.
-fn join(desk: &mut Desk<'_>, socket: &mut Socket, secret: &Secret) -> After {
-    let (site, own) = match desk.house.join(secret) {
+fn join(desk: &mut Desk<'_>, unknown: &mut Unknown, secret: &Secret) -> After {
+    let (site, own) = match join_from(desk, unknown.from, secret) {
         Ok(made) => made,
         Err(why) => return After::Ends(why),
     };
     desk.people_changed = true;
     desk.note(Happening::Joined { site });
     match device_text(desk.alloc, site, &own) {
-        Ok(text) => send_text(desk.alloc, socket, text.as_str()),
+        Ok(text) => send_text(desk.alloc, &mut unknown.socket, text.as_str()),
         Err(_) => no_memory(),
     }
 }
@@ -192,7 +239,7 @@ fn turn_away(desk: &mut Desk<'_>, socket: Socket, why: Ending) -> Option<Conn> {
 
 // Makes a device of who shows an invitation. The socket has then as long again to say which device it is.
 fn do_join(desk: &mut Desk<'_>, mut unknown: Unknown, secret: &Secret) -> Option<Conn> {
-    match join(desk, &mut unknown.socket, secret) {
+    match join(desk, &mut unknown, secret) {
         After::Ends(why) => turn_away(desk, unknown.socket, why),
         After::Gone => None,
         _ => {
@@ -204,7 +251,7 @@ fn do_join(desk: &mut Desk<'_>, mut unknown: Unknown, secret: &Secret) -> Option
 
 // Lets a link in that says which device it is, or turns it away.
 fn do_hello(desk: &mut Desk<'_>, slot: usize, unknown: Unknown, claim: &Claim) -> Option<Conn> {
-    match enter(desk, unknown.place, claim) {
+    match enter_from(desk, unknown.from, unknown.place, claim) {
         Ok(admitted) => welcome(desk, slot, unknown, &admitted),
         Err(why) => turn_away(desk, unknown.socket, why),
     }

@@ -1,4 +1,5 @@
 //! Documents are saved, sealed, given up and closed.
+ghost use Rattle.std.specs.Prelude.{◌≡◌};
 
 use crate::conn::Place;
 use crate::desk::Desk;
@@ -11,7 +12,9 @@ const SEALING: u64 = 60_000;
 
 impl<'a> Desk<'a> {
     // Notes that a document has something that isn't saved.
-    pub(crate) fn mark_unsaved(&mut self, number: usize) {
+    pub(crate) fn mark_unsaved(&mut self, number: usize)
+        ensures { self.new ≡ record self.old { rooms = self.new.rooms } }
+    {
         if let Some(room) = self.rooms.get_mut(number) {
             room.is_unsaved = true;
         }

@@ -2,13 +2,12 @@
 
 use crate::conn::{Answering, Asking, Conn, Place, Stage, Unknown};
 use crate::desk::Desk;
-use crate::found::{Found, found_at};
+use crate::found::{Asker, Found, found_at};
 use crate::opening::serve_unknown;
 use host_http::{
-    Asked, Credential, MAX_HEAD, Part, Route, Status, body_head, moved_answer, read_head,
-    status_answer,
+    Asked, MAX_HEAD, Part, Route, Status, body_head, moved_answer, read_head, status_answer,
 };
-use host_socket::{accepted, read_some, write_some};
+use host_socket::{Network, accepted, read_some, write_some};
 use mio::net::TcpStream;
 use std::alloc::{AllocError, Global};
 use std::io;
@@ -89,12 +88,8 @@ fn found_answer(desk: &mut Desk<'_>, found: Found<'_>) -> Result<Answer, AllocEr
 }
 
 // What a request for a route is answered by.
-fn answer_of(
-    desk: &mut Desk<'_>,
-    route: &Route,
-    credential: Option<Credential>,
-) -> Result<Answer, AllocError> {
-    match found_at(desk, route, credential) {
+fn answer_of(desk: &mut Desk<'_>, route: &Route, asker: Asker) -> Result<Answer, AllocError> {
+    match found_at(desk, route, asker) {
         Ok(found) => found_answer(desk, found),
         Err(status) => refused(desk.alloc, status),
     }
@@ -166,14 +161,20 @@ fn begin_link(
     slot: usize,
     asking: Asking,
     place: Place,
+    from: Option<Network>,
     answer: &[u8],
     len: usize,
 ) -> Option<Conn> {
-    let Asking { stream, head } = asking;
+    let Asking { stream, head, .. } = asking;
     let rest = head.get(len..).unwrap_or(&[]);
     let socket = accepted(desk.alloc, stream, answer, rest)?;
     let until = desk.now.saturating_add(desk.limits.hello);
-    serve_unknown(desk, slot, Unknown { socket, place }, until)
+    let unknown = Unknown {
+        socket,
+        place,
+        from,
+    };
+    serve_unknown(desk, slot, unknown, until)
 }
 
 // Answers a request.
@@ -183,11 +184,17 @@ fn answer_request(
     answer: Result<Answer, AllocError>,
     until: u64,
 ) -> Option<Conn> {
-    let Asking { stream, head: _ } = asking;
+    let Asking { stream, .. } = asking;
     match answer {
         Ok(answer) => begin_answer(desk, stream, answer, until),
         Err(_) => None,
     }
+}
+
+// Refuses a request.
+fn refuse(desk: &Desk<'_>, asking: Asking, status: Status, until: u64) -> Option<Conn> {
+    let answer = refused(desk.alloc, status);
+    answer_request(desk, asking, answer, until)
 }
 
 // Does what a request asks for, whose head may not be whole.
@@ -202,20 +209,27 @@ fn do_asked(
     match asked {
         Asked::More if is_open => Some(Conn::waiting(Stage::Asking(asking), until)),
         Asked::More => None,
-        Asked::Refused(status) => {
-            let answer = refused(desk.alloc, status);
+        Asked::Refused(status) => refuse(desk, asking, status, until),
+        Asked::Get {
+            route,
+            credential,
+            forwarded,
+        } => {
+            let from = desk.network_of(asking.peer, forwarded);
+            let answer = answer_of(desk, &route, Asker { credential, from });
             answer_request(desk, asking, answer, until)
         }
-        Asked::Get { route, credential } => {
-            let answer = answer_of(desk, &route, credential);
-            answer_request(desk, asking, answer, until)
-        }
-        Asked::Link { route, answer, len } => match place_of(desk, &route) {
-            Some(place) => begin_link(desk, slot, asking, place, &answer, len),
-            None => {
-                let answer = refused(desk.alloc, Status::NotFound);
-                answer_request(desk, asking, answer, until)
+        Asked::Link {
+            route,
+            answer,
+            len,
+            forwarded,
+        } => match place_of(desk, &route) {
+            Some(place) => {
+                let from = desk.network_of(asking.peer, forwarded);
+                begin_link(desk, slot, asking, place, from, &answer, len)
             }
+            None => refuse(desk, asking, Status::NotFound, until),
         },
     }
 }

@@ -17,6 +17,8 @@ pub enum Status {
     MethodNotAllowed,
     /// A link is asked for by another version of WebSockets.
     UpgradeRequired,
+    /// Too many wrong secrets came from where it comes.
+    TooManyRequests,
     /// The head is longer than [`MAX_HEAD`](crate::MAX_HEAD) bytes.
     HeadTooLong,
     /// What stands there can't be had now.
@@ -33,6 +35,7 @@ impl Status {
             Status::NotFound => "404 Not Found",
             Status::MethodNotAllowed => "405 Method Not Allowed",
             Status::UpgradeRequired => "426 Upgrade Required",
+            Status::TooManyRequests => "429 Too Many Requests",
             Status::HeadTooLong => "431 Request Header Fields Too Large",
             Status::Unavailable => "503 Service Unavailable",
         }
@@ -44,6 +47,7 @@ impl Status {
             Status::Unauthorized => "WWW-Authenticate: Bearer\r\n",
             Status::MethodNotAllowed => "Allow: GET\r\n",
             Status::UpgradeRequired => "Sec-WebSocket-Version: 13\r\n",
+            Status::TooManyRequests => "Retry-After: 60\r\n",
             Status::BadRequest
             | Status::Forbidden
             | Status::NotFound

@@ -8,11 +8,12 @@ use crate::route::{Route, Routes};
 use httparse::Status as Parsed;
 use httparse::spans::{EMPTY_HEADER_SPAN, HeaderSpan, RequestSpans, parse_request};
 use std::alloc::{AllocError, Global};
+use std::net::IpAddr;
 use std::str;
 use websocket::handshake::HandshakeError;
 use websocket::handshake::server::check_request;
 
-/// What the head of a request asks for.
+/// What the head of a request asks for. It is forwarded for an address where a proxy says so.
 #[derive(Drop)]
 pub enum Asked {
     /// It isn't whole yet.
@@ -21,12 +22,14 @@ pub enum Asked {
     Get {
         route: Route,
         credential: Option<Credential>,
+        forwarded: Option<IpAddr>,
     },
     /// A link at this route: the answer that accepts it, and how many bytes the head has.
     Link {
         route: Route,
         answer: Vec<u8>,
         len: usize,
+        forwarded: Option<IpAddr>,
     },
     /// Something that is refused.
     Refused(Status),
@@ -51,6 +54,19 @@ fn field<'a>(head: &'a [u8], spans: &[HeaderSpan], name: &[u8]) -> Option<&'a [u
         }
     }
     None
+}
+
+// The last address that a proxy says a request comes from: it puts the one that it sees behind what it was told.
+fn forwarded_of(head: &[u8], spans: &[HeaderSpan]) -> Option<IpAddr> {
+    let value = field(head, spans, b"x-forwarded-for")?;
+    let Ok(text) = str::from_utf8(value) else {
+        return None;
+    };
+    let last = match text.rsplit_once(',') {
+        Some((_, last)) => last,
+        None => text,
+    };
+    last.trim().parse::<IpAddr>().ok()
 }
 
 // The route of a head, whose path is to be UTF-8.
@@ -85,6 +101,7 @@ fn get_of(
     Ok(Asked::Get {
         route: route_of(alloc, routes, head, found)?,
         credential: shown.and_then(Credential::of_field),
+        forwarded: forwarded_of(head, spans),
     })
 }
 
@@ -121,5 +138,6 @@ pub fn read_head(
         route: route_of(alloc, routes, head, &found)?,
         answer: link_answer(alloc, &key)?,
         len: found.len,
+        forwarded: forwarded_of(head, fields),
     })
 }

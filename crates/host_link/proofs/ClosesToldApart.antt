@@ -1,7 +1,7 @@
 -- Each ending has its own code.
 use Rattle.std.proofs.Common.{◌≡◌, ℕ, ◌==◌, ◌∙◌, Option, Some, find, refl, sym, ap, lit<, lit≤}
 use Rattle.host_link.specs.declared.ending.Ending.{Ending}
-use Rattle.host_link.specs.declared.ending.Ending.TheVariants.{GoingAway, OtherVersion, BadMessage, OnlyReads, Silent, Slow, OtherDocument, NoDocument, Closed, Replaced, TooManyLinks, TooManyDevices, NewRole, WrongSecret, ForgedSite, EntryOffered, AheadOfHost, StampAhead, Misses, DeniedTooOften, OwnersReserve, StoreFull, DiskFault, NoMemory}
+use Rattle.host_link.specs.declared.ending.Ending.TheVariants.{GoingAway, OtherVersion, BadMessage, OnlyReads, Silent, Slow, OtherDocument, NoDocument, Closed, Replaced, TooManyLinks, TooManyDevices, NewRole, WrongSecret, TooManyTries, ForgedSite, EntryOffered, AheadOfHost, StampAhead, Misses, DeniedTooOften, OwnersReserve, StoreFull, DiskFault, NoMemory}
 use Rattle.host_link.specs.declared.ending.TheConstants.{ALL_ENDINGS}
 use Rattle.host_link.specs.Closes.{close_code, ServerCodeLaw, ReasonLaw, OneEndingLaw, AllEndingsLaw}
 
@@ -20,6 +20,7 @@ server_code TooManyLinks = refl
 server_code TooManyDevices = refl
 server_code NewRole = refl
 server_code WrongSecret = refl
+server_code TooManyTries = refl
 server_code ForgedSite = refl
 server_code EntryOffered = refl
 server_code AheadOfHost = refl
@@ -46,6 +47,7 @@ reason TooManyLinks = lit≤ tt
 reason TooManyDevices = lit≤ tt
 reason NewRole = lit≤ tt
 reason WrongSecret = lit≤ tt
+reason TooManyTries = lit≤ tt
 reason ForgedSite = lit≤ tt
 reason EntryOffered = lit≤ tt
 reason AheadOfHost = lit≤ tt
@@ -72,16 +74,17 @@ all_endings TooManyLinks = (10, lit< tt, refl)
 all_endings TooManyDevices = (11, lit< tt, refl)
 all_endings NewRole = (12, lit< tt, refl)
 all_endings WrongSecret = (13, lit< tt, refl)
-all_endings ForgedSite = (14, lit< tt, refl)
-all_endings EntryOffered = (15, lit< tt, refl)
-all_endings AheadOfHost = (16, lit< tt, refl)
-all_endings StampAhead = (17, lit< tt, refl)
-all_endings Misses = (18, lit< tt, refl)
-all_endings DeniedTooOften = (19, lit< tt, refl)
-all_endings OwnersReserve = (20, lit< tt, refl)
-all_endings StoreFull = (21, lit< tt, refl)
-all_endings DiskFault = (22, lit< tt, refl)
-all_endings NoMemory = (23, lit< tt, refl)
+all_endings TooManyTries = (14, lit< tt, refl)
+all_endings ForgedSite = (15, lit< tt, refl)
+all_endings EntryOffered = (16, lit< tt, refl)
+all_endings AheadOfHost = (17, lit< tt, refl)
+all_endings StampAhead = (18, lit< tt, refl)
+all_endings Misses = (19, lit< tt, refl)
+all_endings DeniedTooOften = (20, lit< tt, refl)
+all_endings OwnersReserve = (21, lit< tt, refl)
+all_endings StoreFull = (22, lit< tt, refl)
+all_endings DiskFault = (23, lit< tt, refl)
+all_endings NoMemory = (24, lit< tt, refl)
 
 -- the ending of a code
 by_code : ℕ → Option Ending
@@ -104,6 +107,7 @@ found TooManyLinks = refl
 found TooManyDevices = refl
 found NewRole = refl
 found WrongSecret = refl
+found TooManyTries = refl
 found ForgedSite = refl
 found EntryOffered = refl
 found AheadOfHost = refl

@@ -1,7 +1,7 @@
 -- How a link is closed: the code and the words of each ending, and what RFC 6455 lets a server say.
 use Rattle.std.specs.Prelude.{◌≡◌, ◌≤◌, ℕ, List, Bool, true, ◌&&◌, ◌||◌, ◌==◌, nat_le, length, codes, Contains}
 use Rattle.host_link.specs.declared.ending.Ending.{Ending}
-use Rattle.host_link.specs.declared.ending.Ending.TheVariants.{GoingAway, OtherVersion, BadMessage, OnlyReads, Silent, Slow, OtherDocument, NoDocument, Closed, Replaced, TooManyLinks, TooManyDevices, NewRole, WrongSecret, ForgedSite, EntryOffered, AheadOfHost, StampAhead, Misses, DeniedTooOften, OwnersReserve, StoreFull, DiskFault, NoMemory}
+use Rattle.host_link.specs.declared.ending.Ending.TheVariants.{GoingAway, OtherVersion, BadMessage, OnlyReads, Silent, Slow, OtherDocument, NoDocument, Closed, Replaced, TooManyLinks, TooManyDevices, NewRole, WrongSecret, TooManyTries, ForgedSite, EntryOffered, AheadOfHost, StampAhead, Misses, DeniedTooOften, OwnersReserve, StoreFull, DiskFault, NoMemory}
 use Rattle.host_link.specs.declared.ending.TheConstants.{ALL_ENDINGS}
 use Rattle.host_link.specs.declared.limits.TheConstants.{MAX_REASON}
 
@@ -21,6 +21,7 @@ close_of TooManyLinks = (4017, codes "too many links of this person")
 close_of TooManyDevices = (4018, codes "too many devices in this document")
 close_of NewRole = (4019, codes "another role of this person")
 close_of WrongSecret = (4001, codes "no such device, or another secret")
+close_of TooManyTries = (4009, codes "too many wrong keys: try again in a minute")
 close_of ForgedSite = (4003, codes "a request of another site")
 close_of EntryOffered = (4004, codes "an entry")
 close_of AheadOfHost = (4006, codes "ahead of the host")

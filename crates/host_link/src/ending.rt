@@ -33,6 +33,8 @@ pub enum Ending {
     NewRole,
     /// It showed no secret of an open device or invitation.
     WrongSecret,
+    /// Too many wrong secrets came from its network lately.
+    TooManyTries,
     /// It handed in a request of another site.
     ForgedSite,
     /// It handed in an entry.
@@ -56,7 +58,7 @@ pub enum Ending {
 }
 
 /// How many there are.
-pub const ENDINGS: usize = 24;
+pub const ENDINGS: usize = 25;
 
 /// All of them.
 pub const ALL_ENDINGS: [Ending; ENDINGS] = [
@@ -74,6 +76,7 @@ pub const ALL_ENDINGS: [Ending; ENDINGS] = [
     Ending::TooManyDevices,
     Ending::NewRole,
     Ending::WrongSecret,
+    Ending::TooManyTries,
     Ending::ForgedSite,
     Ending::EntryOffered,
     Ending::AheadOfHost,
@@ -107,6 +110,7 @@ impl Ending {
             Ending::TooManyDevices => (4018, "too many devices in this document"),
             Ending::NewRole => (4019, "another role of this person"),
             Ending::WrongSecret => (4001, "no such device, or another secret"),
+            Ending::TooManyTries => (4009, "too many wrong keys: try again in a minute"),
             Ending::ForgedSite => (4003, "a request of another site"),
             Ending::EntryOffered => (4004, "an entry"),
             Ending::AheadOfHost => (4006, "ahead of the host"),

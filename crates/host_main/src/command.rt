@@ -54,6 +54,15 @@ fn new_owner_key<'a>(alloc: Global) -> Arg<'a> {
         .help("prints one more invitation of the first owner")
 }
 
+fn behind_proxy<'a>(alloc: Global) -> Arg<'a> {
+    Arg::new(alloc, "behind-proxy")
+        .long("behind-proxy")
+        .action(ArgAction::SetTrue)
+        .help(
+            "takes a proxy's word on where each request comes from: the last address of X-Forwarded-For",
+        )
+}
+
 // A command with one more argument, if there was memory until now.
 fn with<'a>(
     command: Result<Command<'a>, AllocError>,
@@ -78,6 +87,7 @@ fn host<'a>(alloc: Global) -> Result<Command<'a>, AllocError> {
     let host = with(host, listen(alloc));
     let host = with(host, web(alloc));
     let host = with(host, origin(alloc));
+    let host = with(host, behind_proxy(alloc));
     with(host, new_owner_key(alloc))
 }
 

@@ -12,7 +12,7 @@ use host_edge::Desk;
 use host_house::{House, HouseFault};
 use host_http::{Origins, Pages, Routes};
 use host_people::BookFault;
-use host_socket::Limits;
+use host_socket::{Limits, WrongKeys};
 use log::sink::Console;
 use setting::{Setting, Task, task_of};
 use std::sync::Wait;
@@ -21,12 +21,13 @@ use std::{env, fs};
 // The number of the owner who was made first.
 const FIRST_PERSON: u16 = 1;
 
-// What a host shows besides its documents.
+// What a host shows besides its documents, and the wrong keys that it is shown.
 #[derive(Drop)]
 struct Front {
     pages: Pages,
     routes: Routes,
     origins: Origins,
+    wrong_keys: WrongKeys,
 }
 
 // The words that the program was started with.
@@ -125,8 +126,12 @@ fn serve_house(
         pages,
         routes,
         origins,
+        wrong_keys,
     } = front;
-    let mut desk = Desk::new(rt, house, pages, routes, origins, Limits::USUAL);
+    let mut desk = Desk::new(rt, house, pages, routes, origins, Limits::USUAL, wrong_keys);
+    if set.behind_proxy {
+        desk.trust_proxy();
+    }
     let outcome = run_desk(rt, wait, set, &mut desk);
     drop(desk);
     outcome
@@ -155,6 +160,7 @@ fn serve(rt: &HostRuntime, wait: &impl Wait, set: &Setting) -> Result<()> {
         pages: Pages::load(rt, set.web.as_str())?,
         routes: routes(rt)?,
         origins: origins(rt, set)?,
+        wrong_keys: WrongKeys::new(rt.alloc())?,
     };
     let house = open_house(rt, &set.folder, set.address.as_str())?;
     serve_greeted(rt, wait, set, house, front)

@@ -23,6 +23,7 @@ pub struct Setting {
     /// The address of the first page, with its last slash.
     pub address: String,
     pub origins: Vec<String>,
+    pub behind_proxy: bool,
     pub new_owner_key: bool,
 }
 
@@ -88,6 +89,7 @@ fn host_setting(alloc: Global, matches: &ArgMatches<'_>) -> Result<Setting> {
         listen,
         address: address_of(alloc, matches, port)?,
         origins: origins_of(alloc, matches, port)?,
+        behind_proxy: matches.get_flag("behind-proxy"),
         new_owner_key: matches.get_flag("new-owner-key"),
     })
 }

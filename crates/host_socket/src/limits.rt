@@ -14,6 +14,10 @@ pub struct Limits {
     pub hello: u64,
     /// How long a link that showed a wrong secret waits until it is told so.
     pub wrong_key: u64,
+    /// How many wrong keys from one network count until who comes from there has to wait: `TooManyTries`, or 429 over HTTP.
+    pub wrong_keys: usize,
+    /// For how long each of them counts.
+    pub wrong_keys_count: u64,
     /// After how long a link is pinged, again and again.
     pub ping: u64,
     /// Until something comes on a link, a pong at least: `Silent`.
@@ -38,6 +42,8 @@ impl Limits {
         head: 10_000,
         hello: 10_000,
         wrong_key: 1_000,
+        wrong_keys: 10,
+        wrong_keys_count: 60_000,
         ping: 20_000,
         silent: 60_000,
         slow: 30_000,
