@@ -35,6 +35,15 @@ module _ {K X : Type 0} (cmp : K → K → Ordering) (P : K → Type 0) where
       by true rest = h.1
       by false rest = (h.0, rest)
 
+-- a test for equality is the same both ways
+swap : {K : Type 0} {cmp : K → K → Ordering} (o : IsTotalOrder cmp) (a b : K) → is_eq (cmp a b) ≡ is_eq (cmp b a)
+swap {cmp = cmp} o a b = ap is_eq (o.antisymm a b) ∙ reversed (cmp b a)
+  where
+    reversed : (r : Ordering) → is_eq (ordering_reverse r) ≡ is_eq r
+    reversed Less = refl
+    reversed Equal = refl
+    reversed Greater = refl
+
 module _ {K X : Type 0} {cmp : K → K → Ordering} (o : IsTotalOrder cmp) where
   pub ordered_insert : (es : List (K × X)) (k : K) (v : X) → IsOrdered cmp es → IsOrdered cmp (insert_entry cmp es k v)
   unfolding IsStrictlySortedBy
@@ -47,30 +56,14 @@ module _ {K X : Type 0} {cmp : K → K → Ordering} (o : IsTotalOrder cmp) wher
       by Greater p rest = (all_insert cmp (λ b. cmp e.0 b ≡ Less) es k v h.0 (o.antisymm e.0 k ∙ ap ordering_reverse p), rest)
 
   pub lookup_insert : (es : List (K × X)) (k : K) (v : X) (q : K) → lookup (is_at (cmp q)) (insert_entry cmp es k v) ≡ cond (is_at (cmp k) q) (Some v) (lookup (is_at (cmp q)) es)
-  lookup_insert [] k v q = ap (λ b. cond b (Some v) None) (swap q k)
-    where
-      swap : (a b : K) → is_eq (cmp a b) ≡ is_eq (cmp b a)
-      swap a b = ap is_eq (o.antisymm a b) ∙ reversed (cmp b a)
-        where
-          reversed : (r : Ordering) → is_eq (ordering_reverse r) ≡ is_eq r
-          reversed Less = refl
-          reversed Equal = refl
-          reversed Greater = refl
+  lookup_insert [] k v q = ap (λ b. cond b (Some v) None) (swap o q k)
   lookup_insert (e ∷ es) k v q = by (cmp k e.0) refl (lookup_insert es k v q)
     where
-      swap : (a b : K) → is_eq (cmp a b) ≡ is_eq (cmp b a)
-      swap a b = ap is_eq (o.antisymm a b) ∙ reversed (cmp b a)
-        where
-          reversed : (r : Ordering) → is_eq (ordering_reverse r) ≡ is_eq r
-          reversed Less = refl
-          reversed Equal = refl
-          reversed Greater = refl
-
       same : cmp k e.0 ≡ Equal → is_eq (cmp q e.0) ≡ is_eq (cmp k q)
-      same p = swap q e.0 ∙ ap is_eq (sym (o.congr k e.0 q p))
+      same p = swap o q e.0 ∙ ap is_eq (sym (o.congr k e.0 q p))
 
       apart : is_eq (cmp q e.0) ≡ true → cmp k e.0 ≡ Greater → is_eq (cmp k q) ≡ false
-      apart p g = swap k q ∙ ap is_eq (o.congr q e.0 k (equal (cmp q e.0) p) ∙ (o.antisymm e.0 k ∙ ap ordering_reverse g))
+      apart p g = swap o k q ∙ ap is_eq (o.congr q e.0 k (equal (cmp q e.0) p) ∙ (o.antisymm e.0 k ∙ ap ordering_reverse g))
         where
           equal : (r : Ordering) → is_eq r ≡ true → r ≡ Equal
           equal Less h = absurd cc
@@ -83,7 +76,7 @@ module _ {K X : Type 0} {cmp : K → K → Ordering} (o : IsTotalOrder cmp) wher
 
       by : (r : Ordering) → cmp k e.0 ≡ r → lookup (is_at (cmp q)) (insert_entry cmp es k v) ≡ cond (is_at (cmp k) q) (Some v) (lookup (is_at (cmp q)) es)
           → lookup (is_at (cmp q)) (match_ordering r ((k, v) ∷ e ∷ es) ((e.0, v) ∷ es) (e ∷ insert_entry cmp es k v)) ≡ cond (is_eq (cmp k q)) (Some v) (cond (is_eq (cmp q e.0)) (Some e.1) (lookup (is_at (cmp q)) es))
-      by Less p rest = ap (λ b. cond b (Some v) (lookup (is_at (cmp q)) (e ∷ es))) (swap q k)
+      by Less p rest = ap (λ b. cond b (Some v) (lookup (is_at (cmp q)) (e ∷ es))) (swap o q k)
       by Equal p rest = ap (λ b. cond b (Some v) (lookup (is_at (cmp q)) es)) (same p) ∙ twice (is_eq (cmp k q)) (lookup (is_at (cmp q)) es) ∙ ap (λ b. cond (is_eq (cmp k q)) (Some v) (cond b (Some e.1) (lookup (is_at (cmp q)) es))) (sym (same p))
       by Greater p rest = here (is_eq (cmp q e.0)) refl
         where
