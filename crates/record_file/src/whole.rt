@@ -14,31 +14,6 @@ use std::alloc::{AllocError, Global};
 /// So many bytes are read at once.
 const CHUNK: usize = 1 << 16;
 
-// Reads all bytes of the file, as many at once as the buffer has room for.
-fn read_chunks<D: Disk>(
-    disk: &mut D,
-    chunk: &mut [u8],
-    bytes: &mut Vec<u8>,
-) -> Result<(), LoadFault>
-    requires room { 0 < length chunk.old }
-    requires empty { bytes.old.items ≡ [] }
-    ensures bytes { OnOk result (IfSome (D.seen disk.old) (λ file. bytes.new.items ≡ file)) }
-    ensures seen { D.seen disk.new ≡ D.seen disk.old }
-    ensures crash { (left : List ℕ) → D.may_leave disk.new left → D.may_leave disk.old left }
-    ensures any_moment { LeavesOnly D.moment D.left_since disk.old disk.new (D.may_leave disk.old) }
-    ensures failed { IsErrOf result LoadFault.DiskFault → Rose (D.faults disk.old) (D.faults disk.new) }
-    ensures faults { D.faults disk.old ≤ D.faults disk.new }
-    ensures no_head { IsErrOf result LoadFault.NoHead → ⊥ }
-{
-    'chunks: loop {
-        let count = disk.read(bytes.len() as u64, chunk)?;
-        if count == 0 {
-            return Ok(());
-        }
-        bytes.extend_from_slice(&chunk[..count])?;
-    }
-}
-
 // Room for so many bytes.
 fn buffer(alloc: Global, len: usize) -> Result<Vec<u8>, AllocError>
     ensures { IfOk result (λ bytes. length bytes.items ≡ len) }
@@ -60,8 +35,13 @@ fn read_whole<D: Disk>(alloc: Global, disk: &mut D) -> Result<Vec<u8>, LoadFault
 {
     let mut chunk = buffer(alloc, CHUNK)?;
     let mut bytes = Vec::new(alloc);
-    read_chunks(disk, &mut chunk, &mut bytes)?;
-    Ok(bytes)
+    'chunks: loop {
+        let count = disk.read(bytes.len() as u64, &mut chunk)?;
+        if count == 0 {
+            return Ok(bytes);
+        }
+        bytes.extend_from_slice(&chunk[..count])?;
+    }
 }
 
 // What a file of this site begins with.

@@ -1,12 +1,12 @@
 use Rattle.std.proofs.Common.{refl, sym, subst, arith}
 use Rattle.peer_disk.proofs.Moments.{started, goes_on}
 use Rattle.record_file.proofs.Chunks.{BeginsSo, begins}
-use Rattle.record_file.proofs.whole.read_chunks.Goals as goal
+use Rattle.record_file.proofs.whole.read_whole.Goals as goal
 
 pub chunks-init : goal.chunks-init
 chunks-init g c = record {
-  begun = subst (BeginsSo (g.D.Disk.seen c.args.disk.now)) (sym c.requires.empty) (begins (g.D.Disk.seen c.args.disk.now));
-  room = c.requires.room;
+  begun = subst (BeginsSo (g.D.Disk.seen c.args.disk.now)) (sym c.new-bytes.ensures.items) (begins (g.D.Disk.seen c.args.disk.now));
+  room = omega (arith, c.in_ok-chunk.ensures);
   same = refl;
   crash = λ left may. may;
   moments = started g.D.Disk.moment g.D.Disk.left_since c.args.disk.now (g.D.Disk.may_leave c.args.disk.now) (g.met.D.Disk.only_now c.args.disk.now);
