@@ -25,7 +25,7 @@ use Rattle.line_read.specs.Words.{is_line, words, parts, each_some, are_none}
 use Rattle.line_read.specs.Numbers.{read_number, read_short, read_wide, read_name, one_short, two_shorts, one_wide, one_name, two_names}
 use Rattle.line_read.specs.Pieces.{unescaped_bytes, read_piece}
 use Rattle.line_read.specs.Sets.{read_numbers, read_names, read_listed, read_users, rights_of, read_rights}
-use Rattle.line_read.specs.Operation.{one_name_list, read_extent, read_object, read_auth, read_operation_by, read_operation}
+use Rattle.line_read.specs.Operation.{one_name_list, read_extent, read_object, read_auth, read_rule, read_operation_by, read_operation}
 use Rattle.line_read.specs.Message.{name_and_piece, read_edit, read_request, read_entry, read_message}
 use Rattle.line_read.specs.Step.{place_and_piece, read_local_edit, read_plain, read_step}
 use Rattle.line_read.specs.Laws.{FormedStepLaw}
@@ -148,21 +148,26 @@ auth (place ∷ sign ∷ whom ∷ what ∷ objects ∷ []) =
     (and_from (has_any r) (is_num_list o) (rights what r is_r) (number_list objects o is_o)))))))))
 auth args = none is_operation
 
+-- so is an operation on objects or authorizations, or a validation
+rule : (word : List ℕ) (args : List (List ℕ)) → Passes is_operation (read_rule word args)
+unfolding read_rule
+rule word args =
+    either is_operation _ _ _ (object args)
+    (either is_operation _ _ _ (mapped is_operation DelObj (one_short args) (a_short args))
+    (either is_operation _ _ _ (auth args)
+    (either is_operation _ _ _ (mapped is_operation DelAuth (one_short args) (a_short args))
+    (either is_operation _ _ _ (mapped is_operation Validate (one_name args) (a_name args)) (none is_operation)))))
+
 -- so is an operation, by its first word
 operation_by : (word : List ℕ) (args : List (List ℕ)) → Passes is_operation (read_operation_by word args)
 unfolding read_operation_by
 operation_by word args =
     either is_operation _ _ _ (mapped is_operation AddUser (one_short args) (a_short args))
     (either is_operation _ _ _ (mapped is_operation DelUser (one_short args) (a_short args))
-    (either is_operation _ _ _ (object args)
-    (either is_operation _ _ _ (mapped is_operation DelObj (one_short args) (a_short args))
     (either is_operation _ _ _ (mapped is_operation AddGroup (one_short args) (a_short args))
     (either is_operation _ _ _ (mapped is_operation DelGroup (one_short args) (a_short args))
     (either is_operation _ _ _ (mapped is_operation (λ (pair : ℕ × ℕ). AddMember pair.0 pair.1) (two_shorts args) (shorts args))
-    (either is_operation _ _ _ (mapped is_operation (λ (pair : ℕ × ℕ). DelMember pair.0 pair.1) (two_shorts args) (shorts args))
-    (either is_operation _ _ _ (auth args)
-    (either is_operation _ _ _ (mapped is_operation DelAuth (one_short args) (a_short args))
-    (either is_operation _ _ _ (mapped is_operation Validate (one_name args) (a_name args)) (none is_operation)))))))))))
+    (either is_operation _ _ _ (mapped is_operation (λ (pair : ℕ × ℕ). DelMember pair.0 pair.1) (two_shorts args) (shorts args)) (rule word args))))))
 
 -- OP is in its ranges
 pub operation : (args : List (List ℕ)) → Passes is_operation (read_operation args)

@@ -42,22 +42,28 @@ read_auth (place ∷ sign ∷ users ∷ rights ∷ objects ∷ []) = do
   Some (AddAuth at (record { users = whom; rights = what; objects = where_; grant = grant }))
 read_auth args = None
 
--- an operation by its first word and the others
-unfoldable pub read_operation_by : List ℕ → List (List ℕ) → Option AdminOp
-read_operation_by word args = beside word (
-    (codes "adduser", option_map AddUser (one_short args))
-    ∷ (codes "deluser", option_map DelUser (one_short args))
-    ∷ (codes "addobj", read_object args)
+-- an operation on objects or authorizations, or a validation, by its first word and the others
+unfoldable pub read_rule : List ℕ → List (List ℕ) → Option AdminOp
+read_rule word args = beside word (
+    (codes "addobj", read_object args)
     ∷ (codes "delobj", option_map DelObj (one_short args))
-    ∷ (codes "addgroup", option_map AddGroup (one_short args))
-    ∷ (codes "delgroup", option_map DelGroup (one_short args))
-    ∷ (codes "addmember", option_map (λ pair. AddMember pair.0 pair.1) (two_shorts args))
-    ∷ (codes "delmember", option_map (λ pair. DelMember pair.0 pair.1) (two_shorts args))
     ∷ (codes "addauth", read_auth args)
     ∷ (codes "delauth", option_map DelAuth (one_short args))
     ∷ (codes "validate", option_map Validate (one_name args))
     ∷ [])
     None
+
+-- an operation by its first word and the others: on users, groups or members, or another one
+unfoldable pub read_operation_by : List ℕ → List (List ℕ) → Option AdminOp
+read_operation_by word args = beside word (
+    (codes "adduser", option_map AddUser (one_short args))
+    ∷ (codes "deluser", option_map DelUser (one_short args))
+    ∷ (codes "addgroup", option_map AddGroup (one_short args))
+    ∷ (codes "delgroup", option_map DelGroup (one_short args))
+    ∷ (codes "addmember", option_map (λ pair. AddMember pair.0 pair.1) (two_shorts args))
+    ∷ (codes "delmember", option_map (λ pair. DelMember pair.0 pair.1) (two_shorts args))
+    ∷ [])
+    (read_rule word args)
 
 unfoldable pub read_operation : List (List ℕ) → Option AdminOp
 read_operation (word ∷ args) = read_operation_by word args

@@ -33,18 +33,27 @@ abbrev pub is_alone : List ℕ → List (List ℕ) → Bool
 is_alone word (w ∷ []) = bytes_eq w word
 is_alone word words = false
 
+-- a word, where it is the only one
+abbrev pub lone_word : List (List ℕ) → Option (List ℕ)
+lone_word (a ∷ []) = Some a
+lone_word words = None
+
+-- two words, where there are no others
+abbrev pub both_words : List (List ℕ) → Option (List ℕ × List ℕ)
+both_words (a ∷ b ∷ []) = Some (a, b)
+both_words words = None
+
 -- what is read of one word, where it is the only one
 abbrev pub one_word : {A : Type 0} → (List ℕ → Option A) → List (List ℕ) → Option A
-one_word read (a ∷ []) = read a
-one_word read words = None
+one_word read words = lone_word words >>= read
 
 -- what is read of two words, each in its way, where there are no others
 abbrev pub two_words : {A B : Type 0} → (List ℕ → Option A) → (List ℕ → Option B) → List (List ℕ) → Option (A × B)
-two_words read other (a ∷ b ∷ []) = do
-  x ← read a
-  y ← other b
+two_words read other words = do
+  ws ← both_words words
+  x ← read ws.0
+  y ← other ws.1
   Some (x, y)
-two_words read other words = None
 
 -- the bytes of words that are lent
 abbrev pub bytes_of : List (Bor (List ℕ)) → List (List ℕ)

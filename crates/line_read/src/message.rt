@@ -10,6 +10,7 @@ use crate::fail::without_bad;
 use crate::numbers::{one_name, read_name, read_up_to};
 use crate::operation::operation_of;
 use crate::pieces::read_piece;
+use crate::words::both_words;
 use coop_request::{Edit, Piece, Request};
 use edit_message::Message;
 use element_name::{MAX_VERSION, Name, NoMemory};
@@ -20,12 +21,9 @@ use std::alloc::Global;
 fn name_and_piece(alloc: Global, args: &[&[u8]]) -> Result<(Name, Piece), LineFail>
     ensures { ReadsAs result (name_and_piece (bytes_of args.now)) }
 {
-    let [name, piece] = args else {
-        return Err(LineFail::Bad);
-    };
+    let (name, piece) = both_words(args)?;
     let name = read_name(name).ok_or(LineFail::Bad)?;
-    let piece = read_piece(alloc, piece)?;
-    Ok((name, piece))
+    Ok((name, read_piece(alloc, piece)?))
 }
 
 // The edit of a request, by its first word and the others.

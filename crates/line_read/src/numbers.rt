@@ -5,8 +5,9 @@ ghost use Rattle.std.specs.Char.{is_ascii_digit};
 ghost use Rattle.line_read.specs.Words.{bytes_of};
 ghost use Rattle.line_read.specs.ReadsAs.{ReadsAs};
 ghost use Rattle.line_read.specs.Numbers.{is_numeral, read_number, read_short, read_wide, read_name};
-ghost use Rattle.line_read.specs.Numbers.{one_short, two_shorts, one_wide, one_name, two_names};
+ghost use Rattle.line_read.specs.Numbers.{one_short, two_shorts, one_wide, one_name};
 
+use crate::words::{both_words, lone_word};
 use element_name::{MAX_STAMP, Name};
 use line_spelling::{LineFail, POINT};
 
@@ -109,18 +110,14 @@ pub fn read_name(word: &[u8]) -> Option<Name>
 pub(crate) fn one_short(args: &[&[u8]]) -> Result<u16, LineFail>
     ensures { ReadsAs result (one_short (bytes_of args.now)) }
 {
-    match args {
-        [a] => read_short(a).ok_or(LineFail::Bad),
-        _ => Err(LineFail::Bad),
-    }
+    let word = lone_word(args)?;
+    read_short(word).ok_or(LineFail::Bad)
 }
 
 pub(crate) fn two_shorts(args: &[&[u8]]) -> Result<(u16, u16), LineFail>
     ensures { ReadsAs result (two_shorts (bytes_of args.now)) }
 {
-    let [a, b] = args else {
-        return Err(LineFail::Bad);
-    };
+    let (a, b) = both_words(args)?;
     let m = read_short(a).ok_or(LineFail::Bad)?;
     let n = read_short(b).ok_or(LineFail::Bad)?;
     Ok((m, n))
@@ -129,28 +126,13 @@ pub(crate) fn two_shorts(args: &[&[u8]]) -> Result<(u16, u16), LineFail>
 pub(crate) fn one_wide(args: &[&[u8]]) -> Result<u32, LineFail>
     ensures { ReadsAs result (one_wide (bytes_of args.now)) }
 {
-    match args {
-        [a] => read_wide(a).ok_or(LineFail::Bad),
-        _ => Err(LineFail::Bad),
-    }
+    let word = lone_word(args)?;
+    read_wide(word).ok_or(LineFail::Bad)
 }
 
 pub(crate) fn one_name(args: &[&[u8]]) -> Result<Name, LineFail>
     ensures { ReadsAs result (one_name (bytes_of args.now)) }
 {
-    match args {
-        [a] => read_name(a).ok_or(LineFail::Bad),
-        _ => Err(LineFail::Bad),
-    }
-}
-
-pub(crate) fn two_names(args: &[&[u8]]) -> Result<(Name, Name), LineFail>
-    ensures { ReadsAs result (two_names (bytes_of args.now)) }
-{
-    let [a, b] = args else {
-        return Err(LineFail::Bad);
-    };
-    let m = read_name(a).ok_or(LineFail::Bad)?;
-    let n = read_name(b).ok_or(LineFail::Bad)?;
-    Ok((m, n))
+    let word = lone_word(args)?;
+    read_name(word).ok_or(LineFail::Bad)
 }

@@ -2,12 +2,12 @@
 ghost use Rattle.std.specs.Prelude.{◌≡◌, IfOk};
 ghost use Rattle.line_read.specs.Words.{bytes_of};
 ghost use Rattle.line_read.specs.ReadsAs.{ReadsAs};
-ghost use Rattle.line_read.specs.Operation.{one_name_list, read_extent, read_object, read_auth, read_operation_by, read_operation};
+ghost use Rattle.line_read.specs.Operation.{one_name_list, read_extent, read_object, read_auth, read_rule, read_operation_by, read_operation};
 
 use crate::fail::without_bad;
-use crate::numbers::{one_name, one_short, read_short, two_names, two_shorts};
+use crate::numbers::{one_name, one_short, read_name, read_short, two_shorts};
 use crate::sets::{read_names, read_numbers, read_rights, read_sign, read_users};
-use crate::words::are_none;
+use crate::words::{are_none, both_words, lone_word};
 use element_name::NoMemory;
 use line_spelling::LineFail;
 use policy_book::{AdminOp, Auth, Extent, NameList, SharedAuth};
@@ -16,10 +16,8 @@ use std::alloc::Global;
 fn one_name_list(alloc: Global, args: &[&[u8]]) -> Result<NameList, LineFail>
     ensures { ReadsAs result (one_name_list (bytes_of args.now)) }
 {
-    match args {
-        [a] => read_names(alloc, a),
-        _ => Err(LineFail::Bad),
-    }
+    let word = lone_word(args)?;
+    read_names(alloc, word)
 }
 
 // The extent of an object, by its first word and the others.
@@ -35,7 +33,9 @@ fn read_extent(alloc: Global, word: &[u8], args: &[&[u8]]) -> Result<Extent, Lin
         };
     }
     if word == b"span".as_slice() {
-        let (first, last) = two_names(args)?;
+        let (first, last) = both_words(args)?;
+        let first = read_name(first).ok_or(LineFail::Bad)?;
+        let last = read_name(last).ok_or(LineFail::Bad)?;
         return Ok(Extent::Span(first, last));
     }
     if word == b"elems".as_slice() {
@@ -79,13 +79,34 @@ fn read_auth(alloc: Global, args: &[&[u8]]) -> Result<AdminOp, LineFail>
         objects,
         grant,
     };
-    match SharedAuth::new(alloc, auth) {
-        Ok(auth) => Ok(AdminOp::AddAuth(place, auth)),
-        Err(NoMemory) => Err(LineFail::NoMemory),
-    }
+    let auth = SharedAuth::new(alloc, auth).or(Err(LineFail::NoMemory))?;
+    Ok(AdminOp::AddAuth(place, auth))
 }
 
-// An operation by its first word and the others.
+// An operation on objects or authorizations, or a validation, by its first word and the others.
+#[tactic(auto, unfolding(crate::specs::Operation::read_rule))]
+fn read_rule(alloc: Global, word: &[u8], args: &[&[u8]]) -> Result<AdminOp, LineFail>
+    ensures { ReadsAs result (read_rule word.now (bytes_of args.now)) }
+{
+    if word == b"addobj".as_slice() {
+        return read_object(alloc, args);
+    }
+    if word == b"delobj".as_slice() {
+        return Ok(AdminOp::DelObj(one_short(args)?));
+    }
+    if word == b"addauth".as_slice() {
+        return read_auth(alloc, args);
+    }
+    if word == b"delauth".as_slice() {
+        return Ok(AdminOp::DelAuth(one_short(args)?));
+    }
+    if word == b"validate".as_slice() {
+        return Ok(AdminOp::Validate(one_name(args)?));
+    }
+    Err(LineFail::Bad)
+}
+
+// An operation by its first word and the others: on users, groups or members, or another one.
 #[tactic(auto, unfolding(crate::specs::Operation::read_operation_by))]
 fn read_operation_by(alloc: Global, word: &[u8], args: &[&[u8]]) -> Result<AdminOp, LineFail>
     ensures { ReadsAs result (read_operation_by word.now (bytes_of args.now)) }
@@ -95,12 +116,6 @@ fn read_operation_by(alloc: Global, word: &[u8], args: &[&[u8]]) -> Result<Admin
     }
     if word == b"deluser".as_slice() {
         return Ok(AdminOp::DelUser(one_short(args)?));
-    }
-    if word == b"addobj".as_slice() {
-        return read_object(alloc, args);
-    }
-    if word == b"delobj".as_slice() {
-        return Ok(AdminOp::DelObj(one_short(args)?));
     }
     if word == b"addgroup".as_slice() {
         return Ok(AdminOp::AddGroup(one_short(args)?));
@@ -116,16 +131,7 @@ fn read_operation_by(alloc: Global, word: &[u8], args: &[&[u8]]) -> Result<Admin
         let (group, user) = two_shorts(args)?;
         return Ok(AdminOp::DelMember { group, user });
     }
-    if word == b"addauth".as_slice() {
-        return read_auth(alloc, args);
-    }
-    if word == b"delauth".as_slice() {
-        return Ok(AdminOp::DelAuth(one_short(args)?));
-    }
-    if word == b"validate".as_slice() {
-        return Ok(AdminOp::Validate(one_name(args)?));
-    }
-    Err(LineFail::Bad)
+    read_rule(alloc, word, args)
 }
 
 /// The operation that the words spell.

@@ -9,7 +9,7 @@ use crate::message::message_of;
 use crate::numbers::{one_wide, read_wide};
 use crate::operation::operation_of;
 use crate::pieces::read_piece;
-use crate::words::{are_none, is_line, parts};
+use crate::words::{are_none, both_words, is_line, parts};
 use coop_request::Piece;
 use element_name::NoMemory;
 use line_spelling::{LineFail, SPACE};
@@ -19,12 +19,9 @@ use std::alloc::Global;
 fn place_and_piece(alloc: Global, args: &[&[u8]]) -> Result<(u32, Piece), LineFail>
     ensures { ReadsAs result (place_and_piece (bytes_of args.now)) }
 {
-    let [place, piece] = args else {
-        return Err(LineFail::Bad);
-    };
+    let (place, piece) = both_words(args)?;
     let place = read_wide(place).ok_or(LineFail::Bad)?;
-    let piece = read_piece(alloc, piece)?;
-    Ok((place, piece))
+    Ok((place, read_piece(alloc, piece)?))
 }
 
 // The edit at a place that the words spell.

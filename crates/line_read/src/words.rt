@@ -1,12 +1,12 @@
 //! Lines and their words.
-ghost use Rattle.std.specs.Prelude.{◌≡◌, ◌==◌, IfOk};
+ghost use Rattle.std.specs.Prelude.{◌≡◌, ◌==◌, Some, None, IfOk, IfErr};
 ghost use Rattle.std.specs.List.{list_any};
 ghost use Rattle.std.specs.Str.{is_utf8};
-ghost use Rattle.line_read.specs.Words.{is_line, parts, words, are_none, is_alone, bytes_of};
+ghost use Rattle.line_read.specs.Words.{is_line, parts, words, are_none, lone_word, both_words, is_alone, bytes_of};
 
 use bstr::ByteSlice;
 use element_name::NoMemory;
-use line_spelling::{LINE_END, MAX_LINE, SPACE};
+use line_spelling::{LINE_END, LineFail, MAX_LINE, SPACE};
 use std::alloc::{AllocError, Global};
 
 fn is_text(bytes: &[u8]) -> bool
@@ -50,6 +50,28 @@ pub(crate) fn are_none(words: &[&[u8]]) -> bool
     ensures { result ≡ are_none (bytes_of words.now) }
 {
     words.is_empty()
+}
+
+/// The word, where it is the only one.
+pub(crate) fn lone_word<'a>(words: &[&'a [u8]]) -> Result<&'a [u8], LineFail>
+    ensures ok { IfOk result (λ word. lone_word (bytes_of words.now) ≡ Some word.now) }
+    ensures bad { IfErr result (λ fail. (fail ≡ LineFail.Bad) × (lone_word (bytes_of words.now) ≡ None)) }
+{
+    match words {
+        [word] => Ok(*word),
+        _ => Err(LineFail::Bad),
+    }
+}
+
+/// The two words, where there are no others.
+pub(crate) fn both_words<'a>(words: &[&'a [u8]]) -> Result<(&'a [u8], &'a [u8]), LineFail>
+    ensures ok { IfOk result (λ both. both_words (bytes_of words.now) ≡ Some (both.0.now, both.1.now)) }
+    ensures bad { IfErr result (λ fail. (fail ≡ LineFail.Bad) × (both_words (bytes_of words.now) ≡ None)) }
+{
+    match words {
+        [first, second] => Ok((*first, *second)),
+        _ => Err(LineFail::Bad),
+    }
 }
 
 /// Whether there is one word, and this one.

@@ -19,7 +19,7 @@ use Rattle.line_read.specs.Operation.{read_operation}
 use Rattle.line_read.specs.Step.{read_local_edit}
 use Rattle.script_text.specs.Peers.{read_count, read_peer, one_peer}
 use Rattle.script_text.specs.Line.{read_own, read_local, read_give, read_hand, read_look, read_state, read_later, one_count, read_first}
-use Rattle.line_read.proofs.Passing.{Passes, none, some, where_, tested, either, first, then, mapped, alone}
+use Rattle.line_read.proofs.Passing.{Passes, none, some, where_, tested, either, first, then, mapped}
 use Rattle.line_read.proofs.FormedSteps.{number_low, operation, message, local_edit}
 
 -- ---- peers and their own steps
@@ -30,7 +30,8 @@ peer peers word = tested (λ p. nat_lt p peers) (read_wide word)
 
 -- one argument, a peer
 a_peer : (peers : ℕ) (args : List (List ℕ)) → Passes (λ p. nat_lt p peers) (one_peer peers args)
-a_peer peers = alone (λ p. nat_lt p peers) (read_peer peers) (peer peers)
+a_peer peers (word ∷ []) = peer peers word
+a_peer peers args = none (λ p. nat_lt p peers)
 
 -- a step that takes no message, and is well formed
 abbrev is_own : Step → Bool
@@ -119,10 +120,15 @@ count word =
     then is_count (read_number MAX_PEERS word) _ (λ n read. where_ is_count (nat_lt 0 n) n
     (λ above. and_from (nat_lt 0 n) (nat_le n MAX_PEERS) above (number_low MAX_PEERS word n read)))
 
+-- one argument, a number of peers
+a_count : (args : List (List ℕ)) → Passes is_count (one_count args)
+a_count (word ∷ []) = count word
+a_count args = none is_count
+
 -- the first line opens a world
 pub read_first-first : (args : List (List ℕ)) → Passes is_opening (read_first args)
 read_first-first [] = none is_opening
-read_first-first (word ∷ args) = either is_opening _ _ _ (mapped is_opening Peers (one_count args) (alone is_count (read_count MAX_PEERS) count args)) (none is_opening)
+read_first-first (word ∷ args) = either is_opening _ _ _ (mapped is_opening Peers (one_count args) (a_count args)) (none is_opening)
 
 -- a line that opens a world is well formed
 opening-formed : (line : Line) → is_opening line ≡ true → is_formed_line line ≡ true

@@ -1,7 +1,7 @@
 //! Elements that come in.
-ghost use Rattle.std.specs.Prelude.{◌≡◌, ◌<◌, ◌+◌, ◌^◌, [], ◌∷◌, OnOk, OnErr, false, length, insert};
+ghost use Rattle.std.specs.Prelude.{◌≡◌, ◌<◌, ◌+◌, ◌^◌, [], ◌∷◌, OnOk, OnErr, false, length};
 ghost use Rattle.element_name.specs.Name.{start, has_name, name_eq};
-ghost use Rattle.tomb_seq.specs.Runs.{IsSpot, slots_of, slots_at, place_of};
+ghost use Rattle.tomb_seq.specs.Runs.{IsSpot, slots_of, slots_at, slots_with};
 ghost use Rattle.tomb_seq.specs.Slots.{names_in};
 
 use super::Blocks;
@@ -42,8 +42,7 @@ impl Blocks {
         requires new { has_name (names_in (slots_of self.old)) name ≡ false }
         requires element { name_eq name start ≡ false }
         requires count { length (slots_of self.old) + 1 < 2 ^ 64 }
-        ensures ok { OnOk result (slots_of self.new
-            ≡ insert (slots_of self.old) (place_of self.old spot) (record { name = name; shows = false })) }
+        ensures ok { OnOk result (slots_of self.new ≡ slots_with self.old spot name) }
         ensures err { OnErr result (self.new ≡ self.old) }
     {
         let block = &mut self.list[spot.rank];
@@ -62,8 +61,7 @@ impl Blocks {
         requires new { has_name (names_in (slots_of self.old)) name ≡ false }
         requires element { name_eq name start ≡ false }
         requires count { length (slots_of self.old) + 1 < 2 ^ 64 }
-        ensures ok { OnOk result (slots_of self.new
-            ≡ insert (slots_of self.old) (place_of self.old spot) (record { name = name; shows = false })) }
+        ensures ok { OnOk result (slots_of self.new ≡ slots_with self.old spot name) }
         ensures err { OnErr result (self.new ≡ self.old) }
     {
         let id = self.ranks.len();
@@ -89,8 +87,7 @@ impl Blocks {
         requires spot { IsSpot self.old spot }
         requires new { has_name (names_in (slots_of self.old)) name ≡ false }
         requires element { name_eq name start ≡ false }
-        ensures ok { OnOk result (slots_of self.new
-            ≡ insert (slots_of self.old) (place_of self.old spot) (record { name = name; shows = false })) }
+        ensures ok { OnOk result (slots_of self.new ≡ slots_with self.old spot name) }
         ensures err { OnErr result (self.new ≡ self.old) }
     {
         if self.len == usize::MAX {
