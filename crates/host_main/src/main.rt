@@ -15,6 +15,7 @@ use host_people::BookFault;
 use host_socket::{Limits, WrongKeys};
 use log::sink::Console;
 use setting::{Setting, Task, task_of};
+use std::net::{SocketAddr, TcpListener};
 use std::sync::Wait;
 use std::{env, fs};
 
@@ -154,8 +155,19 @@ fn serve_greeted(
     }
 }
 
+// Listens once, so that a house isn't made for a host that can't serve it.
+fn try_listening(rt: &HostRuntime, address: SocketAddr) -> Result<()> {
+    match TcpListener::bind(rt, address) {
+        Ok(_) => Ok(()),
+        Err(error) => Err(anyhow!(
+            "a host can't listen at {address} ({error}); --port names another port"
+        )),
+    }
+}
+
 // Serves, until the system fails.
 fn serve(rt: &HostRuntime, wait: &impl Wait, set: &Setting) -> Result<()> {
+    try_listening(rt, set.listen)?;
     let front = Front {
         pages: Pages::load(rt, set.web.as_str())?,
         routes: routes(rt)?,
