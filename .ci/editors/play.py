@@ -276,6 +276,25 @@ def play_rights(stage):
     wait_for("the right comes back", lambda: "Ann may not" not in stage.editor.who())
     stage.editor.write_at_end("allowed")
     stage.meet("first\nsecond\nallowed")
+    play_groups(stage)
+
+
+def play_groups(stage):
+    """A rule about a group is for whom it has a device of, as long as it has; one about an object that is gone is for no place."""
+    (site,) = [line.split(" ")[1] for line in stage.team.order("keys") if line.startswith("device ") and line.split(" ")[2] == stage.ann]
+    whole, part = "Ann (writer, which is you, is here) may write", "Ann (writer, which is you, is here) may add words and delete"
+    for operations, may in (
+        (("addgroup 900", "addauth 0 - @900 u 0"), whole),
+        ((f"addmember 900 {site}",), part),
+        ((f"delmember 900 {site}",), whole),
+        ((f"addmember 900 {site}", "addobj 7 all", "delauth 0", "addauth 0 - @900 u 7"), part),
+        (("delobj 7",), whole),
+        (("addobj 7 all",), part),
+        (("delgroup 900",), whole),
+        (("delauth 0",), whole),
+    ):
+        stage.team.order(*(f"admin {it}" for it in operations))
+        wait_for(f"what Ann may do behind {operations}", lambda: may in stage.editor.who())
 
 
 # The right goes first: later it would undo all that Ann wrote until then.

@@ -81,7 +81,8 @@
   (version 0)
   (entries (make-hash-table))  ; (KIND WORDS ..), by version
   (was (make-hash-table))      ; the rule that an entry took away, by version
-  (objects (list (cons "0" '("all"))))
+  (objects (list (cons "0" '("all"))))  ; the words of each object's extent: (OBJECT KIND WORDS ..)
+  (groups nil)                 ; the users of each group: (GROUP USER ..)
   (list nil))                  ; the words of the rules: (PLACE SIGN USERS RIGHTS OBJECTS)
 
 (defvar-local roastcliff--document nil "The document of this buffer.")
@@ -576,6 +577,15 @@ and comes again."
     (puthash version (nth place list) (roastcliff--rules-was rules))
     (setf (roastcliff--rules-list rules) (append (seq-take list place) (seq-drop list (1+ place))))))
 
+(defun roastcliff--add-member (rules group user)
+  "Put USER into GROUP of RULES."
+  (push user (alist-get group (roastcliff--rules-groups rules) nil nil #'equal)))
+
+(defun roastcliff--delete-member (rules group user)
+  "Take USER out of GROUP of RULES."
+  (let ((users (alist-get group (roastcliff--rules-groups rules) nil nil #'equal)))
+    (setf (alist-get group (roastcliff--rules-groups rules) nil nil #'equal) (remove user users))))
+
 (defun roastcliff--take-entry (rules words)
   "Take an entry into RULES, which comes once or again, as WORDS: VERSION OP."
   (pcase-let* ((`(,number . ,op) words) (version (string-to-number number)))
@@ -585,7 +595,11 @@ and comes again."
       (pcase op
         (`("addauth" . ,rule) (roastcliff--insert-rule rules (string-to-number (car rule)) rule))
         (`("delauth" ,place) (roastcliff--delete-rule rules (string-to-number place) version))
-        (`("addobj" ,object . ,extent) (setf (alist-get object (roastcliff--rules-objects rules) nil nil #'equal) extent))))))
+        (`("addobj" ,object . ,extent) (setf (alist-get object (roastcliff--rules-objects rules) nil nil #'equal) extent))
+        (`("delobj" ,object) (setf (alist-get object (roastcliff--rules-objects rules) nil t #'equal) nil))
+        ((or `("addgroup" ,group) `("delgroup" ,group)) (setf (alist-get group (roastcliff--rules-groups rules) nil t #'equal) nil))
+        (`("addmember" ,group ,user) (roastcliff--add-member rules group user))
+        (`("delmember" ,group ,user) (roastcliff--delete-member rules group user))))))
 
 (defun roastcliff--person (document person)
   "What PERSON is called, by number, in DOCUMENT."
@@ -692,18 +706,34 @@ With a prefix argument, FORGET it: the marks go."
   "The document of this buffer."
   (or roastcliff--document (user-error "This buffer is no document of a host")))
 
+(defun roastcliff--has-device (document person users)
+  "Whether PERSON of DOCUMENT has a device among USERS of its rules."
+  (cl-some (lambda (it) (eql person (alist-get (string-to-number it) (roastcliff--document-devices document)))) users))
+
+(defun roastcliff--is-in (document person group)
+  "Whether PERSON is in GROUP of the rules of DOCUMENT.
+It is his own, or a device of his is a member."
+  (let ((groups (roastcliff--rules-groups (roastcliff--document-rules document))))
+    (or (eql person (string-to-number group))
+        (roastcliff--has-device document person (alist-get group groups nil nil #'equal)))))
+
 (defun roastcliff--is-for (document person word)
   "Whether the users WORD of a rule of DOCUMENT are PERSON or have a device of his."
-  (let ((numbers (mapcar #'string-to-number (split-string (string-remove-prefix "@" word) ","))))
+  (let ((names (split-string (string-remove-prefix "@" word) ",")))
     (cond ((equal word "all") t)
-          ((string-prefix-p "@" word) (memq person numbers))
-          (t (cl-some (lambda (it) (eql person (alist-get it (roastcliff--document-devices document)))) numbers)))))
+          ((string-prefix-p "@" word) (cl-some (lambda (it) (roastcliff--is-in document person it)) names))
+          (t (roastcliff--has-device document person names)))))
+
+(defun roastcliff--is-everywhere (document objects)
+  "Whether one of the OBJECTS of a rule of DOCUMENT is the whole text."
+  (let ((all (roastcliff--rules-objects (roastcliff--document-rules document))))
+    (cl-some (lambda (it) (equal (alist-get it all nil nil #'equal) '("all"))) (split-string objects ","))))
 
 (defun roastcliff--may (document person right)
   "Whether PERSON has a RIGHT everywhere in DOCUMENT.
 The first rule says it that is for him."
   (cl-loop for (_ sign users rights objects) in (roastcliff--rules-list (roastcliff--document-rules document))
-           when (and (cl-find right rights) (member "0" (split-string objects ",")) (roastcliff--is-for document person users))
+           when (and (cl-find right rights) (roastcliff--is-everywhere document objects) (roastcliff--is-for document person users))
            return (equal sign "+")))
 
 (defun roastcliff--may-words (document person)
@@ -902,7 +932,7 @@ PLACE is the address without its secret."
   "Open the document at ADDRESS, as http://HOST:PORT/d/DOCUMENT/#SECRET, in a buffer."
   (interactive "sAddress: ")
   (unless (string-match "\\`http://\\([^/#]+\\(?:/[^#]*\\)?/d/[a-z0-9-]+\\)/?\\(?:#.*\\)?\\'" address)
-    (user-error "An address is http://HOST:PORT/d/DOCUMENT/#SECRET"))
+    (user-error "An address is http://HOST:PORT/d/DOCUMENT/#SECRET: put d/DOCUMENT/ in front of an invitation's #"))
   (let ((place (match-string 1 address)))
     (pop-to-buffer-same-window (get-buffer-create (format "*roastcliff %s*" place)))
     (unless (and roastcliff--document (process-live-p (roastcliff--document-process roastcliff--document)))

@@ -884,13 +884,36 @@ function! s:here() abort
   throw 'roastcliff: this buffer is no document'
 endfunction
 
+" Whether somebody has a device among users of the rules.
+function! s:has_device(document, person, users) abort
+  return !empty(filter(copy(a:users), 'get(a:document.devices, v:val) == a:person'))
+endfunction
+
+" Whether somebody is in a group of the rules: it is his own, or a device of his is a member.
+function! s:is_in(document, person, group) abort
+  return a:group == a:person || s:has_device(a:document, a:person, get(a:document.rules.groups, a:group, []))
+endfunction
+
+" Whether the users of a rule are a person, or have a device of his.
+function! s:is_for(document, person, word) abort
+  if a:word ==# 'all'
+    return 1
+  elseif a:word[0] ==# '@'
+    return !empty(filter(split(a:word[1:], ','), 's:is_in(a:document, a:person, v:val)'))
+  endif
+  return s:has_device(a:document, a:person, split(a:word, ','))
+endfunction
+
+" Whether one of the objects of a rule is the whole text.
+function! s:is_everywhere(document, objects) abort
+  return !empty(filter(split(a:objects, ','), 'get(a:document.rules.objects, v:val, [""])[0] ==# "all"'))
+endfunction
+
 " Whether somebody may do something everywhere: what the first rule says that is for him.
 function! s:may(document, person, right) abort
   for entry in a:document.rules.list
     let [_, sign, users, rights, objects] = entry.words
-    let numbers = split(substitute(users, '@', '', ''), ',')
-    let is_for = users ==# 'all' || (users[0] ==# '@' ? index(numbers, a:person) >= 0 : !empty(filter(numbers, 'get(a:document.devices, v:val) == a:person')))
-    if is_for && stridx(rights, a:right) >= 0 && index(split(objects, ','), '0') >= 0
+    if stridx(rights, a:right) >= 0 && s:is_everywhere(a:document, objects) && s:is_for(a:document, a:person, users)
       return sign ==# '+'
     endif
   endfor
@@ -1122,7 +1145,7 @@ endfunction
 function! s:open(address) abort
   let place = matchstr(a:address, '\v^http\zs://[^/#]+(/[^#]*)?/d/[a-z0-9-]+\ze/?(#.*)?$')
   if empty(place)
-    return s:tell('an address is http://HOST:PORT/d/DOCUMENT/#SECRET')
+    return s:tell('an address is http://HOST:PORT/d/DOCUMENT/#SECRET: put d/DOCUMENT/ in front of an invitation''s #')
   endif
   let s:addresses[place] = a:address
   execute 'edit' fnameescape('roastcliff' . place)
