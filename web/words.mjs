@@ -395,12 +395,10 @@ export const STUCK = 'Your last edit cannot be taken back: somebody changed or d
 
 // ---- powers
 
-const POWERS = { i: 'write', d: 'delete', u: 'change' };
-
 /** @param {string[]} powers */
 function powersWords(powers) {
   if (powers.length === 3) return 'may write';
-  return powers.length ? `may ${listed(powers.map((it) => POWERS[it]))}` : 'may only read';
+  return powers.length ? `may ${listed(powers.map((it) => DEEDS[it]))}` : 'may only read';
 }
 
 /**
@@ -411,7 +409,7 @@ function powersWords(powers) {
  * @param {Policy} policy
  */
 export function powers(allows, policy) {
-  const powersIn = (covers) => Object.keys(POWERS).filter((right) => allows(right, covers));
+  const powersIn = (covers) => Object.keys(DEEDS).filter((right) => allows(right, covers));
   const inAll = powersIn(({ kind }) => kind === 'all');
   const parts = [...policy.objects].filter(([, { kind }]) => kind === 'span');
   const told = parts.flatMap(([number, extent]) => {

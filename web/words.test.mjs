@@ -54,12 +54,13 @@ test('rules', () => {
 });
 
 test('powers', () => {
-  const policy = made('addauth 0 + all idu 0', 'addobj 1 span 1.2 3.2', 'addauth 0 - all idu 1', 'addauth 0 + @1 idu 1', 'addauth 2 - @3 d 0');
+  const policy = made('addauth 0 + all idu 0', 'addobj 1 span 1.2 3.2', 'addauth 0 - all idu 1', 'addauth 0 + @1 idu 1', 'addauth 2 - @3 d 0', 'addauth 0 - @4 du 0');
   policy.named.get(1).said = 'Tea';
   const of = (group) => known(() => words.powers((right, covers) => policy.allowsGroup(group, right, covers), policy));
   assert.equal(of(1), 'may write');
   assert.equal(of(2), 'may write, but in the paragraph “Tea” only read');
-  assert.equal(of(3), 'may write and change, but in the paragraph “Tea” only read');
+  assert.equal(of(3), 'may add words and change words, but in the paragraph “Tea” only read');
+  assert.equal(of(4), 'may add words, but in the paragraph “Tea” only read');
 });
 
 test('how the rules came', () => {
