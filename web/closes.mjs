@@ -34,7 +34,7 @@ const CLOSES = {
   4019: { words: 'Somebody was given another role, so the page is linked anew.', then: 'now' },
   4020: { words: 'The host refuses what this page sends, since its count of edits ran ahead. Copy your words, and ask an owner for a new invitation.', then: 'read' },
   4021: { words: 'The host lacks something that stands in front of what this page sends. It is linked again.', then: 'again' },
-  4022: { words: 'Too many of your edits were denied, so the host takes no more of them today. You can read on.', then: 'read' },
+  4022: { words: 'Too many of your edits were denied, so the host takes no more of them until it opens this document anew. You can read on.', then: 'read' },
   4023: { words: 'This document is nearly full, and what room is left is for its owners. You can read on.', then: 'read' },
 };
 
