@@ -41,8 +41,8 @@ function option(name) {
 
 // A person's page.
 class Sheet {
-  static async open(world, address, size = DESK) {
-    const profile = await world.browser.profile();
+  static async open(world, address, size = DESK, known = null) {
+    const profile = known ?? (await world.browser.profile());
     await world.browser.call('Browser.grantPermissions', { permissions: ['clipboardReadWrite', 'clipboardSanitizedWrite'], browserContextId: profile });
     const sheet = new Sheet();
     sheet.world = world;
@@ -206,6 +206,19 @@ const tries = {
     world.address = address;
     await ada.says('people', /Bea Okafor · here now/);
     await ada.value(`document.getElementById('invited').hidden = true, null`);
+  },
+
+  // Who opens somebody else's invitation goes on as before, and is told what is lost by using it.
+  async an_invitation_of_somebody_else(world) {
+    const { ada, bea, address } = world;
+    await ada.close();
+    world.ada = await Sheet.open(world, address.replace('/#', '/d/fair/#'), DESK, ada.profile);
+    await world.ada.holds('the invitation is offered', `!document.getElementById('invited-here').hidden`);
+    await world.ada.says('invited-words', /^You are Ada Lund in this browser\. .* without a new invitation, from another owner or from whoever runs the server\.$/);
+    await world.ada.says('leave-invitation', /^Go on as Ada Lund$/);
+    await world.ada.click('#leave-invitation');
+    await world.ada.says('people', /Ada Lund · you/);
+    await bea.says('people', /Ada Lund · here now/);
   },
 
   async both_write(world) {

@@ -68,7 +68,8 @@ async function deviceFor({ base, document, secret }) {
 }
 
 /**
- * A browser that takes part already goes on as before, unless the person wants to be another device.
+ * A browser that takes part already goes on as before. An invitation would make it somebody else's device, or another one of its person, and
+ * what it was is gone then: that is told first.
  *
  * @param {() => Promise<unknown>} use
  */

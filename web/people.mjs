@@ -5,7 +5,7 @@ import { button, hide, made, of, say, staying } from './elements.mjs';
 import { Leaving } from './leaving.mjs';
 import { NotDone } from './orders.mjs';
 import { ask, askWords } from './question.mjs';
-import { invited, notDone, powersTold, role as roleWords, whereabouts } from './told.mjs';
+import { invited, notDone, powersTold, replacing, role as roleWords, whereabouts } from './told.mjs';
 import * as words from './words.mjs';
 
 /** @typedef {import('./protocol.mjs').Person} Person */
@@ -74,9 +74,19 @@ export class People {
     if (said === this.said) return;
     this.said = said;
     hide('new-person', !isOwner);
+    this.tellSelf();
     const people = [...directory.people.values()].sort((a, b) => a.person - b.person);
     of('here').replaceChildren(...people.filter(({ person }) => present.has(person)).map(hereItem));
     staying('people', () => of('people').replaceChildren(...people.map((it) => this.item(it, this.stateOf(it, present)))));
+  }
+
+  // Who somebody is here, where another person's invitation was opened.
+  tellSelf() {
+    const self = directory.people.get(this.own ?? 0);
+    if (!self) return;
+    const name = words.isolated(self.name);
+    say('invited-words', replacing(name, this.isOwner));
+    say('leave-invitation', `Go on as ${name}`);
   }
 
   /**

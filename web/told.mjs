@@ -85,6 +85,18 @@ export function invited(name, mayWrite) {
 
 /** @type {Record<string, string>} */
 const STATES = {
+/**
+ * What using an invitation changes in a browser by which somebody takes part already.
+ *
+ * @param {string} name of who does
+ * @param {boolean} isOwner whether that person is an owner
+ */
+export function replacing(name, isOwner) {
+  const who = `You are ${name} in this browser. If you use the invitation that you opened, you are whom it was made for here from then on`;
+  const back = `and cannot come back as ${name} without a new invitation`;
+  return isOwner ? `${who}, ${back}, from another owner or from whoever runs the server.` : `${who}, ${back}.`;
+}
+
   open: '',
   closed: '',
   damaged: 'its file is damaged',

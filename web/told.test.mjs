@@ -1,6 +1,6 @@
 import assert from 'node:assert/strict';
 import test from 'node:test';
-import { documentName, documentState, found, invited, notDone, notOpened, powersTold, standing, whereabouts } from './told.mjs';
+import { documentName, documentState, found, invited, notDone, notOpened, powersTold, replacing, standing, whereabouts } from './told.mjs';
 
 test('where a page stands', () => {
   const linked = { isWelcome: true, isCaughtUp: true, unsaved: 0, isHeldBack: false, words: '', isOver: false };
@@ -31,6 +31,8 @@ test('people', () => {
   assert.match(powersTold('may write', 'removed'), /^Cannot come in without a new invitation\. By the rules: may write\.$/);
   assert.equal(invited('Cy', true), 'There is an invitation for Cy. Its address is below the list of people.');
   assert.match(invited('Cy', false), /let Cy only read here, until you press “Allow writing”\.$/);
+  assert.match(replacing('Cy', false), /^You are Cy in this browser\. .* and cannot come back as Cy without a new invitation\.$/);
+  assert.match(replacing('Cy', true), /without a new invitation, from another owner or from whoever runs the server\.$/);
 });
 
 test('documents', () => {
