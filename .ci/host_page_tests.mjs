@@ -386,6 +386,19 @@ const tries = {
     await ada.picture('after-a-rule-small', () => ada.goTo(START.length));
   },
 
+  // What an owner can't do apart is told before anything is asked.
+  async an_owner_who_is_offline(world) {
+    const { ada } = world;
+    await ada.offline();
+    for (const it of ['Rename Bea Okafor', 'Allow writing: Bea Okafor', 'Remove Bea Okafor', 'Invite again: Bea Okafor']) {
+      await ada.value(`document.getElementById('status').textContent = '', null`);
+      await ada.press('people', it);
+      await ada.says('status', /^You are offline\. People, documents and rules can be changed only while /);
+      assert.ok(await ada.value(`![...document.querySelectorAll('dialog')].some((it) => it.open)`), it);
+    }
+    await ada.online();
+  },
+
   // A right is given back, and taken again so that what was written stays: it is confirmed first.
   async what_was_written_is_kept(world) {
     const { ada, bea } = world;

@@ -9,10 +9,12 @@ import { documentName, documentState } from './told.mjs';
 export class Documents {
   /**
    * @param {string} base
-   * @param {(line: string) => Promise<string[] | null>} order
+   * @param {import('./orders.mjs').Orders} orders
+   * @param {(line: string) => Promise<string[] | null>} order gives the lines of the answer, or null and says why
    */
-  constructor(base, order) {
+  constructor(base, orders, order) {
     this.base = base;
+    this.orders = orders;
     this.order = order;
     /** @type {DocumentLine[]} */
     this.all = [];
@@ -88,7 +90,7 @@ export class Documents {
 
   /** @param {string} name */
   async rename(name) {
-    const to = documentName(await askWords(`Name of ${name}`, name, 'Rename'));
+    const to = documentName(await askWords(this.orders, `Name of ${name}`, name, 'Rename'));
     if (to && to !== name && (await this.order(`move ${name} ${to}`))) say('status', `${name} is called ${to} now. Who has it open goes there.`);
   }
 
@@ -96,7 +98,7 @@ export class Documents {
   async archive(name) {
     const title = `Put ${name} away?`;
     const undone = 'Nobody can open it any more. Its files stay in the host’s folder, below .archive.';
-    if ((await ask({ title, undone, yes: 'Put it away' })) !== 'yes') return;
+    if ((await ask(this.orders, { title, undone, yes: 'Put it away' })) !== 'yes') return;
     if (await this.order(`archive ${name}`)) say('status', `${name} is put away.`);
   }
 }

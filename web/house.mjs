@@ -26,7 +26,7 @@ export class House {
     });
     this.people = new People(this.line.orders, device.site, () => this.keys.ask());
     this.keys = new Keys(this.line.orders, device.site, (all) => this.people.take(all));
-    this.documents = new Documents(base, (line) => this.people.order(line));
+    this.documents = new Documents(base, this.line.orders, (line) => this.people.order(line));
     for (const it of ['documents', 'side']) hide(it, false);
     document.body.classList.add('is-house');
     for (const it of ['online', 'pageshow']) addEventListener(it, () => this.line.hurry());

@@ -33,7 +33,7 @@ export class Keys {
       this.told(this.all);
       this.show();
     } catch (error) {
-      if (!(error instanceof NotDone) || error.words) this.tell(error);
+      if (!(error instanceof NotDone) || error.isRefusal) this.tell(error);
     }
   }
 
@@ -56,7 +56,7 @@ export class Keys {
    */
   async close(kind, number, what) {
     const undone = kind === 'device' ? 'No edit is undone. What waits in that browser isn’t taken any more.' : 'Devices that it made stay.';
-    if ((await ask({ title: `Close ${what.charAt(0).toLowerCase()}${what.slice(1)}?`, undone, yes: 'Close it' })) !== 'yes') return;
+    if ((await ask(this.orders, { title: `Close ${what.charAt(0).toLowerCase()}${what.slice(1)}?`, undone, yes: 'Close it' })) !== 'yes') return;
     try {
       await this.orders.ask(`close ${kind} ${number}`);
       await this.ask();

@@ -39,7 +39,7 @@ export class Leaving {
     const name = words.group(person);
     const gone = this.rules?.wouldForbid(person) ?? [];
     const stays = gone.length > 0;
-    const answer = await ask({
+    const answer = await ask(this.orders, {
       title: `Remove ${name}?`,
       undone: words.leaving(name, gone),
       more: words.left(name),

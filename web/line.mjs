@@ -51,7 +51,7 @@ export class Line {
     this.timer = undefined;
     /** @type {WebSocket | null} */
     this.socket = null;
-    this.orders = new Orders((text) => this.say(text));
+    this.orders = new Orders((text) => this.say(text), () => this.stands);
     this.connect();
   }
 
@@ -86,14 +86,19 @@ export class Line {
     this.welcomed(welcome);
   }
 
+  // Whether the host has welcomed the line, and it isn't closing.
+  get stands() {
+    return this.isWelcome && this.socket?.readyState === OPEN;
+  }
+
   /**
    * Says a text, if the host has welcomed the line; gives whether it did.
    *
    * @param {string | Uint8Array} text
    */
   say(text) {
-    if (!this.isWelcome || this.socket?.readyState !== OPEN) return false;
-    this.socket.send(text);
+    if (!this.stands) return false;
+    this.socket?.send(text);
     return true;
   }
 

@@ -3,22 +3,38 @@ import { orderText } from './protocol.mjs';
 
 const MOST_LINES = 64; // of a row
 
-/** An order that wasn't done. */
+export const OFFLINE = 'offline';
+
+/** An order that wasn't done, or of which nobody says whether it was. */
 export class NotDone extends Error {
-  /** @param {string} words of the host; empty where the link was cut before its answer came */
+  /** @param {string} words of the host; OFFLINE where there was no link, and empty where that was cut before the answer came */
   constructor(words) {
     super(words);
     this.words = words;
   }
+
+  // Whether the host said so.
+  get isRefusal() {
+    return this.words !== '' && this.words !== OFFLINE;
+  }
 }
 
 export class Orders {
-  /** @param {(text: string) => boolean} send gives whether there is a link */
-  constructor(send) {
+  /**
+   * @param {(text: string) => boolean} send gives whether there is a link
+   * @param {() => boolean} stands tells the same
+   */
+  constructor(send, stands) {
     this.send = send;
+    this.stands = stands;
     this.count = 0;
     /** @type {Map<number, { done: (lines: string[]) => void, failed: (error: Error) => void }>} */
     this.waiting = new Map();
+  }
+
+  // Whether there is a link on which something can be ordered.
+  get isLinked() {
+    return this.stands();
   }
 
   /**
@@ -30,7 +46,7 @@ export class Orders {
   ask(...lines) {
     const number = this.count++;
     return new Promise((done, failed) => {
-      if (!this.send(orderText(number, lines))) return failed(new NotDone(''));
+      if (!this.send(orderText(number, lines))) return failed(new NotDone(OFFLINE));
       this.waiting.set(number, { done, failed });
     });
   }

@@ -1,10 +1,10 @@
 import assert from 'node:assert/strict';
 import test from 'node:test';
-import { NotDone, Orders } from './orders.mjs';
+import { NotDone, OFFLINE, Orders } from './orders.mjs';
 
 test('orders and their answers', async () => {
   const sent = [];
-  const orders = new Orders((text) => sent.push(text) > 0);
+  const orders = new Orders((text) => sent.push(text) > 0, () => true);
   const [first, second] = [orders.ask('admin adduser 1'), orders.ask('keys')];
   assert.deepEqual(sent, ['order 0\nadmin adduser 1', 'order 1\nkeys']);
   orders.hear({ kind: 'answer', number: 1, lines: ['keys'] });
@@ -21,7 +21,7 @@ test('a long row', async () => {
     sent.push(lines.length);
     queueMicrotask(() => orders.hear({ kind: 'answer', number: Number(head.split(' ')[1]), lines }));
     return true;
-  });
+  }, () => true);
   const lines = Array.from({ length: 130 }, (_, i) => `admin validate ${i}.1`);
   assert.deepEqual(await orders.askMany(lines), lines);
   assert.deepEqual(sent, [64, 64, 2]);
@@ -29,9 +29,10 @@ test('a long row', async () => {
 
 test('a link that is cut', async () => {
   let isLinked = true;
-  const orders = new Orders(() => isLinked);
+  const orders = new Orders(() => isLinked, () => isLinked);
   const asked = orders.ask('keys');
   orders.lose();
   isLinked = false;
-  for (const it of [asked, orders.ask('keys')]) await assert.rejects(it, (error) => error instanceof NotDone && error.words === '');
+  assert.ok(!orders.isLinked);
+  for (const [it, words] of [[asked, ''], [orders.ask('keys'), OFFLINE]]) await assert.rejects(it, (error) => error instanceof NotDone && error.words === words && !error.isRefusal);
 });

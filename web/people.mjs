@@ -200,7 +200,7 @@ export class People {
 
   /** @param {Person} it */
   async rename(it) {
-    const name = await askWords(`Name of ${words.isolated(it.name)}`, it.name, 'Rename');
+    const name = await askWords(this.orders, `Name of ${words.isolated(it.name)}`, it.name, 'Rename');
     if (name && name !== it.name) await this.order(`rename ${it.person} ${name}`);
   }
 
@@ -212,7 +212,7 @@ export class People {
     const role = /** @type {Person['role']} */ (list.value);
     const title = `Have ${words.isolated(it.name)} be one who ${roleWords(role)}?`;
     const undone = role === 'reader' ? 'No edit is undone. What waits in that person’s browsers isn’t taken any more.' : 'No edit is undone.';
-    if ((await ask({ title, undone, yes: 'Change it' })) === 'yes') await this.order(`role ${it.person} ${role}`);
+    if ((await ask(this.orders, { title, undone, yes: 'Change it' })) === 'yes') await this.order(`role ${it.person} ${role}`);
     else list.value = it.role;
   }
 }

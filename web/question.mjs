@@ -1,5 +1,18 @@
-// The page's questions: whether rules are to change, and what something is to be called.
+// The page's questions in front of an order: whether rules are to change, and what something is to be called. Where there is no link nothing
+// can be ordered, so that is told, and nothing asked.
 import { hide, of, say } from './elements.mjs';
+import { OFFLINE } from './orders.mjs';
+import { notDone } from './told.mjs';
+
+/**
+ * Whether something can be ordered now; where not, that is told.
+ *
+ * @param {import('./orders.mjs').Orders} orders
+ */
+function canOrder({ isLinked }) {
+  if (!isLinked) say('status', notDone(OFFLINE));
+  return isLinked;
+}
 
 /**
  * Shows a dialog; gives the value of the button by which it was closed, which is '' where it was left.
@@ -16,11 +29,13 @@ async function shown(id) {
 }
 
 /**
- * Asks whether something is to be done, which would undo something; gives `yes`, `keep`, or another word where it isn't.
+ * Asks whether something is to be ordered, which would undo something; gives `yes`, `keep`, or another word where it isn't.
  *
+ * @param {import('./orders.mjs').Orders} orders
  * @param {{ title: string, undone: string, more?: string, yes: string, keep?: string | null }} question
  */
-export function ask({ title, undone, more = '', yes, keep = null }) {
+export async function ask(orders, { title, undone, more = '', yes, keep = null }) {
+  if (!canOrder(orders)) return '';
   say('question-title', title);
   say('question-undone', undone);
   say('question-more', more);
@@ -31,13 +46,15 @@ export function ask({ title, undone, more = '', yes, keep = null }) {
 }
 
 /**
- * Asks for words; gives them, or '' where there are none.
+ * Asks for words of an order; gives them, or '' where there are none.
  *
+ * @param {import('./orders.mjs').Orders} orders
  * @param {string} title
  * @param {string} words that stand there
  * @param {string} yes
  */
-export async function askWords(title, words, yes) {
+export async function askWords(orders, title, words, yes) {
+  if (!canOrder(orders)) return '';
   say('wording-yes', yes);
   const label = document.querySelector('#wording-title label');
   if (label) label.textContent = title;

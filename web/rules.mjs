@@ -70,7 +70,7 @@ export class Rules {
     this.editor.writer.flush();
     const gone = this.copy.wouldUndo(operations);
     const them = gone.length === 1 ? 'it' : 'them';
-    const answer = await ask({
+    const answer = await ask(this.orders, {
       title,
       undone: words.wouldUndo(gone),
       more: gone.length ? words.MEANWHILE : '',

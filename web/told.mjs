@@ -1,4 +1,5 @@
 // What is told of the host and of what it was asked for, in words.
+import { OFFLINE } from './orders.mjs';
 import { capital, counted, edits, fault } from './words.mjs';
 
 /**
@@ -19,7 +20,8 @@ export function standing({ isWelcome, isCaughtUp, unsaved, isHeldBack, words, is
 
 /** @type {Record<string, string>} */
 const REFUSALS = {
-  '': 'There is no link to the host, or it was lost before the answer came. Look whether it was done.',
+  '': 'The link to the host was lost before the answer came. Look whether it was done.',
+  [OFFLINE]: 'You are offline. People, documents and rules can be changed only while this page is linked to the host.',
   'log full': 'The rules of this document were changed as often as they may be.',
   'not an owner': 'Only owners may do this.',
   'nobody of this number': 'There is nobody of this number any more.',
@@ -33,7 +35,7 @@ const REFUSALS = {
 };
 
 /**
- * Why an order wasn't done, by the host's words.
+ * Why an order wasn't done, by the words of NotDone.
  *
  * @param {string} words
  */
@@ -83,8 +85,6 @@ export function invited(name, mayWrite) {
   return `There is an invitation for ${name}. Its address is below the list of people.${more}`;
 }
 
-/** @type {Record<string, string>} */
-const STATES = {
 /**
  * What using an invitation changes in a browser by which somebody takes part already.
  *
@@ -97,6 +97,8 @@ export function replacing(name, isOwner) {
   return isOwner ? `${who}, ${back}, from another owner or from whoever runs the server.` : `${who}, ${back}.`;
 }
 
+/** @type {Record<string, string>} */
+const STATES = {
   open: '',
   closed: '',
   damaged: 'its file is damaged',

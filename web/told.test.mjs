@@ -21,7 +21,8 @@ test('where a page stands', () => {
 test('what the host did not do', () => {
   assert.equal(notDone('illegal 11 line 2'), 'It was not done: this person is in the group already.');
   assert.equal(notDone('not an owner'), 'Only owners may do this.');
-  assert.match(notDone(''), /no link to the host/);
+  assert.match(notDone(''), /Look whether it was done\.$/);
+  assert.match(notDone('offline'), /^You are offline\./);
   assert.match(notDone('toString'), /toString/);
 });
 
@@ -30,9 +31,9 @@ test('people', () => {
   assert.equal(powersTold('may write', 'away'), 'May write.');
   assert.match(powersTold('may write', 'removed'), /^Cannot come in without a new invitation\. By the rules: may write\.$/);
   assert.equal(invited('Cy', true), 'There is an invitation for Cy. Its address is below the list of people.');
-  assert.match(invited('Cy', false), /let Cy only read here, until you press “Allow writing”\.$/);
   assert.match(replacing('Cy', false), /^You are Cy in this browser\. .* and cannot come back as Cy without a new invitation\.$/);
   assert.match(replacing('Cy', true), /without a new invitation, from another owner or from whoever runs the server\.$/);
+  assert.match(invited('Cy', false), /let Cy only read here, until you press “Allow writing”\.$/);
 });
 
 test('documents', () => {
