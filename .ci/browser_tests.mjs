@@ -283,7 +283,7 @@ const tries = {
     await user.append('a');
     await administrator.has('a');
     await administrator.page.value('globalThis.rule = document.querySelector("#rules button"), rule.focus(), validate.click()');
-    await administrator.says('status', /^Version [0-9]+: The edit/);
+    await administrator.says('status', /^Version [0-9]+: An edit of/);
     await administrator.holds('document.activeElement === rule');
     await administrator.page.value('document.querySelector("#rule-form button[value=\'-\']").click()');
     await user.says('rules', /^User 1 may not/);

@@ -323,7 +323,7 @@ const tries = {
     await ada.rename('Bea Okafor', '<b>Bea</b>');
     await bea.says('people', /<b>Bea<\/b> · you/);
     await ada.rename('<b>Bea</b>', TURNING);
-    await ada.says('status', /^The host did not take it\. A name has /);
+    await ada.says('status', /^The server did not take it\. A name has /);
     await ada.rename('<b>Bea</b>', HEBREW);
     await bea.says('people', /דנה <i> · you/);
     await ada.press('people', `Invite again: ${HEBREW}`);
@@ -502,7 +502,7 @@ const tries = {
     const bytes = readFileSync(file);
     writeFileSync(file, Buffer.concat([Buffer.of(bytes[0] ^ 8), bytes.subarray(1)]));
     await host.run();
-    for (const it of [ada, bea]) await it.says('standing', /^The host cannot open this document: its file is damaged\. Tell who hosts it\. Your copy is kept here/);
+    for (const it of [ada, bea]) await it.says('standing', /^The server cannot open this document: its file is damaged\. Tell whoever runs it\. Your copy is kept here/);
     await ada.picture('damaged-at-the-host');
     await host.stop();
     writeFileSync(file, bytes);
@@ -520,7 +520,7 @@ const tries = {
     await sheet.click('#new-document button');
     await sheet.says('document-list', /ubung-2/);
     await sheet.picture('documents');
-    await sheet.press('document-list', 'Put away ubung-2');
+    await sheet.press('document-list', 'Archive ubung-2');
     await sheet.question();
     await sheet.click('#question-yes');
     await sheet.says('document-list', /^(?!.*ubung-2)/);

@@ -4,7 +4,7 @@ import { joinText, readText } from './protocol.mjs';
 
 /** @typedef {{ site: number, secret: string }} Device */
 
-const NOBODY = 'The host is not there. Ask who hosts the documents, and open the invitation again.';
+const NOBODY = 'The server cannot be reached. Ask whoever runs it, and open the invitation again.';
 const CLOSED = 'This invitation is not open any more. Ask an owner for a new one.';
 const WRONG_SECRET = 4001;
 

@@ -24,7 +24,7 @@ test('a device is made', async () => {
 
 test('an invitation that is closed', async () => {
   const { wires, dial } = switchboard();
-  for (const [code, words] of [[4001, /This invitation is not open/], [1006, /The host is not there/], [4012, /memory/]]) {
+  for (const [code, words] of [[4001, /This invitation is not open/], [1006, /The server cannot be reached/], [4012, /memory/]]) {
     const made = join('ws://localhost/link', 'ef', dial);
     wires.at(-1).cut(code);
     await assert.rejects(made, words);

@@ -1,4 +1,4 @@
-// The list of a house's documents, which an owner makes, renames and puts away.
+// The list of a house's documents, which an owner makes, renames and archives.
 import { button, hide, made, of, say } from './elements.mjs';
 import { documentPath } from './places.mjs';
 import { ask, askWords } from './question.mjs';
@@ -66,7 +66,7 @@ export class Documents {
     if (!isOwner) return line;
     const acts = [
       button('Rename', `Rename ${name}`, () => this.rename(name)),
-      button('Put away', `Put away ${name}`, () => this.archive(name)),
+      button('Archive', `Archive ${name}`, () => this.archive(name)),
     ];
     line.append(made('div', 'row', ...acts));
     return line;
@@ -85,7 +85,7 @@ export class Documents {
     if (!(await this.order(`make ${name}`))) return;
     input.value = '';
     say('new-document-told', '');
-    say('status', `There is a document ${name} now. Everybody of this house may write in it, until you make rules there.`);
+    say('status', `There is a document ${name} now. Everybody in the team but readers may write in it, until you make rules there.`);
   }
 
   /** @param {string} name */
@@ -96,9 +96,9 @@ export class Documents {
 
   /** @param {string} name */
   async archive(name) {
-    const title = `Put ${name} away?`;
-    const undone = 'Nobody can open it any more. Its files stay in the host’s folder, below .archive.';
-    if ((await ask(this.orders, { title, undone, yes: 'Put it away' })) !== 'yes') return;
-    if (await this.order(`archive ${name}`)) say('status', `${name} is put away.`);
+    const title = `Archive ${name}?`;
+    const undone = 'Nobody can open it any more. Its files stay in the server’s folder, below .archive.';
+    if ((await ask(this.orders, { title, undone, yes: 'Archive it' })) !== 'yes') return;
+    if (await this.order(`archive ${name}`)) say('status', `${name} is archived.`);
   }
 }

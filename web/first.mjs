@@ -3,7 +3,7 @@ import { closeOf } from './closes.mjs';
 import { isEntry, joined, split, userOf } from './frames.mjs';
 import { helloText, readText } from './protocol.mjs';
 
-const NOBODY = 'The host is not there, or it has no such document, and this browser has nothing of it yet.';
+const NOBODY = 'The server cannot be reached, or it has no such document, and this browser has nothing of it yet.';
 
 /**
  * @typedef {{ identity: string, bytes: Uint8Array, count: number, own: number }} Whole the document's identity, the frames of all messages

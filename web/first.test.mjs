@@ -30,7 +30,7 @@ test('an empty document, and none', async () => {
   wires[0].open();
   wires[0].bring(`welcome 1 ${IDENTITY} 3 2 writer 0`);
   assert.equal((await empty).count, 0);
-  for (const [code, words] of [[1006, /not there/], [4001, /does not know this device/]]) {
+  for (const [code, words] of [[1006, /cannot be reached/], [4001, /does not know this device/]]) {
     const none = wholeDocument('ws://localhost/d/notes/link', DEVICE, () => {}, dial);
     wires.at(-1).cut(code);
     await assert.rejects(none, words);

@@ -22,7 +22,7 @@ test('groups of people', () => {
   assert.deepEqual(groupsOf(policy), [65535]);
   const plain = (/** @type {string} */ it) => it.replace(/[\u2068\u2069]/g, '');
   assert.equal(plain(words.rule(policy.authorizations[0], policy)), 'Cy and the group of Ada and Bea may write everywhere.');
-  assert.equal(plain(words.makingGroup([1, 2], [3])), 'Make a group of Ada and Bea? Cy can be put in later, behind the first visit.');
+  assert.equal(plain(words.makingGroup([1, 2], [3])), 'Make a group of Ada and Bea? Cy can be put in later, after the first visit.');
   assert.deepEqual(joining(policy, 65535, [1, 2, 3]), []); // the rules know no other device
   const later = made([...HAD, 'adduser 6', 'addmember 2 6', 'adduser 7']);
   assert.deepEqual(joining(later, 65535, directory.personsOf(later.groups.get(65535) ?? [])), ['addmember 65535 6']);

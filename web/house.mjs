@@ -7,7 +7,7 @@ import { Line } from './line.mjs';
 import { People } from './people.mjs';
 import { helloText } from './protocol.mjs';
 
-const LINKED = 'Linked';
+const CONNECTED = 'Connected';
 
 export class House {
   /**
@@ -55,7 +55,7 @@ export class House {
 
   tell() {
     const { isWelcome, words, isOver } = this.line;
-    say('standing', isWelcome ? LINKED : words || 'Offline. It is linked again when the host is back.');
+    say('standing', isWelcome ? CONNECTED : words || 'Offline. The page connects again when the server is back.');
     of('standing').dataset.kind = isWelcome ? 'good' : isOver ? 'bad' : 'off';
   }
 }

@@ -55,7 +55,7 @@ export class Keys {
    * @param {string} what
    */
   async close(kind, number, what) {
-    const undone = kind === 'device' ? 'No edit is undone. What waits in that browser isn’t taken any more.' : 'Devices that it made stay.';
+    const undone = kind === 'device' ? 'No edit is undone. Edits that wait in that browser are not accepted any more.' : 'Devices that it made stay.';
     if ((await ask(this.orders, { title: `Close ${what.charAt(0).toLowerCase()}${what.slice(1)}?`, undone, yes: 'Close it' })) !== 'yes') return;
     try {
       await this.orders.ask(`close ${kind} ${number}`);

@@ -54,7 +54,7 @@ test('a line that is cut', async () => {
     wires.at(-1).bring(WELCOME);
     const asked = line.orders.ask('keys');
     wires.at(-1).cut(1001);
-    assert.equal(line.words, 'The host was ended. Go on writing: it is linked again when it is back.');
+    assert.equal(line.words, 'The server was stopped. Go on writing: the page connects again when it is back.');
     const { length } = wires;
     pass(500);
     assert.equal(wires.length, length + 1);

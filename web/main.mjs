@@ -28,21 +28,21 @@ const FRAMED = 'This page is shown within another one, which could have you pres
 const INSECURE = 'Open this page from localhost or over https: elsewhere it cannot keep what you write, nor tell whether you have another page.';
 const GOES_ON = 'You opened this document in another page of this browser, and it goes on there. All that you wrote here is kept.';
 const OPEN_ALREADY = 'Another page of this browser has this document open, and does not let it go. Go on there, or close it first.';
-const NONE_HERE = 'There is no document of this name in this house.';
-const PUT_AWAY = 'This document was put away by an owner. What this browser has of it stays here: export the text to keep it.';
+const NONE_HERE = 'This team has no document of this name.';
+const ARCHIVED = 'This document was archived by an owner. What this browser has of it stays here: export the text to keep it.';
 
 /** @param {Error} error */
 function tell(error) {
-  say('status', error instanceof NoMemory ? 'Memory is wanting. What was asked for was not done, or it is not told.' : error.message);
+  say('status', error instanceof NoMemory ? 'This browser gave the page too little memory. Look whether what you did last is there, and load the page again.' : error.message);
 }
 
 async function load() {
   const response = await fetch('editor.wasm');
-  if (!response.ok) throw new Error('There is no editor.wasm at this host: web/build makes it.');
+  if (!response.ok) throw new Error('The server has no editor for this page. Tell whoever runs it that editor.wasm is missing.');
   try {
     return await Module.load(await response.arrayBuffer());
   } catch (error) {
-    throw new Error(`This browser cannot run the editor, though it says that it can. Tell who hosts the documents. (${error.message})`);
+    throw new Error(`This browser cannot run the editor, though it says that it can. Tell whoever runs the server. (${error.message})`);
   }
 }
 
@@ -153,7 +153,7 @@ async function tellWhy(spot, device, error) {
 async function seek(spot, device, identity) {
   const isIt = (it) => it.identity === identity || (it.identity === UNREAD && it.name === spot.document);
   const line = await askDocument(linkAddress(location, spot.base, null), device, isIt);
-  if (line === undefined) return { words: PUT_AWAY, isOver: true };
+  if (line === undefined) return { words: ARCHIVED, isOver: true };
   if (line === null || line.name === spot.document) return { words: line ? notOpened(line.state, true) : '', isOver: false };
   localStorage.setItem(`roastcliff identity ${keyOf({ ...spot, document: line.name })}`, identity);
   localStorage.removeItem(`roastcliff identity ${keyOf(spot)}`);

@@ -29,5 +29,5 @@ export function lacking(needs = NEEDS) {
   const missing = needs.filter(({ isThere }) => !isThere()).map(({ what }) => what);
   if (!missing.length) return '';
   const last = missing.length > 1 ? `${missing.slice(0, -1).join(', ')} and ${missing.at(-1)}` : missing[0];
-  return `This browser cannot show the page: it lacks ${last}. ${WHAT_TO_DO} Nothing was asked of the host, and an invitation in the address can still be used.`;
+  return `This browser cannot show the page: it lacks ${last}. ${WHAT_TO_DO} Nothing was asked of the server, and an invitation in the address can still be used.`;
 }

@@ -24,7 +24,7 @@ export function tellNotOpen(error) {
 }
 
 const DAMAGED = 'What this browser kept of this document cannot be read, so the page cannot come back from it. Nothing of it was changed.';
-const SURE = 'Start over? What this browser kept of the document is deleted. What the host has comes again; what it has not is lost.';
+const SURE = 'Start over? What this browser kept of the document is deleted. What the server has comes again; what it does not have is lost.';
 
 /**
  * What was kept is no journal: the person decides.

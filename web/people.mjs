@@ -5,7 +5,7 @@ import { button, hide, made, of, say, staying } from './elements.mjs';
 import { Leaving } from './leaving.mjs';
 import { NotDone } from './orders.mjs';
 import { ask, askWords } from './question.mjs';
-import { invited, notDone, powersTold, replacing, role as roleWords, whereabouts } from './told.mjs';
+import { byRole, invited, notDone, powersTold, replacing, role as roleWords, whereabouts } from './told.mjs';
 import * as words from './words.mjs';
 
 /** @typedef {import('./protocol.mjs').Person} Person */
@@ -104,9 +104,10 @@ export class People {
 
   /** @param {Person} person */
   powersOf({ person, role }) {
+    if (!this.rules) return byRole(role);
     if (role === 'reader') return 'may only read';
-    const powers = this.rules ? this.rules.powers(person) : roleWords(role);
-    return role === 'owner' && this.rules ? `${powers}; makes the rules` : powers;
+    const powers = this.rules.powers(person);
+    return role === 'owner' ? `${powers}; makes the rules` : powers;
   }
 
   /**
@@ -144,7 +145,7 @@ export class People {
   /** @param {Person} it */
   roles(it) {
     const list = document.createElement('select');
-    list.setAttribute('aria-label', `What ${it.name} may do in this house`);
+    list.setAttribute('aria-label', `Role of ${it.name} in all documents`);
     list.append(...ROLES.map((role) => new Option(roleWords(role), role, false, role === it.role)));
     list.addEventListener('change', () => this.setRole(it, list));
     return list;
@@ -210,8 +211,8 @@ export class People {
    */
   async setRole(it, list) {
     const role = /** @type {Person['role']} */ (list.value);
-    const title = `Have ${words.isolated(it.name)} be one who ${roleWords(role)}?`;
-    const undone = role === 'reader' ? 'No edit is undone. What waits in that person’s browsers isn’t taken any more.' : 'No edit is undone.';
+    const title = `Change the role of ${words.isolated(it.name)} to ${roleWords(role).toLowerCase()}?`;
+    const undone = role === 'reader' ? 'No edit is undone. Edits that wait in that person’s browsers are not accepted any more.' : 'No edit is undone.';
     if ((await ask(this.orders, { title, undone, yes: 'Change it' })) === 'yes') await this.order(`role ${it.person} ${role}`);
     else list.value = it.role;
   }

@@ -20,17 +20,17 @@ export function standing({ isWelcome, isCaughtUp, unsaved, isHeldBack, words, is
 
 /** @type {Record<string, string>} */
 const REFUSALS = {
-  '': 'The link to the host was lost before the answer came. Look whether it was done.',
-  [OFFLINE]: 'You are offline. People, documents and rules can be changed only while this page is linked to the host.',
+  '': 'The connection was lost before the answer came. Look whether it was done.',
+  [OFFLINE]: 'You are offline. People, documents and rules can be changed only while this page is connected to the server.',
   'log full': 'The rules of this document were changed as often as they may be.',
   'not an owner': 'Only owners may do this.',
   'nobody of this number': 'There is nobody of this number any more.',
   'no such document, or there is one': 'There is a document of this name already, or none any more.',
   'no such document': 'There is no such document any more.',
-  'all numbers are given': 'The host has given all numbers that there are.',
-  'the folder failed': 'The host could not change its folder. Tell who hosts it.',
-  'the file of people failed': 'The host could not keep it. Tell who hosts it.',
-  'no memory': 'The host has no memory left at the moment.',
+  'all numbers are given': 'No more people, invitations or devices can be made at this server.',
+  'the folder failed': 'The server could not change its folder. Tell whoever runs it.',
+  'the file of people failed': 'The server could not keep it. Tell whoever runs it.',
+  'no memory': 'The server has no memory left at the moment.',
   'too many lines': 'This is too much at once.',
 };
 
@@ -43,15 +43,29 @@ export function notDone(words) {
   const [kind, number] = words.split(' ');
   if (kind === 'illegal') return `It was not done: ${fault(number)}.`;
   if (kind === 'missing') return 'It was not done: the text has changed meanwhile.';
-  if (kind === 'bad') return 'The host did not take it. A name has 1 to 40 letters, no space at an end, and no sign that turns other letters round.';
-  return Object.hasOwn(REFUSALS, words) ? REFUSALS[words] : `The host did not do it: “${words}”.`;
+  if (kind === 'bad') return 'The server did not take it. A name has 1 to 40 letters, no space at an end, and no sign that turns other letters round.';
+  return Object.hasOwn(REFUSALS, words) ? REFUSALS[words] : `The server did not do it: “${words}”.`;
 }
 
-const ROLES = { owner: 'owns the documents', writer: 'writes', reader: 'reads' };
+const ROLES = { owner: 'Owner', writer: 'Writer', reader: 'Reader' };
+const BY_ROLE = {
+  owner: 'an owner, who makes documents, rules and invitations',
+  writer: 'a writer, where a document’s rules allow it',
+  reader: 'a reader, who may only read',
+};
 
 /** @param {import('./protocol.mjs').Role} role */
 export function role(role) {
   return ROLES[role] ?? role;
+}
+
+/**
+ * What somebody may do in the documents of a team, by a role alone.
+ *
+ * @param {import('./protocol.mjs').Role} role
+ */
+export function byRole(role) {
+  return BY_ROLE[role] ?? role;
 }
 
 /** @typedef {'self' | 'here' | 'away' | 'invited' | 'removed'} Whereabouts of a person of a house */
@@ -71,7 +85,7 @@ export function whereabouts(state) {
  * @param {Whereabouts} state
  */
 export function powersTold(powers, state) {
-  return state === 'removed' ? `Cannot come in without a new invitation. By the rules: ${powers}.` : `${capital(powers)}.`;
+  return state === 'removed' ? `Cannot come in without a new invitation. With one: ${powers}.` : `${capital(powers)}.`;
 }
 
 /**
@@ -105,8 +119,8 @@ const STATES = {
   'fewer-messages': 'its file lacks a part of what was written. A copy of it is to be restored',
   'other-messages': 'its file is not the one that was written. A copy of it is to be restored',
   'damaged-seal': 'the seal of its file is damaged. A copy of it is to be restored',
-  'disk-fault': 'the host’s disk failed',
-  'no-memory': 'the host has no memory left for it',
+  'disk-fault': 'the server’s disk failed',
+  'no-memory': 'the server has no memory left for it',
 };
 
 /**
@@ -127,7 +141,7 @@ export function documentState(state) {
  */
 export function notOpened(state, isHere) {
   const why = STATES[state] ?? state;
-  return why && `The host cannot open this document: ${why}. Tell who hosts it.${isHere ? ' Your copy is kept here, and you can go on writing.' : ''}`;
+  return why && `The server cannot open this document: ${why}. Tell whoever runs it.${isHere ? ' Your copy is kept here, and you can go on writing.' : ''}`;
 }
 
 /**

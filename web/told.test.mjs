@@ -1,6 +1,6 @@
 import assert from 'node:assert/strict';
 import test from 'node:test';
-import { documentName, documentState, found, invited, notDone, notOpened, powersTold, replacing, standing, whereabouts } from './told.mjs';
+import { byRole, documentName, documentState, found, invited, notDone, notOpened, powersTold, replacing, standing, whereabouts } from './told.mjs';
 
 test('where a page stands', () => {
   const linked = { isWelcome: true, isCaughtUp: true, unsaved: 0, isHeldBack: false, words: '', isOver: false };
@@ -11,7 +11,7 @@ test('where a page stands', () => {
     [{ isCaughtUp: false }, true, 'busy', 'Catching up…'],
     [{ isWelcome: false }, true, 'off', 'Offline. You can go on writing.'],
     [{ isWelcome: false, unsaved: 1 }, true, 'off', 'Offline. 1 edit of yours waits in this browser.'],
-    [{ isWelcome: false, words: 'The host was ended.' }, true, 'off', 'The host was ended.'],
+    [{ isWelcome: false, words: 'The server was stopped.' }, true, 'off', 'The server was stopped.'],
     [{ isWelcome: false, words: 'No more.', isOver: true }, true, 'bad', 'No more.'],
     [{ words: 'Nearly full.', isHeldBack: true }, true, 'bad', 'Nearly full.'],
   ];
@@ -29,7 +29,8 @@ test('what the host did not do', () => {
 test('people', () => {
   assert.deepEqual((/** @type {const} */ (['self', 'here', 'away', 'invited', 'removed'])).map(whereabouts), ['you', 'here now', 'away', 'has not come yet', 'removed']);
   assert.equal(powersTold('may write', 'away'), 'May write.');
-  assert.match(powersTold('may write', 'removed'), /^Cannot come in without a new invitation\. By the rules: may write\.$/);
+  assert.equal(powersTold(byRole('writer'), 'away'), 'A writer, where a document’s rules allow it.');
+  assert.match(powersTold('may write', 'removed'), /^Cannot come in without a new invitation\. With one: may write\.$/);
   assert.equal(invited('Cy', true), 'There is an invitation for Cy. Its address is below the list of people.');
   assert.match(replacing('Cy', false), /^You are Cy in this browser\. .* and cannot come back as Cy without a new invitation\.$/);
   assert.match(replacing('Cy', true), /without a new invitation, from another owner or from whoever runs the server\.$/);
@@ -42,8 +43,8 @@ test('documents', () => {
   assert.equal(documentState('open'), '');
   assert.equal(documentState('damaged'), 'It cannot be opened: its file is damaged.');
   assert.equal(notOpened('open', true), '');
-  assert.equal(notOpened('damaged', false), 'The host cannot open this document: its file is damaged. Tell who hosts it.');
-  assert.match(notOpened('disk-fault', true), /disk failed\. Tell who hosts it\. Your copy is kept here/);
+  assert.equal(notOpened('damaged', false), 'The server cannot open this document: its file is damaged. Tell whoever runs it.');
+  assert.match(notOpened('disk-fault', true), /disk failed\. Tell whoever runs it\. Your copy is kept here/);
   for (const state of ['fewer-messages', 'other-messages', 'damaged-seal']) assert.match(documentState(state), /to be restored/);
   assert.deepEqual([found(0, 0), found(1, 0), found(1200, 4)], ['Nowhere', '1 of 1 place', '5 of 1,200 places']);
 });

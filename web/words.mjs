@@ -84,9 +84,11 @@ const named = (numbers) => listed(numbers.map((it) => group(it)));
  * @param {number} user
  */
 export function person(user) {
-  if (user === 0) return 'the administrator';
   const of = directory.personOf(user);
-  return of === null ? `user ${user}` : group(of);
+  if (of !== null) return group(of);
+  const isTeam = directory.people.size > 0; // the administrator of a team's documents is their server, and a user a device
+  if (user === 0) return isTeam ? 'the server' : 'the administrator';
+  return `${isTeam ? 'device' : 'user'} ${user}`;
 }
 
 /**
@@ -117,11 +119,11 @@ function people({ kind, numbers }, policy) {
  */
 export function object(number, policy) {
   const extent = policy.named.get(number);
-  if (!extent) return `part ${number}, which is not there`;
+  if (!extent) return 'a part that is not there';
   if (extent.kind === 'all') return 'the whole text';
   if (extent.kind === 'by') return `what ${person(Number(extent.words[0]))} wrote`;
-  if (extent.kind === 'elems') return `part ${number} (single letters)`;
-  return extent.said ? `the paragraph ${cited(extent.said)}` : `paragraph ${number}`;
+  if (extent.kind === 'elems') return 'certain letters';
+  return extent.said ? `the paragraph ${cited(extent.said)}` : 'a paragraph';
 }
 
 const DEEDS = { i: 'add words', d: 'delete', u: 'change words' };
@@ -209,13 +211,13 @@ const CHANGES = {
   adduser: ([user]) => `${capital(person(Number(user)))} ${isDevice(user) ? 'takes part with one more device' : 'may take part'}.`,
   deluser: ([user]) => `${capital(person(Number(user)))} ${isDevice(user) ? 'takes part with one device less' : 'may take part no more'}.`,
   addobj: ([number], policy) => ended(`Rules may be about ${object(Number(number), policy)}`),
-  delobj: ([number]) => `Rules are about part ${number} no more.`,
+  delobj: ([number], policy) => ended(`Rules are not about ${object(Number(number), policy)} any more`),
   addgroup: ([number], policy) => (directory.nameOf(Number(number)) === null ? `There may be rules about ${group(Number(number), policy)}.` : `${capital(group(Number(number)))} takes part.`),
   delgroup: ([number]) => `There is no ${group(Number(number))} in the rules any more.`,
   addmember: ([number, user], policy) => `Rules about ${group(Number(number), policy)} are about ${member(number, user)} too.`,
   delmember: ([number, user], policy) => `Rules about ${group(Number(number), policy)} are about ${member(number, user)} no more.`,
   delauth: ([place]) => `Rule ${Number(place) + 1} of the list is gone.`,
-  validate: ([name]) => `The edit ${name} is confirmed.`,
+  validate: ([name]) => `An edit of ${person(Number(name.split('.')[1]))} is confirmed.`,
 };
 
 /** @param {Entry} entry */
@@ -271,7 +273,7 @@ export const FEW_FOR_A_GROUP = 'Choose two people or more who have opened this d
  * @param {number[]} others who were chosen too, and have no device here yet
  */
 export function makingGroup(persons, others) {
-  const more = others.length ? ` ${named(others)} can be put in later, behind the first visit.` : '';
+  const more = others.length ? ` ${named(others)} can be put in later, after the first visit.` : '';
   return `Make a group of ${named(persons)}?${more}`;
 }
 
@@ -360,7 +362,7 @@ export function leaving(name, requests) {
 
 /** @param {string} name */
 export function left(name) {
-  return `What waits in the browsers of ${name} isn’t taken any more. To come back ${name} needs a new invitation.`;
+  return `Edits that wait in the browsers of ${name} are not accepted any more. To come back ${name} needs a new invitation.`;
 }
 
 /** @param {string} name */
@@ -422,7 +424,7 @@ export function powers(allows, policy) {
 // ---- how much is used
 
 const [SOME, ALL] = [MOST_TO_CONFIRM, MOST_VERSIONS].map((it) => it.toLocaleString('en'));
-const COST = `Each letter that is confirmed takes a version of the rules. There are ${ALL}; behind ${SOME} they are left for rules.`;
+const COST = `Each letter that is confirmed takes a version of the rules. There are ${ALL}; after ${SOME} they are left for rules.`;
 const RESERVED = `${SOME} of the ${ALL} versions of the rules are used, and the others are left for rules. So only “Confirm the next edit” confirms any more.`;
 
 /**

@@ -67,7 +67,7 @@ test('how the rules came', () => {
   const entries = ['adduser 1', 'adduser 9', 'addgroup 2', 'addmember 2 3', 'addmember 2 1', 'validate 3.1', 'validate 4.1'].map((it, i) => ({ kind: 'entry', version: i + 1, op: it.split(' ') }));
   assert.deepEqual(known(() => words.versions(entries, new Policy(), 9).map(({ text }) => text)), [
     'Ada Lund takes part with one more device.',
-    'User 9 may take part.',
+    'Device 9 may take part.',
     'Bea Okafor takes part.',
     'Rules about Bea Okafor are about a device more too.',
     'Rules about Bea Okafor are about Ada Lund too.',
@@ -78,7 +78,8 @@ test('how the rules came', () => {
 test('names', () => {
   assert.deepEqual(['Ada Lund', 'bea', 'Jean Paul van Dam', '𝟝 x'].map(words.initials), ['AL', 'B', 'JD', '𝟝X']);
   assert.equal(words.capital('\u2068ada\u2069 may'), '\u2068Ada\u2069 may');
-  assert.deepEqual(known(() => [words.person(3), words.person(7), words.group(1), words.person(0)]), ['Bea Okafor', 'user 7', 'Ada Lund', 'the administrator']);
+  assert.deepEqual(known(() => [words.person(3), words.person(7), words.group(1), words.person(0)]), ['Bea Okafor', 'device 7', 'Ada Lund', 'the server']);
+  assert.deepEqual([words.person(7), words.person(0)], ['user 7', 'the administrator']);
   assert.equal(known(() => words.writer(2, 3)), 'At the caret: written by Bea Okafor.');
   assert.equal(known(() => words.writer(1, 2)), 'At the caret: written by Bea Okafor, in words that Ada Lund began.');
 });
