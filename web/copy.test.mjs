@@ -1,5 +1,6 @@
 import assert from 'node:assert/strict';
 import test from 'node:test';
+import { versions } from './changes.mjs';
 import { Copy } from './copy.mjs';
 import { Module, NoMemory } from './peer.mjs';
 import { MOST_TO_CONFIRM } from './policy.mjs';
@@ -66,10 +67,10 @@ test('confirming', () => {
   assert.equal(copy.policy.version, MOST_TO_CONFIRM);
   assert.equal(copy.tentative.size, 1);
   assert.match(copy.step('validatenext'), /^entry/);
-  const shown = words.versions(copy.entries, copy.policy, 3);
+  const shown = versions(copy.entries, copy.policy, 3);
   assert.deepEqual(shown.map((it) => it.version), [MOST_TO_CONFIRM - 3, MOST_TO_CONFIRM - 2, MOST_TO_CONFIRM - 1]);
   assert.equal(shown[2].text, `3 edits are confirmed, up to change ${MOST_TO_CONFIRM + 1}.`);
-  assert.deepEqual(words.versions(copy.entries.slice(0, 2), copy.policy, 3).map((it) => it.text), ['User 1 may take part.', 'User 1 may write everywhere.']);
+  assert.deepEqual(versions(copy.entries.slice(0, 2), copy.policy, 3).map((it) => it.text), ['User 1 may take part.', 'User 1 may write everywhere.']);
 });
 
 test('want of memory', async () => {

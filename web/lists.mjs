@@ -1,4 +1,5 @@
 // The lists of a document at the side: the rules, what was undone and why, and how the rules came.
+import { versions } from './changes.mjs';
 import { button, hide, item, of, say, staying } from './elements.mjs';
 import * as words from './words.mjs';
 
@@ -84,7 +85,7 @@ export class Lists {
 
   showVersions() {
     const { entries, policy } = this.copy;
-    const items = words.versions(entries, policy, MOST_SHOWN).map(({ version, text }) => {
+    const items = versions(entries, policy, MOST_SHOWN).map(({ version, text }) => {
       const made = item(text, ' ', ...this.time(version));
       made.value = version;
       return made;

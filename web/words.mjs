@@ -7,7 +7,6 @@ import { MOST_TO_CONFIRM } from './policy.mjs';
 /**
  * @typedef {import('./policy.mjs').Policy} Policy
  * @typedef {import('./lines.mjs').Denial} Denial
- * @typedef {import('./lines.mjs').Entry} Entry
  */
 
 const FAULTS = {
@@ -75,6 +74,9 @@ export function group(number, policy = null) {
   return persons.length ? `the group of ${named(persons)}` : `group ${number}`;
 }
 
+// Whether the people of a team are known: its server is the administrator then, a user a device, and nobody needs the numbers of parts.
+const isTeam = () => directory.people.size > 0;
+
 /** @param {number[]} numbers */
 const named = (numbers) => listed(numbers.map((it) => group(it)));
 
@@ -86,9 +88,8 @@ const named = (numbers) => listed(numbers.map((it) => group(it)));
 export function person(user) {
   const of = directory.personOf(user);
   if (of !== null) return group(of);
-  const isTeam = directory.people.size > 0; // the administrator of a team's documents is their server, and a user a device
-  if (user === 0) return isTeam ? 'the server' : 'the administrator';
-  return `${isTeam ? 'device' : 'user'} ${user}`;
+  if (user === 0) return isTeam() ? 'the server' : 'the administrator';
+  return `${isTeam() ? 'device' : 'user'} ${user}`;
 }
 
 /**
@@ -119,11 +120,12 @@ function people({ kind, numbers }, policy) {
  */
 export function object(number, policy) {
   const extent = policy.named.get(number);
-  if (!extent) return 'a part that is not there';
+  if (!extent) return isTeam() ? 'a part that is not there' : `part ${number}, which is not there`;
   if (extent.kind === 'all') return 'the whole text';
   if (extent.kind === 'by') return `what ${person(Number(extent.words[0]))} wrote`;
-  if (extent.kind === 'elems') return 'certain letters';
-  return extent.said ? `the paragraph ${cited(extent.said)}` : 'a paragraph';
+  if (extent.kind === 'elems') return isTeam() ? 'certain letters' : `part ${number} (single letters)`;
+  if (extent.said) return `the paragraph ${cited(extent.said)}`;
+  return isTeam() ? 'a paragraph' : `paragraph ${number}`;
 }
 
 const DEEDS = { i: 'add words', d: 'delete', u: 'change words' };
@@ -191,75 +193,6 @@ export function refusal(answer, policy) {
   if (first === 'refused') return `The rules stay as they are: ${fault(number)}.`;
   if (first === 'no') return 'The text has changed meanwhile.';
   return `It was not done: “${answer}”.`;
-}
-
-/** @param {string} user */
-const isDevice = (user) => directory.personOf(Number(user)) !== null;
-
-/**
- * A member of a group, which is a device of the person where the group is one.
- *
- * @param {string} number
- * @param {string} user
- */
-function member(number, user) {
-  return directory.personOf(Number(user)) === Number(number) ? 'a device more' : person(Number(user));
-}
-
-/** @type {Record<string, (words: string[], policy: Policy) => string>} */
-const CHANGES = {
-  adduser: ([user]) => `${capital(person(Number(user)))} ${isDevice(user) ? 'takes part with one more device' : 'may take part'}.`,
-  deluser: ([user]) => `${capital(person(Number(user)))} ${isDevice(user) ? 'takes part with one device less' : 'may take part no more'}.`,
-  addobj: ([number], policy) => ended(`Rules may be about ${object(Number(number), policy)}`),
-  delobj: ([number], policy) => ended(`Rules are not about ${object(Number(number), policy)} any more`),
-  addgroup: ([number], policy) => (directory.nameOf(Number(number)) === null ? `There may be rules about ${group(Number(number), policy)}.` : `${capital(group(Number(number)))} takes part.`),
-  delgroup: ([number]) => `There is no ${group(Number(number))} in the rules any more.`,
-  addmember: ([number, user], policy) => `Rules about ${group(Number(number), policy)} are about ${member(number, user)} too.`,
-  delmember: ([number, user], policy) => `Rules about ${group(Number(number), policy)} are about ${member(number, user)} no more.`,
-  delauth: ([place]) => `Rule ${Number(place) + 1} of the list is gone.`,
-  validate: ([name]) => `An edit of ${person(Number(name.split('.')[1]))} is confirmed.`,
-};
-
-/** @param {Entry} entry */
-const isConfirmation = ({ op }) => op[0] === 'validate';
-
-/**
- * The last lines of a list of entries, at most so many, each with the version that it begins with: one for each entry, but one alone for
- * edits that were confirmed one after another.
- *
- * @param {Entry[]} entries
- * @param {Policy} policy
- * @param {number} most
- */
-export function versions(entries, policy, most) {
-  const lines = [];
-  for (let end = entries.length; end > 0 && lines.length < most; ) {
-    let start = end - 1;
-    while (start > 0 && isConfirmation(entries[start]) && isConfirmation(entries[start - 1])) start--;
-    lines.unshift({ version: entries[start].version, text: changes(entries.slice(start, end), policy) });
-    end = start;
-  }
-  return lines;
-}
-
-/**
- * @param {Entry[]} entries
- * @param {Policy} policy
- */
-function changes(entries, policy) {
-  const [first, last] = [entries[0], entries[entries.length - 1]];
-  return first === last ? change(first, policy) : `${edits(entries.length)} are confirmed, up to change ${last.version}.`;
-}
-
-/**
- * What an entry changes.
- *
- * @param {Entry} entry
- * @param {Policy} policy
- */
-export function change({ version, op: [kind, ...words] }, policy) {
-  const made = policy.made.get(version);
-  return kind === 'addauth' && made ? rule(made, policy) : CHANGES[kind](words, policy);
 }
 
 // ---- groups

@@ -63,18 +63,6 @@ test('powers', () => {
   assert.equal(of(4), 'may add words, but in the paragraph “Tea” only read');
 });
 
-test('how the rules came', () => {
-  const entries = ['adduser 1', 'adduser 9', 'addgroup 2', 'addmember 2 3', 'addmember 2 1', 'validate 3.1', 'validate 4.1'].map((it, i) => ({ kind: 'entry', version: i + 1, op: it.split(' ') }));
-  assert.deepEqual(known(() => words.versions(entries, new Policy(), 9).map(({ text }) => text)), [
-    'Ada Lund takes part with one more device.',
-    'Device 9 may take part.',
-    'Bea Okafor takes part.',
-    'Rules about Bea Okafor are about a device more too.',
-    'Rules about Bea Okafor are about Ada Lund too.',
-    '2 edits are confirmed, up to change 7.',
-  ]);
-});
-
 test('names', () => {
   assert.deepEqual(['Ada Lund', 'bea', 'Jean Paul van Dam', '𝟝 x'].map(words.initials), ['AL', 'B', 'JD', '𝟝X']);
   assert.equal(words.capital('\u2068ada\u2069 may'), '\u2068Ada\u2069 may');

@@ -1,5 +1,6 @@
 // The administrator's buttons: each is one operation of the policy, but for the protection of a paragraph, which is two, and for
 // confirming all edits, which is one for each.
+import { change } from '../changes.mjs';
 import { of, say, sentBy } from '../elements.mjs';
 import * as words from '../words.mjs';
 
@@ -59,7 +60,7 @@ export class Administration {
   tell(undone) {
     const entry = this.copy.entries.at(-1);
     const more = undone ? ` It undid ${words.edits(undone)}.` : '';
-    say('status', `Version ${entry.version}: ${words.change(entry, this.copy.policy)}${more}`);
+    say('status', `Version ${entry.version}: ${change(entry, this.copy.policy)}${more}`);
   }
 
   addRule(sign) {

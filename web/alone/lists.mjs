@@ -1,4 +1,5 @@
 // The lists of a page: who may do what, what was undone and why, and the versions of the rules.
+import { versions } from '../changes.mjs';
 import { button, item, of, say } from '../elements.mjs';
 import * as words from '../words.mjs';
 
@@ -90,7 +91,7 @@ export class Lists {
 
   showVersions() {
     const { entries, policy } = this.copy;
-    const items = words.versions(entries, policy, MOST_SHOWN).map(({ version, text }) => {
+    const items = versions(entries, policy, MOST_SHOWN).map(({ version, text }) => {
       const made = item(text);
       made.value = version;
       return made;
