@@ -638,6 +638,8 @@ const tries = {
     await cy.page.type('Cy was here. ');
     await ada.shows(`${world.text}Cy was here. `);
     await cy.isSaved();
+    // Who has which device is told once a second at most.
+    await ada.says('here', /Cy Brandt/);
     const version = await ada.value('page.copy.policy.version');
     await ada.press('people', 'Remove Cy Brandt');
     assert.match(await ada.question(), /^Remove Cy Brandt\? \| All devices and invitations of Cy Brandt are closed\. What is written can stay, .* edits? of Cy Brandt would be undone: “Cy was here\.”$/);
