@@ -1,7 +1,7 @@
 //! The lines of answers.
-ghost use Rattle.std.specs.Prelude.{◌≡◌, ◌++◌, OnOk, OnErr};
+ghost use Rattle.std.specs.Prelude.{◌≡◌, ◌++◌, ◌∷◌, OnOk, OnErr};
 ghost use Rattle.line_spelling.specs.Values.{spaced};
-ghost use Rattle.line_spelling.specs.Answers.{item_words, answer_words, answer_line};
+ghost use Rattle.line_spelling.specs.Answers.{fault_words, state_words, item_words, answer_words, answer_line};
 
 use crate::parts::{
     put_by, put_fault, put_missing, put_outcome, put_settled, put_shown, put_state, put_told,
@@ -13,8 +13,8 @@ use coop_request::Request;
 use edit_message::Message;
 use element_name::NoMemory;
 use peer_step::Answer;
-use policy_book::Entry;
-use request_state::Undone;
+use policy_book::{Entry, EntryFault};
+use request_state::{State, Undone};
 use std::alloc::Global;
 
 fn put_done(line: &mut Vec<u8>, number: Option<u32>, request: Request) -> Result<(), NoMemory>
@@ -52,6 +52,20 @@ fn put_item(line: &mut Vec<u8>, item: &Option<Message>) -> Result<(), NoMemory>
     }
 }
 
+fn put_with_fault(line: &mut Vec<u8>, word: &[u8], fault: EntryFault) -> Result<(), NoMemory>
+    ensures { OnOk result (line.new.items ≡ line.old.items ++ spaced (word.now ∷ fault_words fault)) }
+{
+    put(line, word)?;
+    put_fault(line, fault)
+}
+
+fn put_with_state(line: &mut Vec<u8>, word: &[u8], state: State) -> Result<(), NoMemory>
+    ensures { OnOk result (line.new.items ≡ line.old.items ++ spaced (word.now ∷ state_words state)) }
+{
+    put(line, word)?;
+    put_state(line, state)
+}
+
 // Appends an answer, without a line end.
 fn put_answer(line: &mut Vec<u8>, number: Option<u32>, answer: &Answer) -> Result<(), NoMemory>
     ensures { OnOk result (line.new.items ≡ line.old.items ++ spaced (answer_words number answer.now)) }
@@ -71,19 +85,13 @@ fn put_answer(line: &mut Vec<u8>, number: Option<u32>, answer: &Answer) -> Resul
         Answer::Done(request) => put_done(line, number, *request),
         Answer::NotAdministrator => put(line, b"not administrator"),
         Answer::LogFull => put(line, b"log full"),
-        Answer::Refused(fault) => {
-            put(line, b"refused")?;
-            put_fault(line, *fault)
-        }
+        Answer::Refused(fault) => put_with_fault(line, b"refused", *fault),
         Answer::NotHere(missing) => {
             put(line, b"not here")?;
             put_missing(line, *missing)
         }
         Answer::NeedsNone => put(line, b"needs none"),
-        Answer::AlreadyInvalid(state) => {
-            put(line, b"already")?;
-            put_state(line, *state)
-        }
+        Answer::AlreadyInvalid(state) => put_with_state(line, b"already", *state),
         Answer::NothingTentative => put(line, b"nothing tentative"),
         Answer::Issued(entry, undone) => put_issued(line, number, entry, *undone),
         Answer::Repeat => put(line, b"repeat"),
@@ -93,19 +101,13 @@ fn put_answer(line: &mut Vec<u8>, number: Option<u32>, answer: &Answer) -> Resul
         }
         Answer::OwnSite => put(line, b"own site"),
         Answer::OwnLog => put(line, b"own log"),
-        Answer::Illegal(fault) => {
-            put(line, b"illegal")?;
-            put_fault(line, *fault)
-        }
+        Answer::Illegal(fault) => put_with_fault(line, b"illegal", *fault),
         Answer::HoldFull => put(line, b"hold full"),
         Answer::Held(missing) => {
             put(line, b"held")?;
             put_missing(line, *missing)
         }
-        Answer::Taken(state) => {
-            put(line, b"taken")?;
-            put_state(line, *state)
-        }
+        Answer::Taken(state) => put_with_state(line, b"taken", *state),
         Answer::Advanced(entry, undone) => {
             put(line, b"version")?;
             put_number_word(line, u64::from(entry.version()))?;

@@ -1,10 +1,10 @@
 //! The parts of answers.
-ghost use Rattle.std.specs.Prelude.{◌≡◌, ◌++◌, ◌∷◌, [], OnOk, decimal};
+ghost use Rattle.std.specs.Prelude.{◌≡◌, ◌++◌, OnOk};
 ghost use Rattle.line_spelling.specs.Values.{behind_spaces};
 ghost use Rattle.line_spelling.specs.Answers.{by_words, state_words, missing_words, fault_words, number_words, undone_words};
 ghost use Rattle.line_spelling.specs.Answers.{settled_words, outcome_words, shown_words};
 
-use crate::values::{put, put_name_word, put_number_word, put_text};
+use crate::values::{put, put_name_word, put_number_word, put_numbered, put_text};
 use edit_message::{Message, Missing};
 use element_name::NoMemory;
 use peer_step::Outcome;
@@ -18,10 +18,7 @@ pub(crate) fn put_by(line: &mut Vec<u8>, by: Option<u32>) -> Result<(), NoMemory
     ensures { OnOk result (line.new.items ≡ line.old.items ++ behind_spaces (by_words by)) }
 {
     match by {
-        Some(number) => {
-            put(line, b" by")?;
-            put_number_word(line, u64::from(number))
-        }
+        Some(number) => put_numbered(line, b"by", number),
         None => put(line, b" none"),
     }
 }
@@ -33,13 +30,9 @@ pub fn put_state(line: &mut Vec<u8>, state: State) -> Result<(), NoMemory>
 {
     match state {
         State::Tentative => put(line, b" tentative"),
-        State::Valid { at } => {
-            put(line, b" valid")?;
-            put_number_word(line, u64::from(at))
-        }
+        State::Valid { at } => put_numbered(line, b"valid", at),
         State::Invalid { at, by } => {
-            put(line, b" invalid")?;
-            put_number_word(line, u64::from(at))?;
+            put_numbered(line, b"invalid", at)?;
             put_by(line, by)
         }
     }
@@ -55,20 +48,8 @@ pub fn put_missing(line: &mut Vec<u8>, missing: Missing) -> Result<(), NoMemory>
             put(line, b" element")?;
             put_name_word(line, name)
         }
-        Missing::Version(version) => {
-            put(line, b" version")?;
-            put_number_word(line, u64::from(version))
-        }
+        Missing::Version(version) => put_numbered(line, b"version", version),
     }
-}
-
-// A fault's number, and the number that it carries.
-fn put_carried(line: &mut Vec<u8>, fault: &[u8], carried: u32) -> Result<(), NoMemory>
-    ensures { OnOk result (line.new.items ≡ line.old.items ++ behind_spaces (fault.now ∷ decimal carried ∷ [])) }
-{
-    put(line, b" ")?;
-    put(line, fault)?;
-    put_number_word(line, u64::from(carried))
 }
 
 /// A fault.
@@ -81,9 +62,9 @@ pub(crate) fn put_fault(line: &mut Vec<u8>, fault: EntryFault) -> Result<(), NoM
         EntryFault::IsAdministrator => put(line, b" 3"),
         EntryFault::ObjectThere => put(line, b" 4"),
         EntryFault::NoObject => put(line, b" 5"),
-        EntryFault::BadPlace(len) => put_carried(line, b"6", len),
-        EntryFault::TooMany(limit) => put_carried(line, b"7", limit),
-        EntryFault::ValidatedAt(version) => put_carried(line, b"8", version),
+        EntryFault::BadPlace(len) => put_numbered(line, b"6", len),
+        EntryFault::TooMany(limit) => put_numbered(line, b"7", limit),
+        EntryFault::ValidatedAt(version) => put_numbered(line, b"8", version),
         EntryFault::GroupThere => put(line, b" 9"),
         EntryFault::NoGroup => put(line, b" 10"),
         EntryFault::MemberThere => put(line, b" 11"),
@@ -105,8 +86,7 @@ pub(crate) fn put_told(line: &mut Vec<u8>, number: Option<u32>) -> Result<(), No
 pub(crate) fn put_undone(line: &mut Vec<u8>, undone: Undone) -> Result<(), NoMemory>
     ensures { OnOk result (line.new.items ≡ line.old.items ++ behind_spaces (undone_words undone)) }
 {
-    put(line, b" undone")?;
-    put_number_word(line, u64::from(undone.count))
+    put_numbered(line, b"undone", undone.count)
 }
 
 /// What was settled.
@@ -115,10 +95,7 @@ pub(crate) fn put_settled(line: &mut Vec<u8>, message: &Message) -> Result<(), N
 {
     match message {
         Message::Coop(request) => put_name_word(line, request.id()),
-        Message::Admin(entry) => {
-            put(line, b" version")?;
-            put_number_word(line, u64::from(entry.version()))
-        }
+        Message::Admin(entry) => put_numbered(line, b"version", entry.version()),
     }
 }
 

@@ -4,8 +4,8 @@ ghost use Rattle.line_spelling.specs.Values.{behind_spaces};
 ghost use Rattle.line_spelling.specs.Steps.{extent_words, auth_words, operation_words, edit_words, message_text, local_words, step_text};
 
 use crate::values::{
-    put, put_name_word, put_names, put_number_word, put_numbers, put_piece_word, put_rights,
-    put_users,
+    put, put_name_word, put_names, put_number_word, put_numbered, put_numbers, put_piece_word,
+    put_rights, put_users,
 };
 use coop_request::Edit;
 use edit_message::Message;
@@ -29,10 +29,7 @@ fn put_extent(line: &mut Vec<u8>, extent: &Extent) -> Result<(), NoMemory>
             put(line, b" elems ")?;
             put_names(line, names.as_slice())
         }
-        Extent::By(user) => {
-            put(line, b" by")?;
-            put_number_word(line, u64::from(*user))
-        }
+        Extent::By(user) => put_numbered(line, b"by", u32::from(*user)),
     }
 }
 
@@ -52,20 +49,11 @@ fn put_auth(line: &mut Vec<u8>, auth: &Auth) -> Result<(), NoMemory>
     put_numbers(line, auth.objects.as_slice())
 }
 
-// Appends a word with one number.
-fn put_numbered(line: &mut Vec<u8>, word: &[u8], number: u16) -> Result<(), NoMemory>
-    ensures { OnOk result (line.new.items ≡ line.old.items ++ behind_spaces (word.now ∷ decimal number ∷ [])) }
-{
-    put(line, b" ")?;
-    put(line, word)?;
-    put_number_word(line, u64::from(number))
-}
-
 // Appends a word with two numbers.
 fn put_paired(line: &mut Vec<u8>, word: &[u8], group: u16, user: u16) -> Result<(), NoMemory>
     ensures { OnOk result (line.new.items ≡ line.old.items ++ behind_spaces (word.now ∷ decimal group ∷ decimal user ∷ [])) }
 {
-    put_numbered(line, word, group)?;
+    put_numbered(line, word, u32::from(group))?;
     put_number_word(line, u64::from(user))
 }
 
@@ -74,22 +62,22 @@ fn put_operation(line: &mut Vec<u8>, op: &AdminOp) -> Result<(), NoMemory>
     ensures { OnOk result (line.new.items ≡ line.old.items ++ behind_spaces (operation_words op.now)) }
 {
     match op {
-        AdminOp::AddUser(user) => put_numbered(line, b"adduser", *user),
-        AdminOp::DelUser(user) => put_numbered(line, b"deluser", *user),
+        AdminOp::AddUser(user) => put_numbered(line, b"adduser", u32::from(*user)),
+        AdminOp::DelUser(user) => put_numbered(line, b"deluser", u32::from(*user)),
         AdminOp::AddObj(number, extent) => {
-            put_numbered(line, b"addobj", *number)?;
+            put_numbered(line, b"addobj", u32::from(*number))?;
             put_extent(line, extent)
         }
-        AdminOp::DelObj(number) => put_numbered(line, b"delobj", *number),
-        AdminOp::AddGroup(group) => put_numbered(line, b"addgroup", *group),
-        AdminOp::DelGroup(group) => put_numbered(line, b"delgroup", *group),
+        AdminOp::DelObj(number) => put_numbered(line, b"delobj", u32::from(*number)),
+        AdminOp::AddGroup(group) => put_numbered(line, b"addgroup", u32::from(*group)),
+        AdminOp::DelGroup(group) => put_numbered(line, b"delgroup", u32::from(*group)),
         AdminOp::AddMember { group, user } => put_paired(line, b"addmember", *group, *user),
         AdminOp::DelMember { group, user } => put_paired(line, b"delmember", *group, *user),
         AdminOp::AddAuth(place, auth) => {
-            put_numbered(line, b"addauth", *place)?;
+            put_numbered(line, b"addauth", u32::from(*place))?;
             put_auth(line, auth.get())
         }
-        AdminOp::DelAuth(place) => put_numbered(line, b"delauth", *place),
+        AdminOp::DelAuth(place) => put_numbered(line, b"delauth", u32::from(*place)),
         AdminOp::Validate(name) => {
             put(line, b" validate")?;
             put_name_word(line, *name)
@@ -144,17 +132,12 @@ fn put_local_edit(line: &mut Vec<u8>, edit: LocalEdit) -> Result<(), NoMemory>
 {
     match edit {
         LocalEdit::Insert { at, letter } => {
-            put(line, b" insert")?;
-            put_number_word(line, u64::from(at))?;
+            put_numbered(line, b"insert", at)?;
             put_piece_word(line, letter.bytes())
         }
-        LocalEdit::Delete { at } => {
-            put(line, b" delete")?;
-            put_number_word(line, u64::from(at))
-        }
+        LocalEdit::Delete { at } => put_numbered(line, b"delete", at),
         LocalEdit::Update { at, letter } => {
-            put(line, b" update")?;
-            put_number_word(line, u64::from(at))?;
+            put_numbered(line, b"update", at)?;
             put_piece_word(line, letter.bytes())
         }
     }

@@ -34,6 +34,15 @@ pub fn put_number_word(line: &mut Vec<u8>, number: u64) -> Result<(), NoMemory>
     put_number(line, number)
 }
 
+/// Appends a word and a number, each behind a space.
+pub(crate) fn put_numbered(line: &mut Vec<u8>, word: &[u8], number: u32) -> Result<(), NoMemory>
+    ensures { OnOk result (line.new.items ≡ line.old.items ++ behind_spaces (word.now ∷ decimal number ∷ [])) }
+{
+    put(line, b" ")?;
+    put(line, word)?;
+    put_number_word(line, u64::from(number))
+}
+
 /// Appends a name.
 pub(crate) fn put_name(line: &mut Vec<u8>, name: Name) -> Result<(), NoMemory>
     ensures { OnOk result (line.new.items ≡ line.old.items ++ name_text name) }
