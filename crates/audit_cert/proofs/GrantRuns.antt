@@ -9,6 +9,7 @@ use Rattle.coop_request.specs.Request.{Request, user_of}
 use Rattle.policy_book.specs.Entry.{Entry}
 use Rattle.admin_log.specs.Log.{validated_at}
 use Rattle.check_remote.specs.State.{until, judged_versions}
+use Rattle.check_remote.proofs.Walks.{range_first, range_none}
 use Rattle.audit_cert.specs.declared.grant.Grant.{Grant}
 use Rattle.audit_cert.specs.Grants.{granting_at, one_version, put_in_front, grants_over, grants_of}
 
@@ -24,14 +25,6 @@ join_one a b c d n (k ∷ later) = by (eqb n k.by)
         ≡ (if x then grant a k.to n ∷ later else grant a d n ∷ k ∷ later)
     by true = rw (eq-eqb n n refl) refl
     by false = rw (eq-eqb n n refl) refl
-
--- the versions before an end are the first and those behind it
-pub range_first : (a end : ℕ) → a < end → range_with_len a (end - a) ≡ a ∷ range_with_len (a + 1) (end - (a + 1))
-range_first a end lt = let more : end - a ≡ suc (end - (a + 1)) = omega arith in ap (range_with_len a) more
-
--- none is behind it
-pub range_none : (a end : ℕ) → end ≤ a → range_with_len a (end - a) ≡ []
-range_none a end le = let none : end - a ≡ 0 = omega arith in ap (range_with_len a) none
 
 module _ (f : ℕ → Option ℕ) where
   -- the grants from a version on that is granted

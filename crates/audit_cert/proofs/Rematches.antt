@@ -30,9 +30,10 @@ use Rattle.auth_match.proofs.ReachCases.{put_other, without_other}
 use Rattle.admin_log.specs.Log.{policy_at, entry_at}
 use Rattle.check_remote.specs.State.{verdict_at}
 use Rattle.check_remote.proofs.Walks.{entry_next, no_next, next_policy}
-use Rattle.audit_cert.specs.declared.rematch.RematchTable.{RematchTable}
+use Rattle.admin_log.specs.declared.version_table.VersionTable.{VersionTable}
+use Rattle.admin_log.specs.VersionTable.{is_noted}
 use Rattle.audit_cert.specs.Grants.{granting_auth, granting_at}
-use Rattle.audit_cert.specs.Rematches.{rematch_reach, may_rematch_at, is_noted, IsRematchTable}
+use Rattle.audit_cert.specs.Rematches.{rematch_reach, may_rematch_at, IsRematchTable}
 
 -- a user outside a list of one
 outside_one : (v u : ℕ) → has_number (v ∷ []) u ≡ false → eqb v u ≡ false
@@ -124,7 +125,7 @@ same_up_to f a end same (suc n) lt =
     let e : a + suc n ≡ a + n + 1 = omega arith in
     ap f e ∙ same (a + n) (omega arith) (omega (arith, lt, e)) ∙ same_up_to f a end same n (omega (arith, lt, e))
 
-module _ (names : List Name) (log : List Entry) (q : Request) (table : RematchTable) (is : IsRematchTable log table) (a next : ℕ) (within : next ≤ length log + 1)
+module _ (names : List Name) (log : List Entry) (q : Request) (table : VersionTable) (is : IsRematchTable log table) (a next : ℕ) (within : next ≤ length log + 1)
     (none : (v : ℕ) → a + 1 ≤ v → v < next → is_noted table v (user_of q) ≡ false) where
   quiet : (v : ℕ) → a ≤ v → v + 1 < next → may_rematch_at log (v + 1) (user_of q) ≡ false
   quiet v low high = sym (is (v + 1) (user_of q)) ∙ none (v + 1) (omega (arith, low)) high

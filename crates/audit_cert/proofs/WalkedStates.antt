@@ -13,32 +13,12 @@ use Rattle.auth_match.specs.declared.verdict.Verdict.TheVariants.{Granted, Denie
 use Rattle.admin_log.specs.Log.{validated_at}
 use Rattle.request_state.specs.declared.state.State.TheVariants.{Invalid}
 use Rattle.check_remote.specs.State.{verdict_at, denial_by, denial_at, first_denial, state_by, state_of}
-use Rattle.audit_cert.proofs.GrantRuns.{range_first, range_none}
+use Rattle.check_remote.proofs.Walks.{range_none, first_at, first_behind}
 
 -- a verdict that denies nothing is none
 pub no_denial : (v : ℕ) (w : Verdict) → ((by : Option ℕ) → w ≡ Denied by → ⊥) → denial_by v w ≡ None
 no_denial v Granted other = refl
 no_denial v (Denied by) other = absurd (other by refl)
-
-module _ {A : Type 0} (f : ℕ → Option A) where
-  first_at : (a end : ℕ) → a < end → first_of (map f (range_with_len a (end - a))) ≡ option_or (f a) (first_of (map f (range_with_len (a + 1) (end - (a + 1)))))
-  first_at a end lt = ap (λ vs. first_of (map f vs)) (range_first a end lt)
-
-  passed : (n a next end : ℕ) → next ≡ a + n → next ≤ end → ((v : ℕ) → a ≤ v → v < next → f v ≡ None)
-      → first_of (map f (range_with_len a (end - a))) ≡ first_of (map f (range_with_len next (end - next)))
-  passed zero a next end is le none =
-      let same : a ≡ next = omega (arith, is) in
-      ap (λ m. first_of (map f (range_with_len m (end - m)))) same
-  passed (suc n) a next end is le none =
-      let more : next ≡ a + 1 + n = omega (arith, is) in
-      first_at a end (omega (arith, is, le))
-      ∙ ap (λ row. option_or row (first_of (map f (range_with_len (a + 1) (end - (a + 1)))))) (none a (omega arith) (omega (arith, is)))
-      ∙ passed n (a + 1) next end more le (λ v low high. none v (omega (arith, low)) high)
-
-  -- versions that hold nothing may be passed
-  pub first_behind : (a next end : ℕ) → a ≤ next → next ≤ end → ((v : ℕ) → a ≤ v → v < next → f v ≡ None)
-      → first_of (map f (range_with_len a (end - a))) ≡ first_of (map f (range_with_len next (end - next)))
-  first_behind a next end low le none = passed (next - a) a next end (omega (arith, low)) le none
 
 -- the first verdict decides where all that are left say the same
 pub same_decides : (names : List Name) (log : List Entry) (q : Request) (a end : ℕ) (w : Verdict) → a < end → ((v : ℕ) → a ≤ v → v < end → verdict_at names log q v ≡ w)

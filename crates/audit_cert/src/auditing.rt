@@ -12,7 +12,7 @@ use crate::judging::Judging;
 use crate::lines::{put_counts, put_elements, put_frames};
 use crate::opening::open;
 use crate::ranks::Ranks;
-use crate::rematch::RematchTable;
+use crate::rematch::rematch_table;
 use edit_frame::Frame;
 use element_name::NoMemory;
 use std::alloc::Global;
@@ -54,7 +54,7 @@ fn due_certificate(
     let mut due = Vec::new(alloc);
     put_counts(&mut due, ids.len() as u64, u64::from(log.len()))?;
     put_elements(&mut due, places.names())?;
-    let table = RematchTable::of(alloc, log)?;
+    let table = rematch_table(alloc, log)?;
     let judging = Judging {
         log,
         table: &table,

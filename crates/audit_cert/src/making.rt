@@ -10,7 +10,7 @@ use crate::basis::Basis;
 use crate::fail::CertFail;
 use crate::judging::Judging;
 use crate::lines::{put_counts, put_elements, put_requests};
-use crate::rematch::RematchTable;
+use crate::rematch::rematch_table;
 use element_name::NoMemory;
 use peer_core::JournalItem;
 use std::alloc::Global;
@@ -33,7 +33,7 @@ fn certificate_of(
     )?;
     let names = basis.elements.names()?;
     put_elements(&mut lines, &names)?;
-    let table = RematchTable::of(alloc, &basis.log)?;
+    let table = rematch_table(alloc, &basis.log)?;
     let judging = Judging {
         log: &basis.log,
         table: &table,

@@ -6,7 +6,7 @@ use Rattle.admin_log.specs.Log.{policy_at}
 use Rattle.check_remote.specs.State.{judged_versions}
 use Rattle.audit_cert.specs.declared.grant.Grant.{Grant}
 use Rattle.audit_cert.specs.Grants.{granting_auth, granting_at, put_in_front, grants_over}
-use Rattle.audit_cert.specs.Rematches.{is_noted}
+use Rattle.admin_log.specs.VersionTable.{is_noted}
 use Rattle.audit_cert.proofs.GrantRuns.{grant, over_run}
 use Rattle.audit_cert.proofs.Rematches.{granting_between}
 use Rattle.audit_cert.proofs.grant.grants_from.Goals as goal

@@ -5,9 +5,10 @@ use Rattle.auth_match.specs.Requests.{request_verdict}
 use Rattle.admin_log.specs.Log.{validated_at}
 use Rattle.check_remote.specs.State.{verdict_at, denial_by, denial_at, state_by}
 use Rattle.check_remote.proofs.States.{administrator_law}
-use Rattle.audit_cert.specs.Rematches.{is_noted}
+use Rattle.admin_log.specs.VersionTable.{is_noted}
 use Rattle.audit_cert.proofs.Rematches.{verdict_between}
-use Rattle.audit_cert.proofs.WalkedStates.{no_denial, first_behind, same_decides, denied_here}
+use Rattle.check_remote.proofs.Walks.{first_behind}
+use Rattle.audit_cert.proofs.WalkedStates.{no_denial, same_decides, denied_here}
 use Rattle.audit_cert.proofs.walk.state_of.Goals as goal
 
 pub returns-then-user-eq0 : goal.returns-then-user-eq0

@@ -4,7 +4,7 @@ use Rattle.element_name.specs.Cases.{first_of}
 use Rattle.coop_request.specs.Request.{user_of}
 use Rattle.admin_log.specs.Log.{policy_at}
 use Rattle.check_remote.specs.State.{verdict_at, denial_at, first_denial}
-use Rattle.audit_cert.specs.Rematches.{is_noted}
+use Rattle.admin_log.specs.VersionTable.{is_noted}
 use Rattle.audit_cert.proofs.walk.state_of.Given as goal
 
 abbrev pub invariant-loop-next : goal.invariant-loop-next

@@ -1,8 +1,9 @@
 use Rattle.std.proofs.Common.{◌≡◌, ℕ}
 use Rattle.std.specs.Prelude.{◌&&◌, nat_le}
 use Rattle.admin_log.specs.Log.{policy_at}
-use Rattle.audit_cert.specs.Rematches.{is_noted, may_rematch_at}
-use Rattle.audit_cert.proofs.rematch.RematchTable.of.Given as goal
+use Rattle.admin_log.specs.VersionTable.{is_noted}
+use Rattle.audit_cert.specs.Rematches.{may_rematch_at}
+use Rattle.audit_cert.proofs.rematch.rematch_table.Given as goal
 
 abbrev pub invariant-loop-before : goal.invariant-loop-before
 invariant-loop-before l =
