@@ -2,10 +2,10 @@
 
 /**
  * What follows the end of a link: it is dialled `again` after a while, or at once (`now`), or no more (`end`), or again to read alone
- * (`read`), since what this page would send isn't taken; or the page looks where its document is (`seek`); or another page of the device
- * is linked in its place (`other`).
+ * (`read`), since what this page would send isn't taken; or the page looks where its document is (`seek`), or opens the one that took its place
+ * (`renewed`); or another page of the device is linked in its place (`other`).
  *
- * @typedef {'again' | 'now' | 'end' | 'read' | 'seek' | 'other'} Then
+ * @typedef {'again' | 'now' | 'end' | 'read' | 'seek' | 'renewed' | 'other'} Then
  * @typedef {{ words: string, then: Then }} Close
  */
 
@@ -36,6 +36,7 @@ const CLOSES = {
   4021: { words: 'The server lacks something that comes before what this page sends. The page connects again.', then: 'again' },
   4022: { words: 'Too many of your edits were denied, so the server takes no more of them until it opens this document anew. You can read on.', then: 'read' },
   4023: { words: 'This document is nearly full, and what room is left is for its owners. You can read on.', then: 'read' },
+  4024: { words: 'An owner renewed this document. The new one is opened.', then: 'renewed' },
 };
 
 /** @type {Close} */

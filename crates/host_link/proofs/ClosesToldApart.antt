@@ -1,7 +1,7 @@
 -- Each ending has its own code.
 use Rattle.std.proofs.Common.{◌≡◌, ℕ, ◌==◌, ◌∙◌, Option, Some, find, refl, sym, ap, lit<, lit≤}
 use Rattle.host_link.specs.declared.ending.Ending.{Ending}
-use Rattle.host_link.specs.declared.ending.Ending.TheVariants.{GoingAway, OtherVersion, BadMessage, OnlyReads, Silent, Slow, OtherDocument, NoDocument, Closed, Replaced, TooManyLinks, TooManyDevices, NewRole, WrongSecret, TooManyTries, ForgedSite, EntryOffered, AheadOfHost, StampAhead, Misses, DeniedTooOften, OwnersReserve, StoreFull, DiskFault, NoMemory}
+use Rattle.host_link.specs.declared.ending.Ending.TheVariants.{GoingAway, OtherVersion, BadMessage, OnlyReads, Silent, Slow, OtherDocument, NoDocument, Renewed, Closed, Replaced, TooManyLinks, TooManyDevices, NewRole, WrongSecret, TooManyTries, ForgedSite, EntryOffered, AheadOfHost, StampAhead, Misses, DeniedTooOften, OwnersReserve, StoreFull, DiskFault, NoMemory}
 use Rattle.host_link.specs.declared.ending.TheConstants.{ALL_ENDINGS}
 use Rattle.host_link.specs.Closes.{close_code, ServerCodeLaw, ReasonLaw, OneEndingLaw, AllEndingsLaw}
 
@@ -14,6 +14,7 @@ server_code Silent = refl
 server_code Slow = refl
 server_code OtherDocument = refl
 server_code NoDocument = refl
+server_code Renewed = refl
 server_code Closed = refl
 server_code Replaced = refl
 server_code TooManyLinks = refl
@@ -41,6 +42,7 @@ reason Silent = lit≤ tt
 reason Slow = lit≤ tt
 reason OtherDocument = lit≤ tt
 reason NoDocument = lit≤ tt
+reason Renewed = lit≤ tt
 reason Closed = lit≤ tt
 reason Replaced = lit≤ tt
 reason TooManyLinks = lit≤ tt
@@ -68,23 +70,24 @@ all_endings Silent = (4, lit< tt, refl)
 all_endings Slow = (5, lit< tt, refl)
 all_endings OtherDocument = (6, lit< tt, refl)
 all_endings NoDocument = (7, lit< tt, refl)
-all_endings Closed = (8, lit< tt, refl)
-all_endings Replaced = (9, lit< tt, refl)
-all_endings TooManyLinks = (10, lit< tt, refl)
-all_endings TooManyDevices = (11, lit< tt, refl)
-all_endings NewRole = (12, lit< tt, refl)
-all_endings WrongSecret = (13, lit< tt, refl)
-all_endings TooManyTries = (14, lit< tt, refl)
-all_endings ForgedSite = (15, lit< tt, refl)
-all_endings EntryOffered = (16, lit< tt, refl)
-all_endings AheadOfHost = (17, lit< tt, refl)
-all_endings StampAhead = (18, lit< tt, refl)
-all_endings Misses = (19, lit< tt, refl)
-all_endings DeniedTooOften = (20, lit< tt, refl)
-all_endings OwnersReserve = (21, lit< tt, refl)
-all_endings StoreFull = (22, lit< tt, refl)
-all_endings DiskFault = (23, lit< tt, refl)
-all_endings NoMemory = (24, lit< tt, refl)
+all_endings Renewed = (8, lit< tt, refl)
+all_endings Closed = (9, lit< tt, refl)
+all_endings Replaced = (10, lit< tt, refl)
+all_endings TooManyLinks = (11, lit< tt, refl)
+all_endings TooManyDevices = (12, lit< tt, refl)
+all_endings NewRole = (13, lit< tt, refl)
+all_endings WrongSecret = (14, lit< tt, refl)
+all_endings TooManyTries = (15, lit< tt, refl)
+all_endings ForgedSite = (16, lit< tt, refl)
+all_endings EntryOffered = (17, lit< tt, refl)
+all_endings AheadOfHost = (18, lit< tt, refl)
+all_endings StampAhead = (19, lit< tt, refl)
+all_endings Misses = (20, lit< tt, refl)
+all_endings DeniedTooOften = (21, lit< tt, refl)
+all_endings OwnersReserve = (22, lit< tt, refl)
+all_endings StoreFull = (23, lit< tt, refl)
+all_endings DiskFault = (24, lit< tt, refl)
+all_endings NoMemory = (25, lit< tt, refl)
 
 -- the ending of a code
 by_code : ℕ → Option Ending
@@ -101,6 +104,7 @@ found Silent = refl
 found Slow = refl
 found OtherDocument = refl
 found NoDocument = refl
+found Renewed = refl
 found Closed = refl
 found Replaced = refl
 found TooManyLinks = refl

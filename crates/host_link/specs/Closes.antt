@@ -1,7 +1,7 @@
 -- How a link is closed: the code and the words of each ending, and what RFC 6455 lets a server say.
 use Rattle.std.specs.Prelude.{◌≡◌, ◌≤◌, ℕ, List, Bool, true, ◌&&◌, ◌||◌, ◌==◌, nat_le, length, codes, Contains}
 use Rattle.host_link.specs.declared.ending.Ending.{Ending}
-use Rattle.host_link.specs.declared.ending.Ending.TheVariants.{GoingAway, OtherVersion, BadMessage, OnlyReads, Silent, Slow, OtherDocument, NoDocument, Closed, Replaced, TooManyLinks, TooManyDevices, NewRole, WrongSecret, TooManyTries, ForgedSite, EntryOffered, AheadOfHost, StampAhead, Misses, DeniedTooOften, OwnersReserve, StoreFull, DiskFault, NoMemory}
+use Rattle.host_link.specs.declared.ending.Ending.TheVariants.{GoingAway, OtherVersion, BadMessage, OnlyReads, Silent, Slow, OtherDocument, NoDocument, Renewed, Closed, Replaced, TooManyLinks, TooManyDevices, NewRole, WrongSecret, TooManyTries, ForgedSite, EntryOffered, AheadOfHost, StampAhead, Misses, DeniedTooOften, OwnersReserve, StoreFull, DiskFault, NoMemory}
 use Rattle.host_link.specs.declared.ending.TheConstants.{ALL_ENDINGS}
 use Rattle.host_link.specs.declared.limits.TheConstants.{MAX_REASON}
 
@@ -15,6 +15,7 @@ close_of Silent = (4007, codes "silent for too long")
 close_of Slow = (4008, codes "took nothing for too long")
 close_of OtherDocument = (4013, codes "another document")
 close_of NoDocument = (4014, codes "no such document")
+close_of Renewed = (4024, codes "the document was renewed")
 close_of Closed = (4015, codes "the device was closed")
 close_of Replaced = (4016, codes "a newer link of this device")
 close_of TooManyLinks = (4017, codes "too many links of this person")

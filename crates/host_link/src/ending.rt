@@ -21,6 +21,8 @@ pub enum Ending {
     OtherDocument,
     /// There is no such document, or it can't be opened.
     NoDocument,
+    /// The document was renewed: a new one has its place and its text.
+    Renewed,
     /// Its device was closed.
     Closed,
     /// A newer link of its device stands.
@@ -58,7 +60,7 @@ pub enum Ending {
 }
 
 /// How many there are.
-pub const ENDINGS: usize = 25;
+pub const ENDINGS: usize = 26;
 
 /// All of them.
 pub const ALL_ENDINGS: [Ending; ENDINGS] = [
@@ -70,6 +72,7 @@ pub const ALL_ENDINGS: [Ending; ENDINGS] = [
     Ending::Slow,
     Ending::OtherDocument,
     Ending::NoDocument,
+    Ending::Renewed,
     Ending::Closed,
     Ending::Replaced,
     Ending::TooManyLinks,
@@ -104,6 +107,7 @@ impl Ending {
             Ending::Slow => (4008, "took nothing for too long"),
             Ending::OtherDocument => (4013, "another document"),
             Ending::NoDocument => (4014, "no such document"),
+            Ending::Renewed => (4024, "the document was renewed"),
             Ending::Closed => (4015, "the device was closed"),
             Ending::Replaced => (4016, "a newer link of this device"),
             Ending::TooManyLinks => (4017, "too many links of this person"),

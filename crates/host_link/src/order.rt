@@ -29,6 +29,10 @@ pub enum HouseOrder<'a> {
     Move { from: &'a str, to: &'a str },
     /// A document out of the way.
     Archive { name: &'a str },
+    /// A renewal of a document, which takes its place.
+    Renew { name: &'a str },
+    /// The same of the document that the link leads to.
+    RenewHere,
 }
 
 // A number.
@@ -107,16 +111,28 @@ fn read_archive(rest: &str) -> Option<HouseOrder<'_>> {
     Some(HouseOrder::Archive { name })
 }
 
+fn read_renew(rest: &str) -> Option<HouseOrder<'_>> {
+    let name = document_name(rest)?;
+    Some(HouseOrder::Renew { name })
+}
+
+// An order of one word.
+fn read_word<'a>(word: &str) -> Option<HouseOrder<'a>> {
+    match word.as_bytes() {
+        b"keys" => Some(HouseOrder::Keys),
+        b"documents" => Some(HouseOrder::Documents),
+        b"renew" => Some(HouseOrder::RenewHere),
+        _ => None,
+    }
+}
+
 /// Reads an order about people or documents: `person ROLE NAME`, `invite PERSON`, `role PERSON ROLE`, `rename PERSON NAME`,
-/// `close invitation NUMBER`, `close device SITE`, `keys`, `documents`, `make NAME`, `move NAME NAME`, `archive NAME`.
+/// `close invitation NUMBER`, `close device SITE`, `keys`, `documents`, `make NAME`, `move NAME NAME`, `archive NAME`,
+/// `renew NAME`, `renew`.
 pub fn read_house_order(line: &str) -> Option<HouseOrder<'_>> {
-    if line == "keys" {
-        return Some(HouseOrder::Keys);
-    }
-    if line == "documents" {
-        return Some(HouseOrder::Documents);
-    }
-    let (word, rest) = line.split_once(' ')?;
+    let Some((word, rest)) = line.split_once(' ') else {
+        return read_word(line);
+    };
     match word.as_bytes() {
         b"person" => read_person(rest),
         b"invite" => read_invite(rest),
@@ -126,6 +142,7 @@ pub fn read_house_order(line: &str) -> Option<HouseOrder<'_>> {
         b"make" => read_make(rest),
         b"move" => read_move(rest),
         b"archive" => read_archive(rest),
+        b"renew" => read_renew(rest),
         _ => None,
     }
 }
