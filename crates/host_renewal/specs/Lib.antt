@@ -1,0 +1,4 @@
+pub mod Faults
+pub mod Formers
+pub mod Room
+pub mod Steps
