@@ -1,4 +1,5 @@
 pub mod Endings
+pub mod Renewed
 pub mod Settled
 pub mod Sealing
 pub mod HappensAt

@@ -4,12 +4,14 @@ ghost use Rattle.std.specs.Prelude.{◌≡◌, None, is_some, IsTrue};
 mod linking;
 mod opening;
 mod ordering;
+mod renewing;
 mod saving;
 mod talking;
 
 use crate::fault::OpenFault;
 use crate::opened::Opened;
 use host_link::Identity;
+use host_renewal::Former;
 use std::alloc::{AllocError, Global};
 use std::marker::Model;
 use std::mem;
@@ -22,7 +24,7 @@ const NO_IDENTITY: Identity = [0; 16];
 enum Standing {
     Closed,
     Broken(OpenFault),
-    // Its identity is lost, so it isn't opened.
+    // Its identity is lost, or it doesn't count any more, so it isn't opened.
     Lost(OpenFault),
     Gone,
 }
@@ -33,6 +35,8 @@ enum Standing {
 pub struct Document<'a> {
     name: String,
     identity: Identity,
+    // The documents whose place it has taken.
+    formers: Vec<Former>,
     // The host of its text, while it is open.
     opened: Option<Opened<'a>>,
     // How it stands else.
@@ -49,25 +53,27 @@ impl<'a> Model for Document<'a> {
 }
 
 impl<'a> Document<'a> {
-    /// A document that is closed.
-    pub fn new(name: String, identity: Identity) -> Document<'a>
+    /// A document that is closed, and has taken the place of these.
+    pub fn new(name: String, identity: Identity, formers: Vec<Former>) -> Document<'a>
         ensures { result ≡ None }
     {
         Document {
             name,
             identity,
+            formers,
             opened: None,
             standing: Standing::Closed,
         }
     }
 
     /// A document whose identity can't be read. It is never opened.
-    pub fn lost(name: String, fault: OpenFault) -> Document<'a>
+    pub fn lost(name: String, fault: OpenFault, formers: Vec<Former>) -> Document<'a>
         ensures { result ≡ None }
     {
         Document {
             name,
             identity: NO_IDENTITY,
+            formers,
             opened: None,
             standing: Standing::Lost(fault),
         }
@@ -152,6 +158,14 @@ impl<'a> Document<'a> {
         ensures { self.new ≡ None }
     {
         self.replace_host(None);
+    }
+
+    /// Closes it as one that isn't opened any more, for this reason.
+    pub fn lose(&mut self, fault: OpenFault)
+        ensures { self.new ≡ None }
+    {
+        self.shut();
+        self.standing = Standing::Lost(fault);
     }
 
     /// Closes it, as it was put away.

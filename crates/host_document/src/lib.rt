@@ -9,6 +9,7 @@ mod document;
 mod endings;
 mod fault;
 mod opened;
+mod renewal;
 mod row;
 mod rules;
 mod text;

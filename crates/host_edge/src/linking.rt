@@ -16,7 +16,7 @@ use edit_frame::{Frame, FrameFail, first_frame};
 use edit_message::Message;
 use host_core::Role;
 use host_house::{Consequence, Done};
-use host_link::{Ending, Said, caret_text, read_said};
+use host_link::{Ending, HouseOrder, Said, caret_text, read_house_order, read_said};
 use host_socket::{After, Came, Happening, next_message, no_memory, send_text};
 use line_write::answer_line;
 use peer_step::Answer;
@@ -158,6 +158,10 @@ fn follow(desk: &mut Desk<'_>, consequence: Consequence) {
             desk.people_changed = true;
             desk.end_all(Place::Document(number), Ending::NoDocument);
         }
+        Consequence::Renewed(number) => {
+            desk.people_changed = true;
+            desk.end_all(Place::Document(number), Ending::Renewed);
+        }
     }
 }
 
@@ -214,6 +218,7 @@ fn leave_shut(
     let (why, is_saved) = match consequence {
         Consequence::Role(_) => (Ending::NewRole, true),
         Consequence::Moved(_) => (Ending::NoDocument, true),
+        Consequence::Renewed(_) => (Ending::Renewed, true),
         _ => (Ending::NoDocument, false),
     };
     desk.end_all(Place::Document(number), why);
@@ -223,8 +228,39 @@ fn leave_shut(
     After::Ends(why)
 }
 
-// Takes orders, and does what comes of them.
-fn take_order(desk: &mut Desk<'_>, linked: &mut Linked, number: u32, lines: &str) -> After {
+// Whether an owner orders a renewal, which ends the links of a document.
+fn orders_renewal(desk: &Desk<'_>, linked: &Linked, lines: &str) -> bool {
+    let is_owner = desk.house.role(linked.person) == Some(Role::Owner);
+    match read_house_order(lines) {
+        Some(HouseOrder::Renew { .. }) => is_owner,
+        Some(HouseOrder::RenewHere) => is_owner,
+        _ => false,
+    }
+}
+
+// Takes orders. In front of a renewal all that came is saved and each link is given what it lacks, so that who is ended by it knows
+// what of his the host has.
+fn take_order(
+    desk: &mut Desk<'_>,
+    linked: &mut Linked,
+    slot: usize,
+    number: u32,
+    lines: &str,
+) -> After {
+    if orders_renewal(desk, linked, lines) {
+        desk.commit();
+        desk.push_rooms();
+        match push(desk, linked, slot) {
+            After::Gone => return After::Gone,
+            After::Ends(why) => return After::Ends(why),
+            _ => {}
+        }
+    }
+    do_order(desk, linked, number, lines)
+}
+
+// Does what is ordered, and what comes of it.
+fn do_order(desk: &mut Desk<'_>, linked: &mut Linked, number: u32, lines: &str) -> After {
     let Ok(done) = make_order(desk, linked, number, lines) else {
         return no_memory();
     };
@@ -261,7 +297,7 @@ fn take_caret(desk: &mut Desk<'_>, linked: &Linked, slot: usize, words: &str) ->
 // Does what a text says.
 fn take_text(desk: &mut Desk<'_>, linked: &mut Linked, slot: usize, text: &str) -> After {
     match read_said(text) {
-        Said::Order { number, lines } => take_order(desk, linked, number, lines),
+        Said::Order { number, lines } => take_order(desk, linked, slot, number, lines),
         Said::Caret(words) => take_caret(desk, linked, slot, words),
         Said::Bad => After::Ends(Ending::BadMessage),
     }

@@ -17,6 +17,8 @@ pub enum Consequence {
     Documents,
     /// The document of this number has another name, or was put away: its links end.
     Moved(usize),
+    /// The document of this number gave way to its renewal: its links end.
+    Renewed(usize),
 }
 
 /// What came of an order: the text that answers it, and what it changed.

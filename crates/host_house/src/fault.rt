@@ -1,6 +1,8 @@
 //! Why a house isn't opened, or a change of it isn't made.
 
+use element_name::NoMemory;
 use host_people::BookFault;
+use host_renewal::RenewalFault;
 use std::alloc::{AllocError, AllocFailed};
 use std::io;
 
@@ -15,6 +17,8 @@ pub enum HouseFault {
     Nobody,
     /// There is no such document, or there is one already.
     NoDocument,
+    /// The document isn't renewed.
+    Renewal(RenewalFault),
     /// Memory is wanting.
     NoMemory,
 }
@@ -22,6 +26,18 @@ pub enum HouseFault {
 impl From<BookFault> for HouseFault {
     fn from(fault: BookFault) -> HouseFault {
         HouseFault::Book(fault)
+    }
+}
+
+impl From<RenewalFault> for HouseFault {
+    fn from(fault: RenewalFault) -> HouseFault {
+        HouseFault::Renewal(fault)
+    }
+}
+
+impl From<NoMemory> for HouseFault {
+    fn from(_: NoMemory) -> HouseFault {
+        HouseFault::NoMemory
     }
 }
 
@@ -53,6 +69,7 @@ impl HouseFault {
             HouseFault::Failed => "the folder failed",
             HouseFault::Nobody => "nobody of this number",
             HouseFault::NoDocument => "no such document, or there is one",
+            HouseFault::Renewal(fault) => fault.words(),
             HouseFault::NoMemory => "no memory",
         }
     }

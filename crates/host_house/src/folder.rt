@@ -1,10 +1,12 @@
 //! Documents as folders. A document stands in a folder of its name, with its identity, its steps and their seal. A folder that
 //! is made or put away is named at last, so that it is whole wherever it stands.
 
+use crate::formers::known_formers;
 use hex::{decode_to_slice, encode};
 use host_document::{Document, OpenFault};
 use host_link::{Identity, is_document_name};
-use std::alloc::Global;
+use host_renewal::Former;
+use std::alloc::{AllocError, Global};
 use std::fs;
 use std::fs::File;
 use std::io::{self, ErrorKind, Write};
@@ -70,10 +72,11 @@ fn put_document(
     documents: &mut Vec<Document<'_>>,
     name: String,
     identity: Result<Identity, OpenFault>,
+    formers: Vec<Former>,
 ) -> io::Result<()> {
     let document = match identity {
-        Ok(identity) => Document::new(name, identity),
-        Err(fault) => Document::lost(name, fault),
+        Ok(identity) => Document::new(name, identity, formers),
+        Err(fault) => Document::lost(name, fault, formers),
     };
     documents.push(document)?;
     Ok(())
@@ -89,7 +92,8 @@ fn put_documents(
         let entry = entry?;
         if let Some(identity) = find_identity(rt, folder, entry.file_name()) {
             let name = String::from_str(rt.alloc(), entry.file_name())?;
-            put_document(documents, name, identity)?;
+            let formers = known_formers(rt, folder, name.as_str());
+            put_document(documents, name, identity, formers)?;
         }
     }
     Ok(())
@@ -121,15 +125,15 @@ pub(crate) fn write_file(rt: &HostRuntime, path: &str, bytes: &[u8]) -> io::Resu
     file.sync_all()
 }
 
-// Writes an identity, and waits until it is on the disk.
-fn write_identity(rt: &HostRuntime, path: &str, identity: &Identity) -> io::Result<()> {
+/// Writes an identity, and waits until it is on the disk.
+pub(crate) fn write_identity(rt: &HostRuntime, path: &str, identity: &Identity) -> io::Result<()> {
     let digits = encode(rt.alloc(), identity.as_slice())?;
     let line = format!(in rt.alloc(); "{digits}\n")?;
     write_file(rt, path, line.as_str().as_bytes())
 }
 
-// Waits until the names in a folder are on the disk, which a sync of what they name doesn't.
-fn sync_names(rt: &HostRuntime, folder: &str) -> io::Result<()> {
+/// Waits until the names in a folder are on the disk, which a sync of what they name doesn't.
+pub(crate) fn sync_names(rt: &HostRuntime, folder: &str) -> io::Result<()> {
     File::open(rt, folder)?.sync_all()
 }
 
@@ -141,9 +145,14 @@ fn sync_all_names(rt: &HostRuntime, folders: &[&str]) -> io::Result<()> {
     Ok(())
 }
 
-// Names a folder anew, and waits until that is on the disk, in the folders that have the names. Where it can't be, the folder has
-// its former name again.
-fn rename_synced(rt: &HostRuntime, old: &str, new: &str, within: &[&str]) -> io::Result<()> {
+/// Names a folder anew, and waits until that is on the disk, in the folders that have the names. Where it can't be, the folder has
+/// its former name again.
+pub(crate) fn rename_synced(
+    rt: &HostRuntime,
+    old: &str,
+    new: &str,
+    within: &[&str],
+) -> io::Result<()> {
     fs::rename(rt, old, new)?;
     match sync_all_names(rt, within) {
         Ok(()) => Ok(()),
@@ -190,6 +199,17 @@ pub(crate) fn move_folder(rt: &HostRuntime, folder: &str, from: &str, to: &str) 
     rename_synced(rt, old.as_str(), new.as_str(), &[folder])
 }
 
+/// Where a document of this name and identity stands that was put away.
+pub(crate) fn archive_path(
+    alloc: Global,
+    folder: &str,
+    name: &str,
+    identity: &Identity,
+) -> Result<String, AllocError> {
+    let digits = encode(alloc, identity.as_slice())?;
+    format!(in alloc; "{folder}/.archive/{name}.{digits}")
+}
+
 /// Puts a document away, below `.archive`, by its name and its identity.
 pub(crate) fn archive_folder(
     rt: &HostRuntime,
@@ -198,10 +218,9 @@ pub(crate) fn archive_folder(
     identity: &Identity,
 ) -> io::Result<()> {
     let alloc = rt.alloc();
-    let digits = encode(alloc, identity.as_slice())?;
     let away = format!(in alloc; "{folder}/.archive")?;
     fs::create_dir_all(rt, away.as_str())?;
     let old = format!(in alloc; "{folder}/{name}")?;
-    let new = format!(in alloc; "{folder}/.archive/{name}.{digits}")?;
+    let new = archive_path(alloc, folder, name, identity)?;
     rename_synced(rt, old.as_str(), new.as_str(), &[away.as_str(), folder])
 }

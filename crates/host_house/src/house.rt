@@ -4,19 +4,23 @@ ghost use Rattle.host_people.specs.declared.fault.BookFault.{BookFault};
 ghost use Rattle.host_house.specs.declared.fault.HouseFault.{HouseFault};
 
 mod making;
+mod renewing;
 mod serving;
 mod showing;
 mod tending;
 
 use crate::fault::HouseFault;
 use crate::folder::{find_documents, make_folder, make_house, new_identity};
+use crate::renewal::end_renewals;
 use host_core::Role;
 use host_document::Document;
 use host_link::{Identity, is_document_name};
 use host_people::{Book, Change, People};
 use peer_disk::FileDisk;
 pub use serving::Admitted;
+pub use showing::Verified;
 use std::alloc::Global;
+use std::io;
 use std::marker::Model;
 
 // The file of the people in the folder. No document is called so.
@@ -66,6 +70,12 @@ fn first_document_name(folder: &str) -> &str {
     }
 }
 
+// The documents that stand in a folder, behind the renewals that a crash broke off.
+fn settled_documents<'a>(rt: &HostRuntime, folder: &str) -> io::Result<Vec<Document<'a>>> {
+    end_renewals(rt, folder)?;
+    find_documents(rt, folder)
+}
+
 // The book of the people in a folder, with its disk.
 fn open_book<'a>(rt: &'a HostRuntime, folder: &str) -> Result<(Book, FileDisk<'a>), HouseFault> {
     let alloc = rt.alloc();
@@ -81,7 +91,8 @@ fn open_book<'a>(rt: &'a HostRuntime, folder: &str) -> Result<(Book, FileDisk<'a
 }
 
 impl<'a> House<'a> {
-    /// Opens the house of a folder, which is made where it isn't there. The address is that of its first page.
+    /// Opens the house of a folder, which is made where it isn't there. The address is that of its first page. A renewal of a
+    /// document that counts and that a crash broke off is ended.
     pub fn open(
         rt: &'a HostRuntime,
         folder: &str,
@@ -90,7 +101,7 @@ impl<'a> House<'a> {
         make_house(rt, folder)?;
         let owned = String::from_str(rt.alloc(), folder)?;
         let (book, disk) = open_book(rt, folder)?;
-        match find_documents(rt, folder) {
+        match settled_documents(rt, folder) {
             Ok(documents) => Ok(House {
                 rt,
                 alloc: rt.alloc(),
@@ -199,7 +210,8 @@ impl<'a> House<'a> {
     fn make_document(&mut self, name: &str) -> Result<(), HouseFault> {
         let identity = new_identity(self.rt)?;
         let owned = String::from_str(self.alloc, name)?;
-        self.documents.push(Document::new(owned, identity))?;
+        self.documents
+            .push(Document::new(owned, identity, Vec::new(self.alloc)))?;
         self.make_last(name, &identity)
     }
 }

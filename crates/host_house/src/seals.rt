@@ -34,8 +34,13 @@ fn read_seal(rt: &HostRuntime, folder: &str, name: &str) -> Result<Option<Seal>,
     }
 }
 
-// Writes the seal of the document of this name in place of the former one.
-fn write_seal(rt: &HostRuntime, folder: &str, name: &str, seal: &Seal) -> io::Result<()> {
+/// Writes the seal of the document in this folder in place of the former one.
+pub(crate) fn write_seal(
+    rt: &HostRuntime,
+    folder: &str,
+    name: &str,
+    seal: &Seal,
+) -> io::Result<()> {
     let alloc = rt.alloc();
     let coming = format!(in alloc; "{folder}/{name}/seal.new")?;
     let bytes = seal.to_bytes(alloc)?;

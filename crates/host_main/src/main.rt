@@ -9,7 +9,7 @@ mod setting;
 use anyhow::{Result, anyhow};
 use command::all_words;
 use host_edge::Desk;
-use host_house::{House, HouseFault};
+use host_house::{House, HouseFault, Verified};
 use host_http::{Origins, Pages, Routes};
 use host_people::BookFault;
 use host_socket::{Limits, WrongKeys};
@@ -185,7 +185,8 @@ fn has_house(rt: &HostRuntime, folder: &str) -> Result<bool> {
 }
 
 // Tells what was found in a house of which some document may not be open.
-fn tell_found(rt: &HostRuntime, house: &House<'_>, text: &str) -> Result<()> {
+fn tell_found(rt: &HostRuntime, house: &House<'_>, found: &Verified) -> Result<()> {
+    let text = found.text.as_str();
     print!(rt; "{text}")?;
     if house
         .documents()
@@ -194,13 +195,16 @@ fn tell_found(rt: &HostRuntime, house: &House<'_>, text: &str) -> Result<()> {
     {
         return Err(anyhow!("a document can't be opened"));
     }
+    if !found.is_chain_whole {
+        return Err(anyhow!("a former document isn't what it was"));
+    }
     Ok(())
 }
 
 // Looks at the documents of a house.
 fn verify_house(rt: &HostRuntime, folder: &String, house: &mut House<'_>) -> Result<()> {
     match house.verify() {
-        Ok(text) => tell_found(rt, house, text.as_str()),
+        Ok(found) => tell_found(rt, house, &found),
         Err(fault) => Err(told(folder, fault)),
     }
 }

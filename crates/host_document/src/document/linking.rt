@@ -4,12 +4,14 @@ ghost use Rattle.host_core.specs.Past.{open_link, device_of};
 ghost use Rattle.host_document.specs.Admitted.{IsAdmitted};
 
 use super::Document;
+use super::renewing::claims_former;
 use host_core::{LinkId, Role};
 use host_link::{Claim, Ending};
 use host_people::People;
 
 impl<'a> Document<'a> {
-    /// Admits a link of a device of a person, by what it says of itself. A writer's site becomes a user, and that is saved.
+    /// Admits a link of a device of a person, by what it says of itself. A writer's site becomes a user, and that is saved. A
+    /// link that knows a document whose place this one has taken is told so.
     pub fn admit(
         &mut self,
         people: &People,
@@ -19,6 +21,9 @@ impl<'a> Document<'a> {
     ) -> Result<LinkId, Ending>
         ensures { IfOk result (λ link. IsSomeAnd self.new (IsAdmitted claim.now link)) }
     {
+        if claims_former(&self.formers, claim) {
+            return Err(Ending::Renewed);
+        }
         let identity = self.identity;
         match &mut self.opened {
             Some(opened) => opened.admit(people, person, role, identity, claim),

@@ -61,8 +61,8 @@ impl<'a> Opened<'a> {
         }
     }
 
-    // The seal of what is saved.
-    fn seal(&mut self, alloc: Global) -> Result<Seal, NoMemory>
+    /// The seal of what is saved.
+    pub(crate) fn seal(&mut self, alloc: Global) -> Result<Seal, NoMemory>
         ensures seal { IfOk result (λ seal. IsSealOf seal self.old) }
         ensures unchanged { self.new ≡ self.old }
     {

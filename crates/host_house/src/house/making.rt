@@ -115,8 +115,10 @@ impl<'a> House<'a> {
             HouseOrder::Make { name } => with(self.make_named(name), Consequence::Documents),
             HouseOrder::Move { from, to } => self.move_from(from, to),
             HouseOrder::Archive { name } => self.archive_from(name),
+            HouseOrder::Renew { name } => self.renew_named(name),
             HouseOrder::Documents => told(self.documents_text()),
-            _ => told(self.keys()),
+            HouseOrder::Keys => told(self.keys()),
+            _ => Err(HouseFault::NoDocument),
         }
     }
 }

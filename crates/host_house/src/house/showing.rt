@@ -1,12 +1,24 @@
 //! What a house tells of its documents and keys.
 
 use super::House;
+use crate::chain::put_former_line;
 use crate::fault::HouseFault;
+use crate::formers::{FormersFile, read_formers};
 use hex::encode;
 use host_document::Document;
 use host_people::Holder;
+use host_renewal::Former;
 use std::alloc::{AllocError, Global};
 use std::collections::BTreeMap;
+
+/// What was found of the documents of a house.
+#[derive(Drop)]
+pub struct Verified {
+    /// A line for each document, and behind it one for each former document.
+    pub text: String,
+    /// Whether each former document is what it was.
+    pub is_chain_whole: bool,
+}
 
 // The word for whether a key is open.
 fn key_word(holder: &Holder) -> &'static str {
@@ -51,15 +63,58 @@ impl<'a> House<'a> {
         Ok(line)
     }
 
-    /// Opens each document and closes it again, and tells what was found, a line each: `NAME: STATE, COUNT messages`, and where
-    /// these aren't what was sealed, how many were, and that a copy is to be restored. Nothing is saved, and nothing sealed.
-    pub fn verify(&mut self) -> Result<String, HouseFault> {
-        let mut text = String::new(self.alloc);
-        for number in 0..self.documents.len() {
-            let line = self.verify_document(number)?;
-            text.push_str(line.as_str())?;
+    // Looks at these former documents of the one of a name, and says whether each is what it was.
+    fn verify_row(
+        &self,
+        name: &str,
+        formers: &[Former],
+        text: &mut String,
+    ) -> Result<bool, HouseFault> {
+        let mut is_whole = true;
+        for former in formers {
+            let folder = self.folder.as_str();
+            let is_same = put_former_line(self.rt, folder, name, former, text)?;
+            is_whole = is_whole && is_same;
         }
-        Ok(text)
+        Ok(is_whole)
+    }
+
+    // Looks at the former documents of the one of a name, and says whether each is what it was.
+    fn verify_formers(&self, name: &str, text: &mut String) -> Result<bool, HouseFault> {
+        match read_formers(self.rt, self.folder.as_str(), name)? {
+            FormersFile::Row(row) => self.verify_row(name, &row, text),
+            FormersFile::Damaged => {
+                let line = format!(in self.alloc; "{name} before: damaged\n")?;
+                text.push_str(line.as_str())?;
+                Ok(false)
+            }
+        }
+    }
+
+    // Looks at the document of a number, and at its former ones.
+    fn verify_all_of(&mut self, number: usize, found: &mut Verified) -> Result<(), HouseFault> {
+        let line = self.verify_document(number)?;
+        found.text.push_str(line.as_str())?;
+        let Some(document) = self.documents.get(number) else {
+            return Ok(());
+        };
+        let is_whole = self.verify_formers(document.name(), &mut found.text)?;
+        found.is_chain_whole = found.is_chain_whole && is_whole;
+        Ok(())
+    }
+
+    /// Opens each document and closes it again, and tells what was found, a line each: `NAME: STATE, COUNT messages`, and where
+    /// these aren't what was sealed, how many were, and that a copy is to be restored. Behind it stands a line for each former document,
+    /// `NAME before IDENTITY: STATE, COUNT messages`. Nothing is saved, and nothing sealed.
+    pub fn verify(&mut self) -> Result<Verified, HouseFault> {
+        let mut found = Verified {
+            text: String::new(self.alloc),
+            is_chain_whole: true,
+        };
+        for number in 0..self.documents.len() {
+            self.verify_all_of(number, &mut found)?;
+        }
+        Ok(found)
     }
 
     // `keys`, with a line for each invitation and each device, with its number and its person.

@@ -47,6 +47,18 @@ fn row_done(
     }
 }
 
+// What answers an order about people or documents.
+fn order_done(
+    alloc: Global,
+    number: u32,
+    outcome: Result<(String, Consequence), HouseFault>,
+) -> Result<Done, AllocError> {
+    match outcome {
+        Ok((text, consequence)) => Done::answered(alloc, number, text.as_str(), consequence),
+        Err(fault) => Done::refused(alloc, number, fault.words()),
+    }
+}
+
 impl<'a> House<'a> {
     // Makes a person, and gives its number.
     fn make_person(&mut self, role: Role, name: &str) -> Result<String, HouseFault> {
@@ -162,12 +174,28 @@ impl<'a> House<'a> {
         }
     }
 
-    // What answers an order about people or documents.
-    fn house_done(&mut self, number: u32, order: HouseOrder<'_>) -> Result<Done, AllocError> {
-        let alloc = self.alloc;
-        match self.tend_house(order) {
-            Ok((text, consequence)) => Done::answered(alloc, number, text.as_str(), consequence),
-            Err(fault) => Done::refused(alloc, number, fault.words()),
+    // Renews the document that a link leads to, if it leads to one.
+    fn renew_here(
+        &mut self,
+        number: u32,
+        place: Option<(usize, LinkId)>,
+    ) -> Result<Done, AllocError> {
+        match place {
+            Some((document, _)) => order_done(self.alloc, number, self.renew_number(document)),
+            None => Done::refused(self.alloc, number, "bad line 1"),
+        }
+    }
+
+    // Does an order about people or documents, and answers it.
+    fn house_done(
+        &mut self,
+        number: u32,
+        place: Option<(usize, LinkId)>,
+        order: HouseOrder<'_>,
+    ) -> Result<Done, AllocError> {
+        match order {
+            HouseOrder::RenewHere => self.renew_here(number, place),
+            other => order_done(self.alloc, number, self.tend_house(other)),
         }
     }
 
@@ -180,7 +208,7 @@ impl<'a> House<'a> {
         lines: &str,
     ) -> Result<Done, AllocError> {
         if let Some(order) = read_house_order(lines) {
-            return self.house_done(number, order);
+            return self.house_done(number, place, order);
         }
         match place {
             Some((document, link)) => self.tend_text(number, document, link, lines),

@@ -1,0 +1,43 @@
+//! Orders that renew documents of a house.
+ghost use Rattle.host_house.specs.Household.{TouchesDocument};
+
+use super::House;
+use crate::done::Consequence;
+use crate::fault::HouseFault;
+use crate::renewing::{Renewed, renew_at};
+use std::alloc::AllocError;
+
+impl<'a> House<'a> {
+    // What is told of a document that is renewed, and of one that is so from the next start on.
+    fn renewal_texts(&self, number: usize) -> Result<(String, String), AllocError> {
+        let name = match self.documents.get(number) {
+            Some(document) => document.name(),
+            None => "",
+        };
+        let text = format!(in self.alloc; "renewed {name}")?;
+        let later = format!(in self.alloc; "renewed {name} at the next start")?;
+        Ok((text, later))
+    }
+
+    // Renews the document of a number.
+    pub(super) fn renew_number(
+        &mut self,
+        number: usize,
+    ) -> Result<(String, Consequence), HouseFault>
+        ensures { TouchesDocument number self.old self.new }
+    {
+        let (text, later) = self.renewal_texts(number)?;
+        match renew_at(self.rt, self.folder.as_str(), &mut self.documents, number)? {
+            Renewed::InPlace => Ok((text, Consequence::Renewed(number))),
+            Renewed::AtNextStart => Ok((later, Consequence::Moved(number))),
+        }
+    }
+
+    // Renews the document of a name.
+    pub(super) fn renew_named(&mut self, name: &str) -> Result<(String, Consequence), HouseFault> {
+        match self.find(name) {
+            Some(number) => self.renew_number(number),
+            None => Err(HouseFault::NoDocument),
+        }
+    }
+}
