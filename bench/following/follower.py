@@ -78,6 +78,13 @@ class Follower:
         else:
             self.news.append(line)
 
+    def last_lines(self):
+        """All lines that come until it ends."""
+        lines = []
+        while (line := self.lines.get(timeout=SECONDS)) is not None:
+            lines.append(line)
+        return lines
+
     def take_all(self):
         """Takes what has come."""
         while True:
