@@ -740,6 +740,44 @@ const tries = {
     await cy.close();
   },
 
+  // Who was away goes on in the new document, and has the words that the host didn't take, to put them in again.
+  async a_document_is_renewed(world) {
+    const { ada } = world;
+    const away = ' Written while away.';
+    await ada.fill('new-name', 'Dee Roth');
+    await ada.click('#new-person button');
+    await ada.says('invited-label', /Dee Roth/);
+    const dee = await Sheet.open(world, await ada.value(`document.getElementById('invited-address').value`));
+    await dee.shows(world.text);
+    await dee.offline();
+    await dee.end();
+    await dee.page.type(away);
+    await pause(HELD_MS);
+    const renewed = async (it) => {
+      await it.holds('another page is there', '!globalThis.isOld && globalThis.page');
+      await it.isSaved();
+      await it.shows(world.text);
+    };
+    for (const it of [ada, dee]) await it.value('globalThis.isOld = true, null');
+    await ada.value('page.renewal.order(), null');
+    await ada.question();
+    await ada.click('#question-yes');
+    await renewed(ada);
+    assert.equal(await ada.value('document.getElementById("left-part").hidden'), true);
+    await dee.value('page.sync.line.dial = (it) => new WebSocket(it), page.sync.line.hurry(), null');
+    await renewed(dee);
+    await dee.says('left', /Written while away/);
+    await dee.picture('renewed');
+    await dee.click('#left-all');
+    world.text += away;
+    for (const it of [ada, dee]) await it.shows(world.text);
+    await dee.holds('nothing is left', 'document.getElementById("left-part").hidden');
+    await dee.reload();
+    await dee.isSaved();
+    await dee.shows(world.text);
+    await dee.close();
+  },
+
   // Each colour of letters against each ground behind them, and of edges, in both schemes.
   async contrasts(world) {
     for (const scheme of ['light', 'dark']) {

@@ -2,6 +2,7 @@
 import { button, hide, made, of, say } from './elements.mjs';
 import { documentPath } from './places.mjs';
 import { ask, askWords } from './question.mjs';
+import { wantsRenewal } from './renewal.mjs';
 import { documentName, documentState } from './told.mjs';
 
 /** @typedef {import('./protocol.mjs').DocumentLine} DocumentLine */
@@ -66,6 +67,7 @@ export class Documents {
     if (!isOwner) return line;
     const acts = [
       button('Rename', `Rename ${name}`, () => this.rename(name)),
+      button('Renew', `Renew ${name}`, () => this.renew(name)),
       button('Archive', `Archive ${name}`, () => this.archive(name)),
     ];
     line.append(made('div', 'row', ...acts));
@@ -92,6 +94,12 @@ export class Documents {
   async rename(name) {
     const to = documentName(await askWords(this.orders, `Name of ${name}`, name, 'Rename'));
     if (to && to !== name && (await this.order(`move ${name} ${to}`))) say('status', `${name} is called ${to} now. Who has it open goes there.`);
+  }
+
+  /** @param {string} name */
+  async renew(name) {
+    if (!(await wantsRenewal(this.orders, name))) return;
+    if (await this.order(`renew ${name}`)) say('status', `${name} is renewed. Who has it open goes on in the new one.`);
   }
 
   /** @param {string} name */

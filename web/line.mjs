@@ -116,7 +116,7 @@ export class Line {
     this.words = close.words || this.words;
     this.orders.lose();
     if (close.then === 'end' || (close.then === 'other' && !this.takesTurns)) this.isOver = true;
-    else if (close.then !== 'seek') this.dialAgain(close.then);
+    else if (close.then !== 'seek' && close.then !== 'renewed') this.dialAgain(close.then);
     this.lost(close);
     this.told();
   }

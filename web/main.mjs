@@ -6,6 +6,7 @@ import { hide, of, say } from './elements.mjs';
 import { askDocument, wholeDocument } from './first.mjs';
 import { Held, hold } from './holding.mjs';
 import { House } from './house.mjs';
+import { Kept } from './left.mjs';
 import { lacking } from './needs.mjs';
 import { damaged, NotOpen, tellNotOpen } from './opening.mjs';
 import { Page } from './page.mjs';
@@ -105,12 +106,41 @@ async function kept(spot, device) {
   const tellCount = (count, saved) => say('standing', saved > 1000 && saved < Infinity ? `Opening… ${Math.floor((100 * count) / saved)} %` : 'Opening…');
   const whole = await wholeDocument(linkAddress(location, spot.base, spot.document), device, tellCount).catch((error) => tellWhy(spot, device, error));
   localStorage.setItem(`roastcliff identity ${keyOf(spot)}`, whole.identity);
-  const found = await storeOf(whole.identity, device);
-  const old = await found.read();
-  if (old.length) return { identity: whole.identity, store: found, bytes: old }; // it had another name
-  await found.append(whole.bytes, { from: whole.count, back: whole.own });
-  if (whole.own) await found.mark();
-  return { identity: whole.identity, store: found, bytes: whole.bytes };
+  return storedWhole(whole, device);
+}
+
+/**
+ * Keeps all that the host has of a document in this browser, unless it is there.
+ *
+ * @param {import('./first.mjs').Whole} whole
+ * @param {Device} device
+ */
+async function storedWhole(whole, device) {
+  const store = await storeOf(whole.identity, device);
+  const old = await store.read();
+  if (old.length) return { identity: whole.identity, store, bytes: old }; // it had another name
+  await store.append(whole.bytes, { from: whole.count, back: whole.own });
+  if (whole.own) await store.mark();
+  return { identity: whole.identity, store, bytes: whole.bytes };
+}
+
+// What was written in documents of this name that were renewed, and that their host didn't take.
+const leftOf = (/** @type {Spot} */ spot) => new Kept(localStorage, `roastcliff left ${keyOf(spot)}`);
+
+/**
+ * Opens the document that took the place of one of an identity. What stays of that is kept first.
+ *
+ * @param {Spot} spot
+ * @param {Device} device
+ * @param {string} identity
+ * @param {import('./left.mjs').Left[]} left
+ */
+async function openRenewed(spot, device, identity, left) {
+  const whole = await wholeDocument(linkAddress(location, spot.base, spot.document), device, () => {});
+  await storedWhole(whole, device);
+  leftOf(spot).put(identity, left);
+  localStorage.setItem(`roastcliff identity ${keyOf(spot)}`, whole.identity);
+  location.reload();
 }
 
 /**
@@ -173,7 +203,12 @@ async function openDocument(spot, device) {
   directory.take({ kind: 'people', ...JSON.parse(localStorage.getItem(`roastcliff people ${key}`) ?? '{"people":[],"devices":[]}') });
   const address = linkAddress(location, spot.base, spot.document);
   const at = { document: spot.document, identity: had.identity, address, device, key };
-  const page = new Page(copy, had.store, await had.store.marks(), at, () => seek(spot, device, had.identity));
+  const ways = {
+    seek: () => seek(spot, device, had.identity),
+    renewed: (left) => openRenewed(spot, device, had.identity, left),
+    kept: leftOf(spot),
+  };
+  const page = new Page(copy, had.store, await had.store.marks(), at, ways);
   Object.assign(globalThis, { page }); // for who tries it by a script
 }
 

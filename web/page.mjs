@@ -1,4 +1,5 @@
 // The page of a document: a person's copy, with the text, the people, the lists, the line to the host, and the store.
+import { Away } from './away.mjs';
 import { offsetOf } from './caret.mjs';
 import { Carets } from './carets.mjs';
 import { directory } from './directory.mjs';
@@ -10,6 +11,7 @@ import { Groups } from './groups.mjs';
 import { Keeper } from './keeper.mjs';
 import { Keys } from './keys.mjs';
 import { closed } from './layout.mjs';
+import { leftIn, placeFor } from './left.mjs';
 import { deniedBy } from './lines.mjs';
 import { Lists } from './lists.mjs';
 import { Note } from './note.mjs';
@@ -17,6 +19,7 @@ import { People } from './people.mjs';
 import { Presence } from './presence.mjs';
 import { Protection } from './protection.mjs';
 import { caretText } from './protocol.mjs';
+import { Renewal } from './renewal.mjs';
 import { Rules } from './rules.mjs';
 import { Surface } from './surface.mjs';
 import { Sync } from './sync.mjs';
@@ -38,17 +41,21 @@ const LOOK_MS = 50;
 export class Page {
   /**
    * `seek` looks where the document is, as it isn't here any more; it gives what there is to say of it, and whether it is gone for good.
+   * `renewed` is given what this page wrote and the host didn't take before the document was renewed; it keeps that, and has the page
+   * open the new one. `kept` has what was kept so of earlier ones.
    *
    * @param {import('./copy.mjs').Copy} copy
    * @param {import('./store.mjs').Store} store
    * @param {import('./store.mjs').Marks} marks
    * @param {At} at
-   * @param {() => Promise<{ words: string, isOver: boolean }>} seek
+   * @param {{ seek: () => Promise<{ words: string, isOver: boolean }>, renewed: (left: import('./left.mjs').Left[]) => Promise<void>,
+   *   kept: import('./left.mjs').Kept }} ways
    */
-  constructor(copy, store, marks, at, seek) {
+  constructor(copy, store, marks, at, { seek, renewed, kept }) {
     this.copy = copy;
     this.at = at;
     this.seek = seek;
+    this.renewed = renewed;
     this.undone = copy.undone.count; // so many edits were undone when it was said last
     this.saidUntil = 0; // what the status says stays until then
     this.hasRefused = false;
@@ -83,6 +90,8 @@ export class Page {
     this.protection = new Protection(copy.policy, () => this.people.own, { protect: (it) => this.rules.protect(it), group: (it) => this.groups.make(it) });
     this.keys = new Keys(this.sync.line.orders, copy.site, (all) => this.people.take(all));
     this.lists = new Lists(copy, `roastcliff seen ${at.key}`, (place) => this.rules.remove(place));
+    this.renewal = new Renewal(at.document, this.sync.line.orders, () => this.settled());
+    this.away = new Away(kept, copy.pieces.text, (left) => this.putIn(left));
     this.keeper = new Keeper(copy, store, { marks: () => this.sync.marks, kept: () => this.kept(), failed: (error) => this.stop(error) });
     this.open();
   }
@@ -162,6 +171,7 @@ export class Page {
     this.people.show();
     this.presence.keepOnly(new Set());
     this.carets.show();
+    if (then === 'renewed') return this.giveWay();
     if (then !== 'seek' && this.sync.line.failures !== 2) return;
     const { words: told, isOver } = await this.seek();
     if (this.sync.isWelcome) return;
@@ -169,6 +179,34 @@ export class Page {
     if (isOver) this.sync.line.close();
     else this.sync.line.resume();
     this.tell();
+  }
+
+  // The document was renewed: what the host didn't take of this page is kept as words, and the new one is opened. Where that isn't there
+  // yet, it is tried again.
+  async giveWay() {
+    this.writer.flush();
+    try {
+      await this.renewed(leftIn(this.copy, this.sync.waiting));
+    } catch (error) {
+      this.notice(error.message);
+      this.sync.line.resume();
+    }
+  }
+
+  /**
+   * Puts words in again that were written in a document that this one renewed. Gives whether it was done.
+   *
+   * @param {import('./left.mjs').Left} left
+   */
+  putIn(left) {
+    this.writer.flush();
+    if (this.editor.isReader) return false;
+    const { start, end } = placeFor(this.copy.pieces.text, left);
+    this.writer.write(start, end, left.text);
+    const isDone = this.writer.flush() && !this.writer.isRefused;
+    this.editor.show();
+    this.changed();
+    return isDone;
   }
 
   // ---- what shows
@@ -180,6 +218,7 @@ export class Page {
     this.people.show();
     this.lists.show(directory.version, this.people.isOwner);
     this.groups.show(this.people.isOwner);
+    this.renewal.show(this.copy.journal.count - this.copy.entries.length, this.copy.policy.version, this.people.isOwner);
     if (this.people.isOwner && this.sync.isCaughtUp) this.groups.follow();
     this.protection.show(this.people.isOwner);
     hide('keys-part', !this.people.isOwner);

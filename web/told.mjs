@@ -31,6 +31,12 @@ const REFUSALS = {
   'the folder failed': 'The server could not change its folder. Tell whoever runs it.',
   'the file of people failed': 'The server could not keep it. Tell whoever runs it.',
   'no memory': 'The server has no memory left at the moment.',
+  'too long a text': 'The text is too long for a new document. Take some of it out, and try again.',
+  'too many rules': 'A new document cannot have as many people and rules as this one. Take some away, and try again.',
+  'not alike': 'The new document would not have been like this one, so this one stays.',
+  'the document can\'t be opened': 'The document cannot be opened, so it is not renewed.',
+  'the store is full': 'The new document has no room in its file.',
+  'the disk failed': 'The server’s disk failed. Tell whoever runs it.',
   'too many lines': 'This is too much at once.',
 };
 

@@ -229,7 +229,7 @@ const EDITS = {
 const SHOWN_LETTERS = 60;
 
 /** @param {string} letters */
-function excerpt(letters) {
+export function excerpt(letters) {
   const all = Array.from(letters);
   return cited(all.length > SHOWN_LETTERS ? `${all.slice(0, SHOWN_LETTERS).join('')}…` : letters);
 }
@@ -378,6 +378,36 @@ export function confirming(isReserved) {
 export function room(count, version) {
   const [a, b, c, d] = [count, MOST_REQUESTS, version, MOST_VERSIONS].map((it) => it.toLocaleString('en'));
   return `This text has had ${a} of the ${b} edits that it may have, and its rules ${c} of ${d} changes.`;
+}
+
+// ---- renewals
+
+const DUE_EDITS = 100_000;
+const DUE_VERSIONS = 12_000;
+
+export const RENEW_IT = 'It is time to renew this document: a new one takes its place, with the same text and the same rules, and room for as many edits again.';
+export const ASK_TO_RENEW = 'This document is getting full. Ask an owner to renew it.';
+export const RENEWING = 'Nothing would be undone. A new document takes its place, with the same text, people and rules.';
+export const RENEWING_MORE = 'What stands there is confirmed by it: no rule can undo it any more. Who wrote what is not known in the new one, and rules about what somebody wrote lose their place. The old one stays in the host’s folder, with its certificate.';
+
+/**
+ * Whether a document is to be renewed, by how many edits it has had and how often its rules were changed.
+ *
+ * @param {number} count
+ * @param {number} version
+ */
+export function isDue(count, version) {
+  return count >= DUE_EDITS || version >= DUE_VERSIONS;
+}
+
+/**
+ * Words that a person wrote and the host didn't take, with those that stood in front of them.
+ *
+ * @param {import('./left.mjs').Left} left
+ */
+export function leftWords({ text, old, before }) {
+  const place = before.trim() ? `behind ${cited(before.trimStart())}` : 'at the beginning';
+  return old ? `${cited(text)}, in place of ${cited(old)}, ${place}.` : `${cited(text)}, ${place}.`;
 }
 
 /**

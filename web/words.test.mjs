@@ -71,3 +71,10 @@ test('names', () => {
   assert.equal(known(() => words.writer(2, 3)), 'At the caret: written by Bea Okafor.');
   assert.equal(known(() => words.writer(1, 2)), 'At the caret: written by Bea Okafor, in words that Ada Lund began.');
 });
+
+test('renewals', () => {
+  assert.deepEqual([[99_999, 11_999], [100_000, 0], [0, 12_000]].map((it) => words.isDue(...it)), [false, true, true]);
+  const left = { text: 'at six', old: '', before: 'Tea ', after: '' };
+  assert.equal(words.leftWords(left), '“\u2068at six\u2069”, behind “\u2068Tea \u2069”.');
+  assert.equal(words.leftWords({ ...left, old: 'at five', before: '' }), '“\u2068at six\u2069”, in place of “\u2068at five\u2069”, at the beginning.');
+});
