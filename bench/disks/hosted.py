@@ -14,6 +14,7 @@ from link_peer import Broken, frame_of
 
 ENTRY = 4  # the kind of an entry's frame
 DISK_FAILED, NO_DOCUMENT = 4011, 4014
+CALLS = 100  # of a kind, more than a renewal has
 IMAGES = 150  # that are opened, of each way in which names stay
 OPENED, NOT_BEGUN, EMPTY_DAMAGED = RIGHT = ("opened", "not begun", "opened but for a document in which nothing was told")
 
@@ -78,8 +79,9 @@ class Played:
         want("it is given another name", owner.order("move plan plan-2").endswith("moved plan-2"))
         want("one more is made", owner.order("make old").endswith("made old"))
         want("and put away", owner.order("archive old").endswith("archived"))
-        for it in (*owner.links.values(), owner.house):
-            it.hang_up()
+        owner.links.pop("notes").hang_up()
+        want("the first one is renewed", owner.order("renew notes").endswith("renewed notes"))
+        owner.house.hang_up()
         host.ask("/healthz")  # what was told is in the log by then
 
     def told_words(self):
@@ -87,7 +89,7 @@ class Played:
         yield f"#{self.owner.secret}".encode(), ("invitation",)
         for device in (self.owner.device, self.other):
             yield f"device {device.site} {device.secret}".encode(), ("device", device)
-        for line in ("made plan", "moved plan-2", "made old", "archived"):
+        for line in ("made plan", "moved plan-2", "made old", "archived", "renewed notes"):
             yield b"\n" + line.encode(), ("line", line)
         for name, items in self.journals.items():
             for at, item in enumerate(items):
@@ -165,7 +167,10 @@ class Hosted:
         house = os.path.join(self.work, "image", "notes")
         shutil.rmtree(os.path.dirname(house), ignore_errors=True)
         lay(image, house)
-        looked = subprocess.run([self.program, "verify", house], capture_output=True, check=False)
+        looked = subprocess.run([self.program, "verify", house], capture_output=True, text=True, check=False)
+        broken = [line for line in looked.stdout.splitlines() if " before " in line and ": whole, " not in line]
+        if broken:
+            return f"a former document isn't what it was: {broken}"
         if not due and looked.returncode != 0:
             return NOT_BEGUN
         host = None
@@ -193,6 +198,8 @@ class Hosted:
         want("it has the name that it was given", "plan-2" in there or "moved plan-2" not in lines)
         want("what was put away is away", "old" not in there or "archived" not in lines)
         outcomes = {self.check_journal(host, devices[0], name, due, played) for name in there & {"notes", "plan", "plan-2"}}
+        want("a renewal that was told is there", "renewed notes" not in lines or os.path.exists(os.path.join(host.folder, "notes", "former")))
+        want("nothing of it is left beside", not there & {".notes.renewed"})
         want("the first document is there", "notes" in there or not any(it[:2] == ("item", "notes") for it in due))
         return EMPTY_DAMAGED if EMPTY_DAMAGED in outcomes else OPENED
 
@@ -202,6 +209,10 @@ class Hosted:
         if not items and status != 200:
             return EMPTY_DAMAGED
         want(f"{name} is served, and not answered by {status}", status == 200)
+        if os.path.exists(os.path.join(host.folder, name, "former")):
+            text = host.ask(f"/d/{name}/text", device.bearer)[2].decode()
+            want(f"a renewed document has all letters that were told, and not {text}", text.count(name[0]) >= len(items))
+            return OPENED
         link = device.link(host, place(name))
         journal = link.first_items(link.saved)
         link.hang_up()
@@ -289,7 +300,7 @@ class Hosted:
             owner.order("make plan")
             owner.write("plan", 2)
             for order in ("move plan plan-2", "archive plan"):
-                layer.fail_next(kind, how_many, error)
+                layer.fail_next(kind, how_many, error, behind=1)  # the first change of names is that of the seal
                 told = owner.order(order)
                 want(f"it is refused: {told}", told.endswith("the folder failed"))
                 layer.mend()
@@ -299,6 +310,61 @@ class Hosted:
         finally:
             host.kill()
 
+    def fail_renewing(self, kind, how_many, error):
+        """A call fails while a document is renewed: the order is refused, the document goes on, and is renewed once there is no fault."""
+        layer, host = self.start(only=".plan.renew")
+        try:
+            owner = Owner(host, "notes")
+            owner.order("make plan")
+            before = len(owner.write("plan", 3))
+            layer.fail_next(kind, how_many, error)
+            told = owner.order("renew plan")
+            want(f"it is refused: {told}", told.endswith(("the folder failed", "the disk failed")))
+            layer.mend()
+            want("its links go on", len(owner.write("plan", 1)) == before + 1)
+            if how_many or kind in ("write", "sync"):  # what can't be removed stays until the next renewal
+                want("nothing is left of it", not [it for it in os.listdir(host.folder) if it.startswith(".plan")])
+            want("nor of its certificate", not os.path.exists(os.path.join(host.folder, "plan", "certificate")))
+            want("it is renewed", owner.order("renew plan").endswith("renewed plan"))
+            owner.links.clear()
+            owner.write("plan", 1)
+        finally:
+            host.kill()
+
+    def fail_any(self, kind, how_many, error):
+        """Each call of a renewal fails in its turn: what is told is so after a new start, and the text stays, in the old document or the new one."""
+        for behind in range(CALLS):
+            layer, host = self.start()
+            try:
+                owner = Owner(host, "notes")
+                owner.order("make plan")
+                owner.write("plan", 3)
+                owner.links.pop("plan").hang_up()
+                before = layer.counts()[kind]
+                layer.fail_next(kind, how_many, error, behind)
+                told = owner.order("renew plan").partition("\n")[2]
+                layer.mend()
+                if layer.counts()[kind] <= before + behind:
+                    return
+                self.stays_renewed(host, owner, told, f"call {behind + 1} of {kind}")
+            finally:
+                host.kill()
+
+    def stays_renewed(self, host, owner, told, what):
+        """After a new start a document has its text, and is a new one where that was told."""
+        bearer = owner.device.bearer
+        host.kill()
+        host.start()
+        same_text = host.ask("/d/plan/text", bearer)[2] == b"ppp"
+        want(f"{what}: the text stays, where was told {told!r}", same_text)
+        is_new = os.path.exists(os.path.join(host.folder, "plan", "former"))
+        want(f"{what}: {told!r}, and it is {'a new' if is_new else 'the old'} document", is_new == told.startswith("renewed"))
+        owner.links.clear()
+        owner.write("plan", 1)
+        host.kill()
+        looked = subprocess.run([self.program, "verify", host.folder], capture_output=True, text=True, check=False)
+        want(f"{what}: all is whole, and not {looked.stdout}", looked.returncode == 0)
+
     def fail_each(self):
         """Each kind of call of each file fails, once and for good."""
         tries = [
@@ -306,6 +372,8 @@ class Hosted:
             (self.fail_people, ("write", "sync")),
             (self.fail_making, ("open", "write", "sync", "name", "rename")),
             (self.fail_moving, ("name",)),
+            (self.fail_renewing, ("open", "write", "sync", "name")),
+            (self.fail_any, ("open", "write", "sync", "name")),
         ]
         met = {}
         for part, kinds in tries:
