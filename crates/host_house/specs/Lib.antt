@@ -1,1 +1,2 @@
 pub mod Household
+pub mod Links

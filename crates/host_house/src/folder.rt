@@ -125,11 +125,21 @@ pub(crate) fn write_file(rt: &HostRuntime, path: &str, bytes: &[u8]) -> io::Resu
     file.sync_all()
 }
 
-/// Writes an identity, and waits until it is on the disk.
-pub(crate) fn write_identity(rt: &HostRuntime, path: &str, identity: &Identity) -> io::Result<()> {
-    let digits = encode(rt.alloc(), identity.as_slice())?;
-    let line = format!(in rt.alloc(); "{digits}\n")?;
-    write_file(rt, path, line.as_str().as_bytes())
+// The line of an identity.
+fn identity_line(alloc: Global, identity: &Identity) -> Result<String, AllocError> {
+    let digits = encode(alloc, identity.as_slice())?;
+    format!(in alloc; "{digits}\n")
+}
+
+/// Writes an identity into the folder of a document, and waits until it is on the disk.
+pub(crate) fn write_identity(
+    rt: &HostRuntime,
+    within: &str,
+    identity: &Identity,
+) -> io::Result<()> {
+    let path = format!(in rt.alloc(); "{within}/identity")?;
+    let line = identity_line(rt.alloc(), identity)?;
+    write_file(rt, path.as_str(), line.as_str().as_bytes())
 }
 
 /// Waits until the names in a folder are on the disk, which a sync of what they name doesn't.
@@ -145,8 +155,8 @@ fn sync_all_names(rt: &HostRuntime, folders: &[&str]) -> io::Result<()> {
     Ok(())
 }
 
-/// Names a folder anew, and waits until that is on the disk, in the folders that have the names. Where it can't be, the folder has
-/// its former name again.
+/// Names a folder anew, and waits until that is on the disk, in the folders that have the names. Where it can't be, the folder gets
+/// its former name again, if it can.
 pub(crate) fn rename_synced(
     rt: &HostRuntime,
     old: &str,
@@ -163,6 +173,22 @@ pub(crate) fn rename_synced(
     }
 }
 
+/// The same of a folder that may have either name after a crash. A new name that can be neither synced nor taken back counts, so
+/// the folder has its former name wherever this fails.
+pub(crate) fn rename_folder(
+    rt: &HostRuntime,
+    old: &str,
+    new: &str,
+    within: &[&str],
+) -> io::Result<()> {
+    fs::rename(rt, old, new)?;
+    match sync_all_names(rt, within) {
+        Ok(()) => Ok(()),
+        Err(error) if fs::rename(rt, new, old).is_ok() => Err(error),
+        Err(_) => Ok(()),
+    }
+}
+
 /// Makes the folder of a house, unless it is there.
 pub(crate) fn make_house(rt: &HostRuntime, folder: &str) -> io::Result<()> {
     if fs::exists(rt, folder)? {
@@ -175,6 +201,13 @@ pub(crate) fn make_house(rt: &HostRuntime, folder: &str) -> io::Result<()> {
     }
 }
 
+// Makes a folder with an identity in it, and waits until that is on the disk.
+fn make_coming(rt: &HostRuntime, coming: &str, identity: &Identity) -> io::Result<()> {
+    fs::create_dir_all(rt, coming)?;
+    write_identity(rt, coming, identity)?;
+    sync_names(rt, coming)
+}
+
 /// Makes the folder of a document of this name and identity.
 pub(crate) fn make_folder(
     rt: &HostRuntime,
@@ -183,20 +216,17 @@ pub(crate) fn make_folder(
     identity: &Identity,
 ) -> io::Result<()> {
     let coming = format!(in rt.alloc(); "{folder}/.{name}.new")?;
-    fs::create_dir_all(rt, coming.as_str())?;
-    let path = format!(in rt.alloc(); "{folder}/.{name}.new/identity")?;
-    write_identity(rt, path.as_str(), identity)?;
-    sync_names(rt, coming.as_str())?;
+    make_coming(rt, coming.as_str(), identity)?;
     let at_last = format!(in rt.alloc(); "{folder}/{name}")?;
     rename_synced(rt, coming.as_str(), at_last.as_str(), &[folder])
 }
 
-/// Gives a document another name, which no other has.
+/// Gives a document another name, which no other has. Where that fails its folder has its former name.
 pub(crate) fn move_folder(rt: &HostRuntime, folder: &str, from: &str, to: &str) -> io::Result<()> {
     let alloc = rt.alloc();
     let old = format!(in alloc; "{folder}/{from}")?;
     let new = format!(in alloc; "{folder}/{to}")?;
-    rename_synced(rt, old.as_str(), new.as_str(), &[folder])
+    rename_folder(rt, old.as_str(), new.as_str(), &[folder])
 }
 
 /// Where a document of this name and identity stands that was put away.
@@ -210,17 +240,27 @@ pub(crate) fn archive_path(
     format!(in alloc; "{folder}/.archive/{name}.{digits}")
 }
 
-/// Puts a document away, below `.archive`, by its name and its identity.
+// Moves the folder of a document to the others that were put away.
+fn move_away(
+    rt: &HostRuntime,
+    folder: &str,
+    away: &str,
+    name: &str,
+    identity: &Identity,
+) -> io::Result<()> {
+    let old = format!(in rt.alloc(); "{folder}/{name}")?;
+    let new = archive_path(rt.alloc(), folder, name, identity)?;
+    rename_folder(rt, old.as_str(), new.as_str(), &[away, folder])
+}
+
+/// Puts a document away, below `.archive`, by its name and its identity. Where that fails its folder stands where it was.
 pub(crate) fn archive_folder(
     rt: &HostRuntime,
     folder: &str,
     name: &str,
     identity: &Identity,
 ) -> io::Result<()> {
-    let alloc = rt.alloc();
-    let away = format!(in alloc; "{folder}/.archive")?;
+    let away = format!(in rt.alloc(); "{folder}/.archive")?;
     fs::create_dir_all(rt, away.as_str())?;
-    let old = format!(in alloc; "{folder}/{name}")?;
-    let new = archive_path(alloc, folder, name, identity)?;
-    rename_synced(rt, old.as_str(), new.as_str(), &[away.as_str(), folder])
+    move_away(rt, folder, away.as_str(), name, identity)
 }

@@ -66,8 +66,9 @@ fn bytes_of(alloc: Global, formers: &[Former]) -> Result<Vec<u8>, AllocError> {
     Ok(bytes)
 }
 
-/// Writes the file, and waits until it is on the disk.
-pub(crate) fn write_formers(rt: &HostRuntime, path: &str, formers: &[Former]) -> io::Result<()> {
+/// Writes the file into the folder of a document, and waits until it is on the disk.
+pub(crate) fn write_formers(rt: &HostRuntime, within: &str, formers: &[Former]) -> io::Result<()> {
+    let path = format!(in rt.alloc(); "{within}/former")?;
     let bytes = bytes_of(rt.alloc(), formers)?;
-    write_file(rt, path, &bytes)
+    write_file(rt, path.as_str(), &bytes)
 }

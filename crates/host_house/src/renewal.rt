@@ -1,9 +1,10 @@
 //! Renewals as folders. A renewal is made whole beside its document, in `.NAME.renewing`. Once that is named `.NAME.renewed` it
 //! counts, and then the old folder is put away and the new one gets its name. What a crash breaks off of that is ended when the house is
-//! opened: so a crash at any moment leaves the old document or the new one.
+//! opened: so a crash at any moment leaves the old document or the new one. Where the old folder can't be put away, it is named back.
 
 use crate::folder::{
-    archive_folder, archive_path, rename_synced, sync_names, write_file, write_identity,
+    archive_folder, archive_path, rename_folder, rename_synced, sync_names, write_file,
+    write_identity,
 };
 use crate::formers::{FormersFile, read_formers, write_formers};
 use crate::seals::write_seal;
@@ -23,23 +24,65 @@ pub(crate) struct Renewal {
     pub(crate) formers: Vec<Former>,
 }
 
-// What stands behind the name of a document in that of the folder of its renewal which counts.
-const READY: &str = ".renewed";
-
-// The name of the folder in which a renewal is made.
-fn coming_name(alloc: Global, name: &str) -> Result<String, AllocError> {
-    format!(in alloc; ".{name}.renewing")
+/// What came of a renewal that counts.
+#[derive(Clone, Copy, Debug, PartialEq, Eq)]
+pub(crate) enum Renewed {
+    /// It stands in its document's place.
+    InPlace,
+    /// The folders failed, so it takes its place when the house is opened the next time.
+    AtNextStart,
 }
 
-// The name of the folder of a renewal that counts.
-fn ready_name(alloc: Global, name: &str) -> Result<String, AllocError> {
-    format!(in alloc; ".{name}{READY}")
+// What stands behind the name of a document in that of the folder in which its renewal is made.
+const COMING: &str = ".renewing";
+
+// The same of the folder of its renewal which counts.
+const READY: &str = ".renewed";
+
+// The name of the folder of a renewal, with this behind that of its document.
+fn renewal_name(alloc: Global, name: &str, ending: &str) -> Result<String, AllocError> {
+    format!(in alloc; ".{name}{ending}")
+}
+
+// Where that folder stands.
+fn renewal_path(
+    alloc: Global,
+    folder: &str,
+    name: &str,
+    ending: &str,
+) -> Result<String, AllocError> {
+    format!(in alloc; "{folder}/.{name}{ending}")
+}
+
+// Fails where something stands under a path.
+fn refuse_there(rt: &HostRuntime, path: &str) -> io::Result<()> {
+    if fs::exists(rt, path)? {
+        return Err(ErrorKind::AlreadyExists.into());
+    }
+    Ok(())
+}
+
+// Fails where a document was put away under this name and identity.
+fn refuse_archived(
+    rt: &HostRuntime,
+    folder: &str,
+    name: &str,
+    identity: &Identity,
+) -> io::Result<()> {
+    let path = archive_path(rt.alloc(), folder, name, identity)?;
+    refuse_there(rt, path.as_str())
+}
+
+/// Fails where a renewal counts that takes the place of the document of this name when the house is opened the next time. Until
+/// then that document keeps its name.
+pub(crate) fn refuse_awaited(rt: &HostRuntime, folder: &str, name: &str) -> io::Result<()> {
+    let path = renewal_path(rt.alloc(), folder, name, READY)?;
+    refuse_there(rt, path.as_str())
 }
 
 /// Removes what a renewal that doesn't count has left.
 pub(crate) fn clear_coming(rt: &HostRuntime, folder: &str, name: &str) -> io::Result<()> {
-    let coming = coming_name(rt.alloc(), name)?;
-    let path = format!(in rt.alloc(); "{folder}/{coming}")?;
+    let path = renewal_path(rt.alloc(), folder, name, COMING)?;
     if fs::exists(rt, path.as_str())? {
         fs::remove_dir_all(rt, path.as_str())?;
     }
@@ -54,17 +97,17 @@ pub(crate) fn make_coming(
     name: &str,
     identity: &Identity,
 ) -> io::Result<String> {
-    if fs::exists(
-        rt,
-        archive_path(rt.alloc(), folder, name, identity)?.as_str(),
-    )? {
-        return Err(ErrorKind::AlreadyExists.into());
-    }
+    refuse_archived(rt, folder, name, identity)?;
     clear_coming(rt, folder, name)?;
-    let coming = coming_name(rt.alloc(), name)?;
-    let path = format!(in rt.alloc(); "{folder}/{coming}")?;
+    let path = renewal_path(rt.alloc(), folder, name, COMING)?;
     fs::create_dir_all(rt, path.as_str())?;
-    Ok(format!(in rt.alloc(); "{folder}/{coming}/steps")?)
+    Ok(format!(in rt.alloc(); "{folder}/.{name}{COMING}/steps")?)
+}
+
+// Writes the seal of a renewal.
+fn write_coming_seal(rt: &HostRuntime, folder: &str, name: &str, seal: &Seal) -> io::Result<()> {
+    let coming = renewal_name(rt.alloc(), name, COMING)?;
+    write_seal(rt, folder, coming.as_str(), seal)
 }
 
 /// Writes what a renewal has beside its steps, and waits until all of its folder is on the disk.
@@ -74,15 +117,11 @@ pub(crate) fn write_coming(
     name: &str,
     renewal: &Renewal,
 ) -> io::Result<()> {
-    let alloc = rt.alloc();
-    let coming = coming_name(alloc, name)?;
-    let identity = format!(in alloc; "{folder}/{coming}/identity")?;
-    write_identity(rt, identity.as_str(), &renewal.identity)?;
-    let former = format!(in alloc; "{folder}/{coming}/former")?;
-    write_formers(rt, former.as_str(), &renewal.formers)?;
-    write_seal(rt, folder, coming.as_str(), &renewal.seal)?;
-    let path = format!(in alloc; "{folder}/{coming}")?;
-    sync_names(rt, path.as_str())
+    write_coming_seal(rt, folder, name, &renewal.seal)?;
+    let within = renewal_path(rt.alloc(), folder, name, COMING)?;
+    write_identity(rt, within.as_str(), &renewal.identity)?;
+    write_formers(rt, within.as_str(), &renewal.formers)?;
+    sync_names(rt, within.as_str())
 }
 
 /// Writes the certificate of a document into its folder, and waits until it is on the disk.
@@ -92,9 +131,9 @@ pub(crate) fn write_certificate(
     name: &str,
     certificate: &[u8],
 ) -> io::Result<()> {
+    let within = format!(in rt.alloc(); "{folder}/{name}")?;
     let path = format!(in rt.alloc(); "{folder}/{name}/certificate")?;
     write_file(rt, path.as_str(), certificate)?;
-    let within = format!(in rt.alloc(); "{folder}/{name}")?;
     sync_names(rt, within.as_str())
 }
 
@@ -104,36 +143,68 @@ pub(crate) fn remove_certificate(rt: &HostRuntime, folder: &str, name: &str) -> 
     fs::remove_file(rt, path.as_str())
 }
 
-/// Has the renewal of a document count. From then on the document is renewed, whatever happens. Where the name that says so can be
-/// neither synced nor taken back it counts too, as it would when the house is opened the next time.
+/// Has the renewal of a document count. From then on the document is renewed, whatever happens, unless [`place`] takes that back.
+/// Where the name that says so can be neither synced nor taken back it counts too, as it would when the house is opened the next time.
 pub(crate) fn make_count(rt: &HostRuntime, folder: &str, name: &str) -> io::Result<()> {
-    let (coming, ready) = (
-        coming_name(rt.alloc(), name)?,
-        ready_name(rt.alloc(), name)?,
-    );
-    let old = format!(in rt.alloc(); "{folder}/{coming}")?;
-    let new = format!(in rt.alloc(); "{folder}/{ready}")?;
-    match rename_synced(rt, old.as_str(), new.as_str(), &[folder]) {
-        Ok(()) => Ok(()),
-        Err(_) if fs::exists(rt, new.as_str()).unwrap_or(true) => Ok(()),
-        Err(error) => Err(error),
+    let coming = renewal_path(rt.alloc(), folder, name, COMING)?;
+    let ready = renewal_path(rt.alloc(), folder, name, READY)?;
+    rename_folder(rt, coming.as_str(), ready.as_str(), &[folder])
+}
+
+// Has it count no more. Fails where that can't be synced.
+fn take_back(rt: &HostRuntime, folder: &str, name: &str) -> io::Result<()> {
+    let coming = renewal_path(rt.alloc(), folder, name, COMING)?;
+    let ready = renewal_path(rt.alloc(), folder, name, READY)?;
+    rename_synced(rt, ready.as_str(), coming.as_str(), &[folder])
+}
+
+// Whether the folder of a document stands where it does else.
+fn stands(rt: &HostRuntime, folder: &str, name: &str) -> io::Result<bool> {
+    let path = format!(in rt.alloc(); "{folder}/{name}")?;
+    fs::exists(rt, path.as_str())
+}
+
+// Gives the name of a document to its renewal that counts.
+fn name_ready(rt: &HostRuntime, folder: &str, name: &str) -> io::Result<()> {
+    let from = renewal_path(rt.alloc(), folder, name, READY)?;
+    let to = format!(in rt.alloc(); "{folder}/{name}")?;
+    rename_folder(rt, from.as_str(), to.as_str(), &[folder])
+}
+
+// Puts the document of a renewal that counts away, by its identity, unless it was, and gives its name to the renewal.
+fn take_place(rt: &HostRuntime, folder: &str, name: &str, identity: &Identity) -> io::Result<()> {
+    if stands(rt, folder, name)? {
+        archive_folder(rt, folder, name, identity)?;
+    }
+    name_ready(rt, folder, name)
+}
+
+// Takes the renewal of a document back, if the document's folder stands where it was, and says whether it did.
+fn took_back(rt: &HostRuntime, folder: &str, name: &str) -> bool {
+    match stands(rt, folder, name) {
+        Ok(true) => take_back(rt, folder, name).is_ok(),
+        _ => false,
     }
 }
 
-/// Puts the document of a renewal that counts away, by its identity, unless it was, and gives its name to the renewal.
-pub(crate) fn take_place(
+/// Has a renewal that counts take its document's place. An error says that nothing has moved: the document couldn't be put away, and
+/// the renewal doesn't count any more. Where that can't be had, or the document is away, the renewal waits for the next start.
+pub(crate) fn place(
     rt: &HostRuntime,
     folder: &str,
     name: &str,
     identity: &Identity,
-) -> io::Result<()> {
-    let ready = ready_name(rt.alloc(), name)?;
-    let from = format!(in rt.alloc(); "{folder}/{ready}")?;
-    let to = format!(in rt.alloc(); "{folder}/{name}")?;
-    if fs::exists(rt, to.as_str())? {
-        archive_folder(rt, folder, name, identity)?;
+) -> io::Result<Renewed> {
+    match take_place(rt, folder, name, identity) {
+        Ok(()) => Ok(Renewed::InPlace),
+        Err(error) => {
+            if took_back(rt, folder, name) {
+                return Err(error);
+            }
+            drop(error);
+            Ok(Renewed::AtNextStart)
+        }
     }
-    rename_synced(rt, from.as_str(), to.as_str(), &[folder])
 }
 
 // The name of the document whose renewal counts in a folder of this name.
@@ -160,7 +231,7 @@ fn renewed_names(rt: &HostRuntime, folder: &str) -> io::Result<Vec<String>> {
 
 // The identity of the document whose renewal counts.
 fn renewed_identity(rt: &HostRuntime, folder: &str, name: &str) -> io::Result<Identity> {
-    let ready = ready_name(rt.alloc(), name)?;
+    let ready = renewal_name(rt.alloc(), name, READY)?;
     match read_formers(rt, folder, ready.as_str())? {
         FormersFile::Row(row) => match row.last() {
             Some(former) => Ok(former.identity),

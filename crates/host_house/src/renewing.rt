@@ -1,27 +1,20 @@
-//! A document that is renewed. All is made before anything is closed; then the renewal counts, and takes the document's place.
+//! A document that is renewed. All is made and in its place before anything is closed.
 ghost use Rattle.host_house.specs.Household.{OthersStay};
 
 use crate::fault::HouseFault;
 use crate::folder::new_identity;
 use crate::formers::with_former;
 use crate::renewal::{
-    Renewal, clear_coming, make_coming, make_count, remove_certificate, take_place,
+    Renewal, Renewed, clear_coming, make_coming, make_count, place, remove_certificate,
     write_certificate, write_coming,
 };
 use crate::seals::{open_sealed, seal_document};
 use host_document::{Document, OpenFault};
 use host_link::Ending;
 use host_renewal::{Former, RenewalFault};
+use host_seal::Seal;
 use sha2::{Digest, Sha256};
-
-/// What came of a renewal that counts.
-#[derive(Clone, Copy, Debug, PartialEq, Eq)]
-pub(crate) enum Renewed {
-    /// It stands in its document's place.
-    InPlace,
-    /// The folders failed, so it takes its place when the house is opened the next time.
-    AtNextStart,
-}
+use std::io;
 
 // Opens a document, unless it is open, and saves it.
 fn open_saved<'a>(
@@ -39,6 +32,17 @@ fn open_saved<'a>(
     }
 }
 
+// Writes the certificate of a document into its folder, and gives its digest.
+fn certificate_digest(
+    rt: &HostRuntime,
+    folder: &str,
+    document: &Document<'_>,
+) -> Result<[u8; 32], HouseFault> {
+    let certificate = document.journal(rt.alloc(), true)?;
+    write_certificate(rt, folder, document.name(), &certificate)?;
+    Ok(Sha256::digest(certificate.as_slice()))
+}
+
 // What is told of a document whose renewal takes its place. Its certificate is written into its folder.
 fn certified(
     rt: &HostRuntime,
@@ -48,45 +52,70 @@ fn certified(
     let Some(seal) = document.whole_seal(rt.alloc())? else {
         return Err(HouseFault::Renewal(RenewalFault::NotOpen));
     };
-    let certificate = document.journal(rt.alloc(), true)?;
-    write_certificate(rt, folder, document.name(), &certificate)?;
+    let certificate = certificate_digest(rt, folder, document)?;
     Ok(Former {
         identity: document.identity(),
         seal,
-        certificate: Sha256::digest(certificate.as_slice()),
+        certificate,
     })
 }
 
-// Makes the renewal of a document that is open and saved, up to where it counts.
+// Makes the steps of the renewal of a document, and gives their seal.
+fn made_steps(rt: &HostRuntime, folder: &str, document: &Document<'_>) -> Result<Seal, HouseFault> {
+    let steps = make_coming(rt, folder, document.name(), &document.identity())?;
+    Ok(document.make_renewal(rt, steps)?)
+}
+
+// Makes the renewal of a document that is open and saved: its steps, and what it is besides.
 fn made(
     rt: &HostRuntime,
     folder: &str,
     document: &mut Document<'_>,
 ) -> Result<Renewal, HouseFault> {
     let identity = new_identity(rt)?;
-    let steps = make_coming(rt, folder, document.name(), &document.identity())?;
-    let seal = document.make_renewal(rt, steps)?;
+    let seal = made_steps(rt, folder, document)?;
     let former = certified(rt, folder, document)?;
-    let renewal = Renewal {
+    let formers = with_former(rt.alloc(), document.formers(), former)?;
+    Ok(Renewal {
         identity,
         seal,
-        formers: with_former(rt.alloc(), document.formers(), former)?,
-    };
-    write_coming(rt, folder, document.name(), &renewal)?;
-    seal_document(rt, folder, document);
-    make_count(rt, folder, document.name())?;
-    Ok(renewal)
+        formers,
+    })
 }
 
-// Makes the renewal of a document, up to where it counts. Where that fails nothing is left of it.
+// Writes a renewal that was made, has it count, and then take its document's place.
+fn placed(
+    rt: &HostRuntime,
+    folder: &str,
+    document: &mut Document<'_>,
+    renewal: &Renewal,
+) -> io::Result<Renewed> {
+    write_coming(rt, folder, document.name(), renewal)?;
+    seal_document(rt, folder, document);
+    make_count(rt, folder, document.name())?;
+    place(rt, folder, document.name(), &document.identity())
+}
+
+// Makes the renewal of a document that is open and saved, and has it take its place.
+fn made_placed(
+    rt: &HostRuntime,
+    folder: &str,
+    document: &mut Document<'_>,
+) -> Result<(Renewal, Renewed), HouseFault> {
+    let renewal = made(rt, folder, document)?;
+    let renewed = placed(rt, folder, document, &renewal)?;
+    Ok((renewal, renewed))
+}
+
+// The same of one that may be closed. Where it fails nothing is left of the renewal, and the document is open if it could be opened.
 fn made_whole<'a>(
     rt: &'a HostRuntime,
     folder: &str,
     document: &mut Document<'a>,
-) -> Result<Renewal, HouseFault> {
+) -> Result<(Renewal, Renewed), HouseFault> {
     open_saved(rt, folder, document)?;
-    match made(rt, folder, document) {
-        Ok(renewal) => Ok(renewal),
+    match made_placed(rt, folder, document) {
+        Ok(made) => Ok(made),
         Err(fault) => {
             let _ = clear_coming(rt, folder, document.name());
             let _ = remove_certificate(rt, folder, document.name());
@@ -95,28 +124,18 @@ fn made_whole<'a>(
     }
 }
 
-// Has a renewal that counts take its document's place. Where the folders fail the document is never opened again, as it doesn't
-// count any more.
-fn placed(
-    rt: &HostRuntime,
-    folder: &str,
-    document: &mut Document<'_>,
-    renewal: Renewal,
-) -> Renewed {
-    document.shut();
-    match take_place(rt, folder, document.name(), &document.identity()) {
-        Ok(()) => {
-            document.give_way(renewal.identity, renewal.formers);
-            Renewed::InPlace
-        }
-        Err(_) => {
+// Closes a document that was renewed. Where its renewal isn't in its place yet it is never opened again, as it doesn't count any more.
+fn give_way(document: &mut Document<'_>, renewal: Renewal, renewed: Renewed) {
+    match renewed {
+        Renewed::InPlace => document.give_way(renewal.identity, renewal.formers),
+        Renewed::AtNextStart => {
+            drop(renewal);
             document.lose(OpenFault::DiskFault);
-            Renewed::AtNextStart
         }
     }
 }
 
-// Renews a document. One that was closed is so again where it isn't renewed.
+// Renews a document. One that was closed is so again where it isn't renewed, and one that was open stays open.
 fn renew_document<'a>(
     rt: &'a HostRuntime,
     folder: &str,
@@ -124,7 +143,10 @@ fn renew_document<'a>(
 ) -> Result<Renewed, HouseFault> {
     let was_open = document.is_open();
     match made_whole(rt, folder, document) {
-        Ok(renewal) => Ok(placed(rt, folder, document, renewal)),
+        Ok((renewal, renewed)) => {
+            give_way(document, renewal, renewed);
+            Ok(renewed)
+        }
         Err(fault) => {
             if !was_open {
                 document.shut();
@@ -134,7 +156,7 @@ fn renew_document<'a>(
     }
 }
 
-/// Renews the document of a number, which is closed then.
+/// Renews the document of a number, which is closed then. Where it isn't renewed it stays open, if it was.
 pub(crate) fn renew_at<'a>(
     rt: &'a HostRuntime,
     folder: &str,

@@ -34,6 +34,12 @@ fn read_seal(rt: &HostRuntime, folder: &str, name: &str) -> Result<Option<Seal>,
     }
 }
 
+// Writes the bytes of a seal beside the former one.
+fn write_coming(rt: &HostRuntime, coming: &str, seal: &Seal) -> io::Result<()> {
+    let bytes = seal.to_bytes(rt.alloc())?;
+    write_file(rt, coming, &bytes)
+}
+
 /// Writes the seal of the document in this folder in place of the former one.
 pub(crate) fn write_seal(
     rt: &HostRuntime,
@@ -41,11 +47,9 @@ pub(crate) fn write_seal(
     name: &str,
     seal: &Seal,
 ) -> io::Result<()> {
-    let alloc = rt.alloc();
-    let coming = format!(in alloc; "{folder}/{name}/seal.new")?;
-    let bytes = seal.to_bytes(alloc)?;
-    write_file(rt, coming.as_str(), &bytes)?;
-    let at_last = format!(in alloc; "{folder}/{name}/seal")?;
+    let coming = format!(in rt.alloc(); "{folder}/{name}/seal.new")?;
+    write_coming(rt, coming.as_str(), seal)?;
+    let at_last = format!(in rt.alloc(); "{folder}/{name}/seal")?;
     fs::rename(rt, coming.as_str(), at_last.as_str())
 }
 

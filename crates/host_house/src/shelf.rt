@@ -61,8 +61,8 @@ pub(crate) fn admit_at<'a>(
     let_in(rt, folder, &mut documents[number], entrant)
 }
 
-// Saves, seals and closes a document, if it can be saved.
-fn save_and_shut(
+// Saves and seals a document, if it can be saved.
+fn save_and_seal(
     rt: &HostRuntime,
     folder: &str,
     document: &mut Document<'_>,
@@ -70,6 +70,35 @@ fn save_and_shut(
     match document.commit() {
         Ok(_) => {
             seal_document(rt, folder, document);
+            Ok(())
+        }
+        Err(why) => Err(why),
+    }
+}
+
+/// Saves and seals the document of a number, if it can be saved.
+pub(crate) fn save_at(
+    rt: &HostRuntime,
+    folder: &str,
+    documents: &mut [Document<'_>],
+    number: usize,
+) -> Result<(), Ending>
+    ensures { OthersStay number documents.old documents.new }
+{
+    if number >= documents.len() {
+        return Err(Ending::NoDocument);
+    }
+    save_and_seal(rt, folder, &mut documents[number])
+}
+
+// Saves, seals and closes a document, if it can be saved.
+fn save_and_shut(
+    rt: &HostRuntime,
+    folder: &str,
+    document: &mut Document<'_>,
+) -> Result<(), Ending> {
+    match save_and_seal(rt, folder, document) {
+        Ok(()) => {
             document.shut();
             Ok(())
         }

@@ -4,7 +4,8 @@ use super::House;
 use crate::done::Consequence;
 use crate::fault::HouseFault;
 use crate::folder::{archive_folder, move_folder};
-use crate::shelf::shut_at;
+use crate::renewal::refuse_awaited;
+use crate::shelf::save_at;
 use host_link::{Ending, HouseOrder};
 use std::alloc::AllocError;
 
@@ -38,21 +39,31 @@ impl<'a> House<'a> {
         Ok(text)
     }
 
-    // Saves, seals and closes a document, so that its folder can be moved.
+    // Fails where the renewal of a document waits for its place.
+    fn refuse_renewed(&self, number: usize) -> Result<(), HouseFault> {
+        if let Some(document) = self.documents.get(number) {
+            refuse_awaited(self.rt, self.folder.as_str(), document.name())?;
+        }
+        Ok(())
+    }
+
+    // Saves and seals a document, so that its folder can be moved. It stays open until that has moved.
     fn settle_document(&mut self, number: usize) -> Result<(), HouseFault> {
-        match shut_at(self.rt, self.folder.as_str(), &mut self.documents, number) {
+        self.refuse_renewed(number)?;
+        match save_at(self.rt, self.folder.as_str(), &mut self.documents, number) {
             Ok(()) => Ok(()),
             Err(Ending::NoDocument) => Err(HouseFault::NoDocument),
             Err(_) => Err(HouseFault::Failed),
         }
     }
 
-    // Gives a document that is closed another name.
+    // Gives the folder of a document another name. The document stays open where that fails.
     fn move_settled(&mut self, number: usize, to: String) -> Result<(), HouseFault> {
         let Some(document) = self.documents.get_mut(number) else {
             return Err(HouseFault::NoDocument);
         };
         move_folder(self.rt, self.folder.as_str(), document.name(), to.as_str())?;
+        document.shut();
         document.rename(to);
         Ok(())
     }
@@ -69,7 +80,7 @@ impl<'a> House<'a> {
         Ok(text)
     }
 
-    // Puts a document away that is closed.
+    // Puts a document away. It stays open where its folder can't be moved.
     fn archive_settled(&mut self, number: usize) -> Result<(), HouseFault> {
         let Some(document) = self.documents.get_mut(number) else {
             return Err(HouseFault::NoDocument);

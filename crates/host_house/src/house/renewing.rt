@@ -1,10 +1,13 @@
 //! Orders that renew documents of a house.
+ghost use Rattle.std.specs.Prelude.{IfOk};
 ghost use Rattle.host_house.specs.Household.{TouchesDocument};
+ghost use Rattle.host_house.specs.Links.{EndsLinksTo};
 
 use super::House;
 use crate::done::Consequence;
 use crate::fault::HouseFault;
-use crate::renewing::{Renewed, renew_at};
+use crate::renewal::Renewed;
+use crate::renewing::renew_at;
 use std::alloc::AllocError;
 
 impl<'a> House<'a> {
@@ -24,7 +27,8 @@ impl<'a> House<'a> {
         &mut self,
         number: usize,
     ) -> Result<(String, Consequence), HouseFault>
-        ensures { TouchesDocument number self.old self.new }
+        ensures others { TouchesDocument number self.old self.new }
+        ensures links { IfOk result (λ told. EndsLinksTo number told.1) }
     {
         let (text, later) = self.renewal_texts(number)?;
         match renew_at(self.rt, self.folder.as_str(), &mut self.documents, number)? {
