@@ -1,5 +1,5 @@
 -- A house as a value, and what a call may change of it.
-use Rattle.std.specs.Prelude.{◌≡◌, ◌≢◌, ℕ, ◌&&◌, List, ◌∷◌, Option, Some, option_and_then, slice_get, bytes_eq}
+use Rattle.std.specs.Prelude.{◌≡◌, ◌≢◌, ℕ, ◌&&◌, List, ◌∷◌, Option, Some, IsSome, IsSomeAnd, option_and_then, slice_get, bytes_eq}
 use Rattle.sha2.specs.Sha256.{sha256}
 use Rattle.element_name.specs.Cases.{when}
 use Rattle.host_core.specs.declared.event.HostEvent.{HostEvent}
@@ -33,6 +33,14 @@ HoldsKey person site secret changes =
 -- the documents of other numbers stay
 abbrev pub OthersStay : ℕ → List (Option (List HostEvent)) → List (Option (List HostEvent)) → Type 0
 OthersStay number old new = (k : ℕ) → k ≢ number → slice_get new k ≡ slice_get old k
+
+-- the document of a number is open
+abbrev pub IsOpenAt : ℕ → List (Option (List HostEvent)) → Type 0
+IsOpenAt number documents = IsSomeAnd (slice_get documents number) IsSome
+
+-- it stays open, if it was
+abbrev pub StaysOpen : ℕ → List (Option (List HostEvent)) → List (Option (List HostEvent)) → Type 0
+StaysOpen number old new = IsOpenAt number old → IsOpenAt number new
 
 -- nothing is another but the document of a number
 pub record TouchesDocument (number : ℕ) (old new : Household) : Type 0 where

@@ -1,5 +1,6 @@
 //! A document that is renewed. All is made and in its place before anything is closed.
-ghost use Rattle.host_house.specs.Household.{OthersStay};
+ghost use Rattle.std.specs.Prelude.{◌≡◌, OnErr, IsSome};
+ghost use Rattle.host_house.specs.Household.{OthersStay, StaysOpen};
 
 use crate::fault::HouseFault;
 use crate::folder::new_identity;
@@ -21,7 +22,9 @@ fn open_saved<'a>(
     rt: &'a HostRuntime,
     folder: &str,
     document: &mut Document<'a>,
-) -> Result<(), HouseFault> {
+) -> Result<(), HouseFault>
+    ensures { IsSome document.old → IsSome document.new }
+{
     if open_sealed(rt, folder, document).is_err() {
         return Err(HouseFault::Renewal(RenewalFault::NotOpen));
     }
@@ -48,7 +51,9 @@ fn certified(
     rt: &HostRuntime,
     folder: &str,
     document: &mut Document<'_>,
-) -> Result<Former, HouseFault> {
+) -> Result<Former, HouseFault>
+    ensures { document.new ≡ document.old }
+{
     let Some(seal) = document.whole_seal(rt.alloc())? else {
         return Err(HouseFault::Renewal(RenewalFault::NotOpen));
     };
@@ -67,11 +72,9 @@ fn made_steps(rt: &HostRuntime, folder: &str, document: &Document<'_>) -> Result
 }
 
 // Makes the renewal of a document that is open and saved: its steps, and what it is besides.
-fn made(
-    rt: &HostRuntime,
-    folder: &str,
-    document: &mut Document<'_>,
-) -> Result<Renewal, HouseFault> {
+fn made(rt: &HostRuntime, folder: &str, document: &mut Document<'_>) -> Result<Renewal, HouseFault>
+    ensures { document.new ≡ document.old }
+{
     let identity = new_identity(rt)?;
     let seal = made_steps(rt, folder, document)?;
     let former = certified(rt, folder, document)?;
@@ -89,7 +92,9 @@ fn placed(
     folder: &str,
     document: &mut Document<'_>,
     renewal: &Renewal,
-) -> io::Result<Renewed> {
+) -> io::Result<Renewed>
+    ensures { document.new ≡ document.old }
+{
     write_coming(rt, folder, document.name(), renewal)?;
     seal_document(rt, folder, document);
     make_count(rt, folder, document.name())?;
@@ -101,7 +106,9 @@ fn made_placed(
     rt: &HostRuntime,
     folder: &str,
     document: &mut Document<'_>,
-) -> Result<(Renewal, Renewed), HouseFault> {
+) -> Result<(Renewal, Renewed), HouseFault>
+    ensures { document.new ≡ document.old }
+{
     let renewal = made(rt, folder, document)?;
     let renewed = placed(rt, folder, document, &renewal)?;
     Ok((renewal, renewed))
@@ -112,7 +119,9 @@ fn made_whole<'a>(
     rt: &'a HostRuntime,
     folder: &str,
     document: &mut Document<'a>,
-) -> Result<(Renewal, Renewed), HouseFault> {
+) -> Result<(Renewal, Renewed), HouseFault>
+    ensures { IsSome document.old → IsSome document.new }
+{
     open_saved(rt, folder, document)?;
     match made_placed(rt, folder, document) {
         Ok(made) => Ok(made),
@@ -140,7 +149,9 @@ fn renew_document<'a>(
     rt: &'a HostRuntime,
     folder: &str,
     document: &mut Document<'a>,
-) -> Result<Renewed, HouseFault> {
+) -> Result<Renewed, HouseFault>
+    ensures { OnErr result (IsSome document.old → IsSome document.new) }
+{
     let was_open = document.is_open();
     match made_whole(rt, folder, document) {
         Ok((renewal, renewed)) => {
@@ -163,7 +174,8 @@ pub(crate) fn renew_at<'a>(
     documents: &mut [Document<'a>],
     number: usize,
 ) -> Result<Renewed, HouseFault>
-    ensures { OthersStay number documents.old documents.new }
+    ensures others { OthersStay number documents.old documents.new }
+    ensures open { OnErr result (StaysOpen number documents.old documents.new) }
 {
     if number >= documents.len() {
         return Err(HouseFault::NoDocument);

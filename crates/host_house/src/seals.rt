@@ -1,6 +1,6 @@
 //! Seals as files. The seal of a document stands beside its steps. It is written whole beside the former one, and takes its
 //! place, always behind a save: so it never says more than the steps have.
-ghost use Rattle.std.specs.Prelude.{◌≡◌};
+ghost use Rattle.std.specs.Prelude.{◌≡◌, IsSome};
 
 use crate::folder::write_file;
 use host_document::{Document, OpenFault};
@@ -58,7 +58,9 @@ pub(crate) fn open_sealed<'a>(
     rt: &'a HostRuntime,
     folder: &str,
     document: &mut Document<'a>,
-) -> Result<(), OpenFault> {
+) -> Result<(), OpenFault>
+    ensures { IsSome document.old → document.new ≡ document.old }
+{
     if document.is_open() {
         return Ok(());
     }

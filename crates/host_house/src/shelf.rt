@@ -1,6 +1,6 @@
 //! Calls that touch one of a house's documents, and leave the others.
-ghost use Rattle.std.specs.Prelude.{◌≡◌, IfOk};
-ghost use Rattle.host_house.specs.Household.{OthersStay};
+ghost use Rattle.std.specs.Prelude.{◌≡◌, IfOk, IsSome};
+ghost use Rattle.host_house.specs.Household.{OthersStay, StaysOpen};
 
 use crate::seals::{open_sealed, seal_document};
 use host_core::{LinkId, Role};
@@ -62,11 +62,9 @@ pub(crate) fn admit_at<'a>(
 }
 
 // Saves and seals a document, if it can be saved.
-fn save_and_seal(
-    rt: &HostRuntime,
-    folder: &str,
-    document: &mut Document<'_>,
-) -> Result<(), Ending> {
+fn save_and_seal(rt: &HostRuntime, folder: &str, document: &mut Document<'_>) -> Result<(), Ending>
+    ensures { IsSome document.old → IsSome document.new }
+{
     match document.commit() {
         Ok(_) => {
             seal_document(rt, folder, document);
@@ -76,14 +74,15 @@ fn save_and_seal(
     }
 }
 
-/// Saves and seals the document of a number, if it can be saved.
+/// Saves and seals the document of a number, if it can be saved. It stays open, if it was.
 pub(crate) fn save_at(
     rt: &HostRuntime,
     folder: &str,
     documents: &mut [Document<'_>],
     number: usize,
 ) -> Result<(), Ending>
-    ensures { OthersStay number documents.old documents.new }
+    ensures others { OthersStay number documents.old documents.new }
+    ensures open { StaysOpen number documents.old documents.new }
 {
     if number >= documents.len() {
         return Err(Ending::NoDocument);

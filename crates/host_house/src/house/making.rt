@@ -1,4 +1,6 @@
 //! Orders about documents of a house.
+ghost use Rattle.std.specs.Prelude.{OnErr};
+ghost use Rattle.host_house.specs.Household.{StaysOpen};
 
 use super::House;
 use crate::done::Consequence;
@@ -48,7 +50,9 @@ impl<'a> House<'a> {
     }
 
     // Saves and seals a document, so that its folder can be moved. It stays open until that has moved.
-    fn settle_document(&mut self, number: usize) -> Result<(), HouseFault> {
+    fn settle_document(&mut self, number: usize) -> Result<(), HouseFault>
+        ensures { StaysOpen number self.old.documents self.new.documents }
+    {
         self.refuse_renewed(number)?;
         match save_at(self.rt, self.folder.as_str(), &mut self.documents, number) {
             Ok(()) => Ok(()),
@@ -58,7 +62,9 @@ impl<'a> House<'a> {
     }
 
     // Gives the folder of a document another name. The document stays open where that fails.
-    fn move_settled(&mut self, number: usize, to: String) -> Result<(), HouseFault> {
+    fn move_settled(&mut self, number: usize, to: String) -> Result<(), HouseFault>
+        ensures { OnErr result (StaysOpen number self.old.documents self.new.documents) }
+    {
         let Some(document) = self.documents.get_mut(number) else {
             return Err(HouseFault::NoDocument);
         };
@@ -69,7 +75,9 @@ impl<'a> House<'a> {
     }
 
     // Gives a document another name, which no other has.
-    fn move_named(&mut self, number: usize, to: &str) -> Result<String, HouseFault> {
+    fn move_named(&mut self, number: usize, to: &str) -> Result<String, HouseFault>
+        ensures { OnErr result (StaysOpen number self.old.documents self.new.documents) }
+    {
         if self.find(to).is_some() {
             return Err(HouseFault::NoDocument);
         }
@@ -81,7 +89,9 @@ impl<'a> House<'a> {
     }
 
     // Puts a document away. It stays open where its folder can't be moved.
-    fn archive_settled(&mut self, number: usize) -> Result<(), HouseFault> {
+    fn archive_settled(&mut self, number: usize) -> Result<(), HouseFault>
+        ensures { OnErr result (StaysOpen number self.old.documents self.new.documents) }
+    {
         let Some(document) = self.documents.get_mut(number) else {
             return Err(HouseFault::NoDocument);
         };
@@ -92,7 +102,9 @@ impl<'a> House<'a> {
     }
 
     // Puts a document away.
-    fn archive_named(&mut self, number: usize) -> Result<String, HouseFault> {
+    fn archive_named(&mut self, number: usize) -> Result<String, HouseFault>
+        ensures { OnErr result (StaysOpen number self.old.documents self.new.documents) }
+    {
         let text = String::from_str(self.alloc, "archived")?;
         self.settle_document(number)?;
         self.archive_settled(number)?;

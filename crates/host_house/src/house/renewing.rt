@@ -1,6 +1,6 @@
 //! Orders that renew documents of a house.
-ghost use Rattle.std.specs.Prelude.{IfOk};
-ghost use Rattle.host_house.specs.Household.{TouchesDocument};
+ghost use Rattle.std.specs.Prelude.{IfOk, OnErr};
+ghost use Rattle.host_house.specs.Household.{TouchesDocument, StaysOpen};
 ghost use Rattle.host_house.specs.Links.{EndsLinksTo};
 
 use super::House;
@@ -28,6 +28,7 @@ impl<'a> House<'a> {
         number: usize,
     ) -> Result<(String, Consequence), HouseFault>
         ensures others { TouchesDocument number self.old self.new }
+        ensures open { OnErr result (StaysOpen number self.old.documents self.new.documents) }
         ensures links { IfOk result (λ told. EndsLinksTo number told.1) }
     {
         let (text, later) = self.renewal_texts(number)?;
