@@ -1,3 +1,4 @@
 pub mod Closing
 pub mod Saving
 pub mod Sealing
+pub mod Users

@@ -5,3 +5,4 @@ pub mod Sealing
 pub mod HappensAt
 pub mod Admitted
 pub mod Rows
+pub mod Foreseen

@@ -1,8 +1,6 @@
 -- Rows of orders, and what they make.
 use Rattle.std.specs.Prelude.{◌≡◌, ℕ, List, [], ◌∷◌, ◌++◌, Option, Some, None, map}
-use Rattle.policy_book.specs.declared.op.AdminOp.{AdminOp}
 use Rattle.peer_step.specs.declared.step.Step.{Step}
-use Rattle.peer_step.specs.declared.step.Step.TheVariants.{Administer}
 use Rattle.peer_core.specs.Answers.{answer_of}
 use Rattle.line_spelling.specs.declared.signs.TheConstants.{LINE_END}
 use Rattle.line_spelling.specs.Answers.{answer_line}
@@ -38,9 +36,3 @@ pub record IsRowMade (link : LinkId) (text : List ℕ) (old new : List HostEvent
 abbrev pub MakesRow : LinkId → List ℕ → Option (List HostEvent) → Option (List HostEvent) → List ℕ → Type 0
 MakesRow link text (Some old) (Some new) lines = IsRowMade link text old new lines
 MakesRow link text old new lines = ⊥
-
--- a text is the line of an operation, and this the line of the answer that it would get
-pub record IsForeseen (text : List ℕ) (past : List HostEvent) (line : List ℕ) : Type 0 where
-  pub op : AdminOp
-  pub said : step_line text ≡ Some (Administer op)
-  pub answer : line ≡ answer_line None (answer_of (host_peer past) (Administer op))

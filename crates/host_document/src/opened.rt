@@ -10,6 +10,7 @@ ghost use Rattle.host_document.specs.Endings.{ending_of};
 ghost use Rattle.host_document.specs.Settled.{IsSettled};
 
 mod entering;
+mod foreseen;
 mod meeting;
 mod ordering;
 mod sealing;

@@ -1,6 +1,7 @@
 //! Rows of orders to a document.
 ghost use Rattle.std.specs.Prelude.{◌≡◌, ◌⊎◌, None, false, OnErr, IfOk, IfErr, IsSomeAnd};
-ghost use Rattle.host_document.specs.Rows.{MakesRow, IsForeseen};
+ghost use Rattle.host_document.specs.Rows.{MakesRow};
+ghost use Rattle.host_document.specs.Foreseen.{IsForeseen};
 
 use super::Document;
 use crate::fault::RowFault;
@@ -10,7 +11,8 @@ use host_link::Ending;
 use std::alloc::Global;
 
 impl<'a> Document<'a> {
-    /// What the operation of a line would do now: the line of the answer that it would get. Nothing changes.
+    /// What the operation of a line would do now: the line of the answer that it would get, and behind it a line for each
+    /// user whose edits it would undo, with how many. Nothing changes.
     pub fn would(&self, alloc: Global, line: &str) -> Result<Vec<u8>, RowFault>
         ensures { IfOk result (λ answers. IsSomeAnd self.now (λ past. IsForeseen line.now past answers.items)) }
     {

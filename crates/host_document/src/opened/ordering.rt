@@ -5,15 +5,17 @@ ghost use Rattle.peer_core.specs.Answers.{answer_of};
 ghost use Rattle.line_spelling.specs.Answers.{answer_line};
 ghost use Rattle.host_core.specs.declared.event.HostEvent.{HostEvent};
 ghost use Rattle.host_core.specs.Past.{host_peer};
-ghost use Rattle.host_document.specs.Rows.{past_behind, answers_to, IsRowMade, IsForeseen};
+ghost use Rattle.host_document.specs.Rows.{past_behind, answers_to, IsRowMade};
+ghost use Rattle.host_document.specs.Foreseen.{IsOutlook, IsForeseen};
 
 use super::Opened;
+use super::foreseen::user_lines;
 use crate::fault::RowFault;
 use crate::row::{read_order, read_row};
 use crate::rules::Rules;
 use element_name::NoMemory;
-use host_core::LinkId;
-use line_write::answer_line;
+use host_core::{LinkId, Outlook};
+use line_write::{answer_line, put};
 use peer_step::{Answer, Step};
 use policy_book::AdminOp;
 use std::alloc::Global;
@@ -181,17 +183,19 @@ impl<'a> Opened<'a> {
         }
     }
 
-    // The line of the answer that an operation would get now.
+    // The lines of an operation: the answer that it would get now, and whose edits it would undo.
     fn line_of_would(&self, alloc: Global, op: &AdminOp) -> Result<Vec<u8>, RowFault>
-        ensures { IfOk result (λ line. line.items ≡ answer_line None (answer_of (host_peer self.now) (Step.Administer op.now))) }
+        ensures { IfOk result (λ lines. IsOutlook (host_peer self.now) op.now lines.items) }
     {
-        let answer = self.host.would_answer(alloc, op)?;
-        let line = line_of(alloc, answer)?;
-        Ok(line)
+        let Outlook { answer, undone } = self.host.outlook(alloc, op)?;
+        let mut lines = line_of(alloc, answer)?;
+        let whose = user_lines(alloc, &undone)?;
+        put(&mut lines, &whose)?;
+        Ok(lines)
     }
 
-    /// What the operation of a line would do now: the line of the answer that its step would get. It takes the time and
-    /// memory of the whole journal.
+    /// What the operation of a line would do now: the line of the answer that its step would get, and behind it a line for
+    /// each user whose edits it would undo, with how many. It takes the time and memory of the whole journal.
     pub(crate) fn would(&self, alloc: Global, line: &[u8]) -> Result<Vec<u8>, RowFault>
         ensures { IfOk result (λ lines. IsForeseen line.now self.now lines.items) }
     {
