@@ -34,91 +34,6 @@ grown_by p (step ∷ steps) first h =
     grown_by (peer_after p step) steps first
     (h.0 ++ grown.0, grown.1 ∙ ap (λ (J : List Message). J ++ grown.0) h.1 ∙ append_assoc first h.0 grown.0)
 
-grown_replay : (steps more : List Step) (first : List Message) → Begins first (replay_of 0 steps).journal → Begins first (replay_of 0 (steps ++ more)).journal
-grown_replay steps more first h =
-    subst (λ (p : Peer). Begins first p.journal) (sym (fold-append peer_after (replay_of 0 []) steps more)) (grown_by (replay_of 0 steps) more first h)
-
--- what is left with these steps, or with more of them
-leaves_either : (steps more : List Step) (first : List Message) (file : List ℕ) → Begins first (replay_of 0 steps).journal → StandsWithOrWithout 0 steps more file → HasMessages 0 first file
-leaves_either steps more first file h (inl without) = record { steps = steps; stands = without; others = h.0; journal_is = h.1 }
-leaves_either steps more first file h (inr with) =
-    let g = grown_replay steps more first h in
-    record { steps = steps ++ more; stands = with; others = g.0; journal_is = g.1 }
-
--- ---- a disk that has these steps
-
-module _ (steps : List Step) (seen : Option (List ℕ)) (may_leave : List ℕ → Type 0) (has : IsOnDisk 0 steps seen may_leave) where
-  -- each file that is left stands for them
-  stands_for : (file : List ℕ) → may_leave file → StandsFor 0 steps file
-  stands_for file left = subst (StandsFor 0 steps) (sym (has.keeps.durable file left)) (record { bodies = has.bodies; spelled = has.spelled; has = has.keeps.has })
-
-  -- what is kept of the journal is a beginning of that of the steps
-  kept_begins : OneList → (first : List Message) → HasMessages 0 first has.keeps.file → StandsFor 0 steps has.keeps.file → Begins first (replay_of 0 steps).journal
-  kept_begins one first journal stands =
-      let same : journal.steps ≡ steps = one 0 has.keeps.file journal.steps steps journal.stands stands in
-      subst (λ (s : List Step). Begins first (replay_of 0 s).journal) same (journal.others, journal.journal_is)
-
-  -- the file that the disk tells may be left
-  may_be_left : IfSome seen (λ file. may_leave file) → may_leave has.keeps.file
-  may_be_left may = subst (λ (o : Option (List ℕ)). IfSome o (λ f. may_leave f)) has.keeps.told may
-
--- ---- a store that is saved
-
-module _ (steps : List Step) (saved : Saved) (seen : Option (List ℕ)) (may_leave : List ℕ → Type 0) (kept : IsSaved 0 steps saved seen may_leave) where
-  on_disk : IsOnDisk 0 steps seen may_leave
-  on_disk = record {
-    bodies = kept.bodies;
-    spelled = kept.spelled;
-    keeps = record { file = kept.keeps.file; told = kept.keeps.told; has = kept.keeps.has; durable = kept.keeps.durable; place_is = refl };
-  }
-
-  pub saved_held : IsHeld saved seen may_leave
-  saved_held = record {
-    steps = steps;
-    more = [];
-    ahead = record {
-      bodies = kept.bodies;
-      spelled = kept.spelled;
-      unsaved = subst (KeptAs (replay_of 0 steps) []) (sym kept.none) tt;
-      place_is =
-          let none : length (records saved.unsaved) ≡ 0 = ap (λ (bodies : List (List ℕ)). length (records bodies)) kept.none in
-          let place : saved.place ≡ gate_place kept.bodies = kept.keeps.place_is in
-          omega arith;
-      peer_is = kept.peer_is;
-      safe_is = kept.safe_is ∙ ap (λ (p : Peer). length p.journal) kept.peer_is;
-    };
-    disk = on_disk;
-  }
-
-  -- its whole journal is kept
-  pub saved_keeps : (file : List ℕ) → may_leave file → HasMessages 0 saved.peer.journal file
-  saved_keeps file left = record {
-    steps = steps;
-    stands = stands_for steps seen may_leave on_disk file left;
-    others = [];
-    journal_is = ap (λ (p : Peer). p.journal) (sym kept.peer_is) ∙ sym (append-nil saved.peer.journal);
-  }
-
--- ---- a new keeper
-
--- what the clauses of an opening say, of what the disk told before
-abbrev pub SavedIfSeen : Option (List ℕ) → Saved → Option (List ℕ) → (List ℕ → Type 0) → Type 0
-SavedIfSeen before saved seen may_leave = IsSome before → (steps : List Step) × IsSaved 0 steps saved seen may_leave
-
-was_told : {A : Type 0} (o : Option A) → is_some o ∷ [] ≡ true ∷ [] → IsSome o
-was_told None is = absurd cc
-was_told (Some x) is = search (arith)
-
-pub new_held : (before : Option (List ℕ)) (saved : Saved) (seen : Option (List ℕ)) (may_leave : List ℕ → Type 0) → SavedIfSeen before saved seen may_leave
-    → IsHeldIfTold (is_some before ∷ []) saved seen may_leave
-new_held before saved seen may_leave h is unspent = let kept = h (was_told before is) in saved_held kept.0 saved seen may_leave kept.1
-
-pub new_keeps : (before : Option (List ℕ)) (saved : Saved) (seen : Option (List ℕ)) (may_leave : List ℕ → Type 0) → SavedIfSeen before saved seen may_leave
-    → KeepsJournal (is_some before ∷ []) may_leave saved.peer.journal
-new_keeps before saved seen may_leave h is file left = let kept = h (was_told before is) in merely (saved_keeps kept.0 saved seen may_leave kept.1 file left)
-
--- ---- a save
-
 -- what the clauses of a save say where it went well
 abbrev pub Saves : Saved → Saved → Option (List ℕ) → Option (List ℕ) → (List ℕ → Type 0) → (List ℕ → Type 0) → Type 0
 Saves old new before now may may_now = (site : ℕ) (steps more : List Step) → IsAhead site steps more old → IsOnDisk site steps before may → IsSaved site (steps ++ more) new now may_now
@@ -127,48 +42,138 @@ Saves old new before now may may_now = (site : ℕ) (steps more : List Step) →
 abbrev pub Leaves : Saved → Option (List ℕ) → (List ℕ → Type 0) → (List ℕ → Type 0) → Type 0
 Leaves old before may may_now = (site : ℕ) (steps more : List Step) → IsAhead site steps more old → IsOnDisk site steps before may → (file : List ℕ) → may_now file → StandsWithOrWithout site steps more file
 
-pub save_holds : (told : List Bool) (old new : Saved) (before now : Option (List ℕ)) (may may_now : List ℕ → Type 0) → old.spent ≡ false → Saves old new before now may may_now
-    → IsHeldIfTold told old before may → IsHeldIfTold told new now may_now
-save_holds told old new before now may may_now unspent saves held is _ =
-    let h = held is unspent in
-    saved_held (h.steps ++ h.more) new now may_now (saves 0 h.steps h.more h.ahead h.disk)
-
-pub save_keeps_all : (told : List Bool) (old new : Saved) (before now : Option (List ℕ)) (may may_now : List ℕ → Type 0) → old.spent ≡ false → Saves old new before now may may_now
-    → ∥ IsHeldIfTold told old before may ∥₁ → KeepsJournal told may_now new.peer.journal
-save_keeps_all told old new before now may may_now unspent saves held is file there =
-    ∥∥₁_map held (λ (there_held : IsHeldIfTold told old before may).
-    let h = there_held is unspent in
-    saved_keeps (h.steps ++ h.more) new now may_now (saves 0 h.steps h.more h.ahead h.disk) file there)
-
-pub save_keeps : OneList → (told : List Bool) (old : Saved) (before : Option (List ℕ)) (may may_now : List ℕ → Type 0) (first : List Message) → old.spent ≡ false → Leaves old before may may_now
-    → IfSome before (λ file. may file) → ∥ IsHeldIfTold told old before may ∥₁ → KeepsJournal told may first → KeepsJournal told may_now first
-save_keeps one told old before may may_now first unspent leaves left held keeps is file there =
-    ∥∥₁_elim held ∥∥₁_prop (λ (there_held : IsHeldIfTold told old before may).
-    let h = there_held is unspent in
-    let now : may h.disk.keeps.file = may_be_left h.steps before may h.disk left in
-    let stands : StandsFor 0 h.steps h.disk.keeps.file = stands_for h.steps before may h.disk h.disk.keeps.file now in
-    ∥∥₁_map (keeps is h.disk.keeps.file now) (λ (journal : HasMessages 0 first h.disk.keeps.file).
-    leaves_either h.steps h.more first file (kept_begins h.steps before may h.disk one first journal stands) (leaves 0 h.steps h.more h.ahead h.disk file there)))
-
--- ---- a step
-
+-- a store is spent after a step as it was before
 pub step_spent : {A : Type 0} (result : Result A StoreFault) (old new : Saved) (failed : Bool) → OnOk result (new.spent ≡ false) → OnErr result (new ≡ old) → old.spent ≡ failed → failed ≡ false
     → new.spent ≡ failed
 step_spent (Ok x) old new failed ok err is unspent = ok ∙ sym unspent
 step_spent (Err fault) old new failed ok err is unspent = ap (λ (s : Saved). s.spent) err ∙ is
 
-pub step_held : {A : Type 0} (result : Result A StoreFault) (told : List Bool) (old new : Saved) (step : Step) (seen : Option (List ℕ)) (may_leave : List ℕ → Type 0)
-    → OnOk result ((site : ℕ) (steps more : List Step) → IsAhead site steps more old → IsAhead site steps (more ++ if_changing old.peer step) new) → OnErr result (new ≡ old) → old.spent ≡ false
-    → IsHeldIfTold told old seen may_leave → IsHeldIfTold told new seen may_leave
-step_held (Ok x) told old new step seen may_leave ok err unspent held is _ =
-    let h = held is unspent in
-    record { steps = h.steps; more = h.more ++ if_changing old.peer step; ahead = ok 0 h.steps h.more h.ahead; disk = h.disk }
-step_held (Err fault) told old new step seen may_leave ok err unspent held is _ = subst (λ (s : Saved). IsHeld s seen may_leave) (sym err) (held is unspent)
+-- what a test says of what the disk told
+was_told : {A : Type 0} (o : Option A) → is_some o ∷ [] ≡ true ∷ [] → IsSome o
+was_told None is = absurd cc
+was_told (Some x) is = search (arith)
 
--- ---- an opening
+-- ---- the store of a site
 
--- a new store, on a disk of which the length was asked before
-pub made_saved : (result : Result Saved StoreFault) (before now seen : Option (List ℕ)) (may_leave : List ℕ → Type 0) → now ≡ before
-    → IfOk result (λ saved. IsSome now → IsSaved 0 [] saved seen may_leave) → IfOk result (λ saved. SavedIfSeen before saved seen may_leave)
-made_saved (Ok saved) before now seen may_leave same made = λ some. ([], made (subst IsSome (sym same) some))
-made_saved (Err fault) before now seen may_leave same made = tt
+module _ (site : ℕ) where
+  grown_replay : (steps more : List Step) (first : List Message) → Begins first (replay_of site steps).journal → Begins first (replay_of site (steps ++ more)).journal
+  grown_replay steps more first h =
+      subst (λ (p : Peer). Begins first p.journal) (sym (fold-append peer_after (replay_of site []) steps more)) (grown_by (replay_of site steps) more first h)
+
+  -- what is left with these steps, or with more of them
+  leaves_either : (steps more : List Step) (first : List Message) (file : List ℕ) → Begins first (replay_of site steps).journal → StandsWithOrWithout site steps more file → HasMessages site first file
+  leaves_either steps more first file h (inl without) = record { steps = steps; stands = without; others = h.0; journal_is = h.1 }
+  leaves_either steps more first file h (inr with) =
+      let g = grown_replay steps more first h in
+      record { steps = steps ++ more; stands = with; others = g.0; journal_is = g.1 }
+
+  -- ---- a disk that has these steps
+
+  module _ (steps : List Step) (seen : Option (List ℕ)) (may_leave : List ℕ → Type 0) (has : IsOnDisk site steps seen may_leave) where
+    -- each file that is left stands for them
+    stands_for : (file : List ℕ) → may_leave file → StandsFor site steps file
+    stands_for file left = subst (StandsFor site steps) (sym (has.keeps.durable file left)) (record { bodies = has.bodies; spelled = has.spelled; has = has.keeps.has })
+
+    -- what is kept of the journal is a beginning of that of the steps
+    kept_begins : OneList → (first : List Message) → HasMessages site first has.keeps.file → StandsFor site steps has.keeps.file → Begins first (replay_of site steps).journal
+    kept_begins one first journal stands =
+        let same : journal.steps ≡ steps = one site has.keeps.file journal.steps steps journal.stands stands in
+        subst (λ (s : List Step). Begins first (replay_of site s).journal) same (journal.others, journal.journal_is)
+
+    -- the file that the disk tells may be left
+    may_be_left : IfSome seen (λ file. may_leave file) → may_leave has.keeps.file
+    may_be_left may = subst (λ (o : Option (List ℕ)). IfSome o (λ f. may_leave f)) has.keeps.told may
+
+  -- ---- a store that is saved
+
+  module _ (steps : List Step) (saved : Saved) (seen : Option (List ℕ)) (may_leave : List ℕ → Type 0) (kept : IsSaved site steps saved seen may_leave) where
+    on_disk : IsOnDisk site steps seen may_leave
+    on_disk = record {
+      bodies = kept.bodies;
+      spelled = kept.spelled;
+      keeps = record { file = kept.keeps.file; told = kept.keeps.told; has = kept.keeps.has; durable = kept.keeps.durable; place_is = refl };
+    }
+
+    pub saved_held : IsHeld site saved seen may_leave
+    saved_held = record {
+      steps = steps;
+      more = [];
+      ahead = record {
+        bodies = kept.bodies;
+        spelled = kept.spelled;
+        unsaved = subst (KeptAs (replay_of site steps) []) (sym kept.none) tt;
+        place_is =
+            let none : length (records saved.unsaved) ≡ 0 = ap (λ (bodies : List (List ℕ)). length (records bodies)) kept.none in
+            let place : saved.place ≡ gate_place kept.bodies = kept.keeps.place_is in
+            omega arith;
+        peer_is = kept.peer_is;
+        safe_is = kept.safe_is ∙ ap (λ (p : Peer). length p.journal) kept.peer_is;
+      };
+      disk = on_disk;
+    }
+
+    -- its whole journal is kept
+    pub saved_keeps : (file : List ℕ) → may_leave file → HasMessages site saved.peer.journal file
+    saved_keeps file left = record {
+      steps = steps;
+      stands = stands_for steps seen may_leave on_disk file left;
+      others = [];
+      journal_is = ap (λ (p : Peer). p.journal) (sym kept.peer_is) ∙ sym (append-nil saved.peer.journal);
+    }
+
+  -- ---- a new keeper
+
+  -- what the clauses of an opening say, of what the disk told before
+  abbrev pub SavedIfSeen : Option (List ℕ) → Saved → Option (List ℕ) → (List ℕ → Type 0) → Type 0
+  SavedIfSeen before saved seen may_leave = IsSome before → (steps : List Step) × IsSaved site steps saved seen may_leave
+
+  pub new_held : (before : Option (List ℕ)) (saved : Saved) (seen : Option (List ℕ)) (may_leave : List ℕ → Type 0) → SavedIfSeen before saved seen may_leave
+      → IsHeldIfTold site (is_some before ∷ []) saved seen may_leave
+  new_held before saved seen may_leave h is unspent = let kept = h (was_told before is) in saved_held kept.0 saved seen may_leave kept.1
+
+  pub new_keeps : (before : Option (List ℕ)) (saved : Saved) (seen : Option (List ℕ)) (may_leave : List ℕ → Type 0) → SavedIfSeen before saved seen may_leave
+      → KeepsJournal site (is_some before ∷ []) may_leave saved.peer.journal
+  new_keeps before saved seen may_leave h is file left = let kept = h (was_told before is) in merely (saved_keeps kept.0 saved seen may_leave kept.1 file left)
+
+  -- ---- a save
+
+  pub save_holds : (told : List Bool) (old new : Saved) (before now : Option (List ℕ)) (may may_now : List ℕ → Type 0) → old.spent ≡ false → Saves old new before now may may_now
+      → IsHeldIfTold site told old before may → IsHeldIfTold site told new now may_now
+  save_holds told old new before now may may_now unspent saves held is _ =
+      let h = held is unspent in
+      saved_held (h.steps ++ h.more) new now may_now (saves site h.steps h.more h.ahead h.disk)
+
+  pub save_keeps_all : (told : List Bool) (old new : Saved) (before now : Option (List ℕ)) (may may_now : List ℕ → Type 0) → old.spent ≡ false → Saves old new before now may may_now
+      → ∥ IsHeldIfTold site told old before may ∥₁ → KeepsJournal site told may_now new.peer.journal
+  save_keeps_all told old new before now may may_now unspent saves held is file there =
+      ∥∥₁_map held (λ (there_held : IsHeldIfTold site told old before may).
+      let h = there_held is unspent in
+      saved_keeps (h.steps ++ h.more) new now may_now (saves site h.steps h.more h.ahead h.disk) file there)
+
+  pub save_keeps : OneList → (told : List Bool) (old : Saved) (before : Option (List ℕ)) (may may_now : List ℕ → Type 0) (first : List Message) → old.spent ≡ false → Leaves old before may may_now
+      → IfSome before (λ file. may file) → ∥ IsHeldIfTold site told old before may ∥₁ → KeepsJournal site told may first → KeepsJournal site told may_now first
+  save_keeps one told old before may may_now first unspent leaves left held keeps is file there =
+      ∥∥₁_elim held ∥∥₁_prop (λ (there_held : IsHeldIfTold site told old before may).
+      let h = there_held is unspent in
+      let now : may h.disk.keeps.file = may_be_left h.steps before may h.disk left in
+      let stands : StandsFor site h.steps h.disk.keeps.file = stands_for h.steps before may h.disk h.disk.keeps.file now in
+      ∥∥₁_map (keeps is h.disk.keeps.file now) (λ (journal : HasMessages site first h.disk.keeps.file).
+      leaves_either h.steps h.more first file (kept_begins h.steps before may h.disk one first journal stands) (leaves site h.steps h.more h.ahead h.disk file there)))
+
+  -- ---- a step
+
+  pub step_held : {A : Type 0} (result : Result A StoreFault) (told : List Bool) (old new : Saved) (step : Step) (seen : Option (List ℕ)) (may_leave : List ℕ → Type 0)
+      → OnOk result ((site : ℕ) (steps more : List Step) → IsAhead site steps more old → IsAhead site steps (more ++ if_changing old.peer step) new) → OnErr result (new ≡ old) → old.spent ≡ false
+      → IsHeldIfTold site told old seen may_leave → IsHeldIfTold site told new seen may_leave
+  step_held (Ok x) told old new step seen may_leave ok err unspent held is _ =
+      let h = held is unspent in
+      record { steps = h.steps; more = h.more ++ if_changing old.peer step; ahead = ok site h.steps h.more h.ahead; disk = h.disk }
+  step_held (Err fault) told old new step seen may_leave ok err unspent held is _ = subst (λ (s : Saved). IsHeld site s seen may_leave) (sym err) (held is unspent)
+
+  -- ---- an opening
+
+  -- a new store, on a disk of which the length was asked before
+  pub made_saved : (result : Result Saved StoreFault) (before now seen : Option (List ℕ)) (may_leave : List ℕ → Type 0) → now ≡ before
+      → IfOk result (λ saved. IsSome now → IsSaved site [] saved seen may_leave) → IfOk result (λ saved. SavedIfSeen before saved seen may_leave)
+  made_saved (Ok saved) before now seen may_leave same made = λ some. ([], made (subst IsSome (sym same) some))
+  made_saved (Err fault) before now seen may_leave same made = tt

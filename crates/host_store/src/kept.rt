@@ -15,9 +15,10 @@ use std::alloc::Global;
 // The site of the administrator.
 const ADMINISTRATOR: u16 = 0;
 
-/// A store of the administrator with its disk. Steps are made in memory, and saved all at once.
+/// A store of a site with its disk. Steps are made in memory, and saved all at once.
 #[derive(Drop)]
 pub struct StoreKeeper<D: Disk> {
+    site: u16,
     store: Store,
     disk: D,
     failed: bool,
@@ -25,35 +26,46 @@ pub struct StoreKeeper<D: Disk> {
     told: GhostList<bool>,
     ghost spent: { store.spent ≡ failed },
     ghost gate: { ∥ HasGate store (D.seen disk) ∥₁ },
-    ghost held: { ∥ IsHeldIfTold told.items store (D.seen disk) (D.may_leave disk) ∥₁ },
+    ghost held: { ∥ IsHeldIfTold site told.items store (D.seen disk) (D.may_leave disk) ∥₁ },
 }
 
-// The store of the administrator on this disk: a new one where it is empty.
-fn open_store<D: Disk>(alloc: Global, disk: &mut D) -> Result<Store, StoreFault>
+// The store of a site on this disk: a new one where it is empty.
+fn open_store<D: Disk>(alloc: Global, disk: &mut D, site: u16) -> Result<Store, StoreFault>
     ensures unspent { IfOk result (λ store. store.spent ≡ false) }
     ensures gate { IfOk result (λ store. HasGate store (D.seen disk.new)) }
-    ensures saved { IfOk result (λ store. IsSome (D.seen disk.old) → (steps : List Step) × IsSaved 0 steps store (D.seen disk.new) (D.may_leave disk.new)) }
+    ensures saved { IfOk result (λ store. IsSome (D.seen disk.old) → (steps : List Step) × IsSaved site steps store (D.seen disk.new) (D.may_leave disk.new)) }
 {
     let Ok(size) = disk.len() else {
         return Err(StoreFault::DiskFault);
     };
     if size == 0 {
-        Store::create(alloc, disk, ADMINISTRATOR)
+        Store::create(alloc, disk, site)
     } else {
-        Store::open(alloc, disk, ADMINISTRATOR)
+        Store::open(alloc, disk, site)
     }
 }
 
 impl<D: Disk + Drop> StoreKeeper<D> {
     /// The keeper of the store of the administrator on this disk: a new one where the disk is empty.
-    pub fn open(alloc: Global, mut disk: D) -> Result<Self, StoreFault>
+    pub fn open(alloc: Global, disk: D) -> Result<Self, StoreFault>
         // The whole journal is kept.
-        ensures kept { IfOk result (λ k. KeepsJournal k.told.items (D.may_leave k.disk) k.store.peer.journal) }
+        ensures kept { IfOk result (λ k. KeepsJournal k.site k.told.items (D.may_leave k.disk) k.store.peer.journal) }
+        ensures site { IfOk result (λ k. k.site ≡ ADMINISTRATOR) }
+    {
+        StoreKeeper::open_at(alloc, disk, ADMINISTRATOR)
+    }
+
+    /// The keeper of the store of a site on this disk: a new one where the disk is empty.
+    pub fn open_at(alloc: Global, mut disk: D, site: u16) -> Result<Self, StoreFault>
+        // The whole journal is kept.
+        ensures kept { IfOk result (λ k. KeepsJournal k.site k.told.items (D.may_leave k.disk) k.store.peer.journal) }
+        ensures site { IfOk result (λ k. k.site ≡ site) }
     {
         let none: GhostList<bool> = GhostList::new();
         let told = none.changed(&disk);
-        let store = open_store(alloc, &mut disk)?;
+        let store = open_store(alloc, &mut disk, site)?;
         Ok(StoreKeeper {
+            site,
             store,
             disk,
             failed: false,
@@ -67,7 +79,7 @@ impl<D: Disk + Drop> Keeper for StoreKeeper<D> {
 
     ghost peer = { λ k. k.store.peer };
 
-    ghost keeps = { λ k first. KeepsJournal k.told.items (D.may_leave k.disk) first };
+    ghost keeps = { λ k first. KeepsJournal k.site k.told.items (D.may_leave k.disk) first };
 
     fn peer(&self) -> &Peer {
         self.store.peer()
