@@ -1,7 +1,6 @@
 """The host of a document that is played, with what else is run on its folder.
 
-It is the program $HOST, else the proved one where it stands built, and its follower $FOLLOW, else out/follow, where
-`bench/following/build out/follow` puts it on request. What isn't built isn't run.
+It is the program $HOST, and its follower $FOLLOW, else the proved ones where they stand built. What isn't built isn't run.
 """
 import os
 import re
@@ -24,8 +23,8 @@ class NotRight(Exception):
 
 def program(word):
     """The program that a word begins, None where it isn't built. Copies are made where there is a host."""
-    variable, usual = ("FOLLOW", "out/follow") if word == "follow" else ("HOST", "crates/host_main/out/host_main")
-    path = os.path.join(TOP, os.environ.get(variable, usual))
+    variable, crate = ("FOLLOW", "follow_main") if word == "follow" else ("HOST", "host_main")
+    path = os.path.join(TOP, os.environ.get(variable, f"crates/{crate}/out/{crate}"))
     return path if os.access(path, os.X_OK) else None
 
 

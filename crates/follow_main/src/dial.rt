@@ -2,8 +2,10 @@
 
 use crate::address::Address;
 use crate::socket::{Greeting, Keys, Socket, limits};
+use http::Request;
 use mio::net::TcpStream;
 use mio::{Interest, Poll, Token};
+use std::alloc::{AllocError, Global};
 use std::io::{self, ErrorKind};
 use std::net::{SocketAddr, ToSocketAddrs};
 use std::random::RandomSource;
@@ -37,12 +39,17 @@ pub(crate) enum Greeted {
     Failed,
 }
 
-// One of the places of a host: each time that it is tried the next.
-fn place_of(rt: &HostRuntime, address: &Address, tries: usize) -> io::Result<SocketAddr> {
+// The places of a host.
+fn places_of(rt: &HostRuntime, address: Address<'_>) -> io::Result<Vec<SocketAddr>> {
     let mut places = Vec::new(rt.alloc());
-    for place in (address.host.as_str(), address.port).to_socket_addrs(rt)? {
+    for place in (address.host, address.port).to_socket_addrs(rt)? {
         places.push(place)?;
     }
+    Ok(places)
+}
+
+// One of places: each time that it is tried the next.
+fn place_for(places: &[SocketAddr], tries: usize) -> io::Result<SocketAddr> {
     let number = tries.checked_rem(places.len()).unwrap_or(0);
     match places.get(number) {
         Some(place) => Ok(*place),
@@ -54,11 +61,13 @@ fn place_of(rt: &HostRuntime, address: &Address, tries: usize) -> io::Result<Soc
 pub(crate) fn dial(
     rt: &HostRuntime,
     poll: &Poll,
-    address: &Address,
+    address: Address<'_>,
     tries: usize,
 ) -> io::Result<TcpStream> {
-    let place = place_of(rt, address, tries)?;
-    let mut stream = TcpStream::connect(rt, place)?;
+    let places = places_of(rt, address)?;
+    let place = place_for(&places, tries);
+    drop(places);
+    let mut stream = TcpStream::connect(rt, place?)?;
     let both = Interest::READABLE | Interest::WRITABLE;
     poll.registry().register(&mut stream, LINK, both)?;
     Ok(stream)
@@ -81,24 +90,58 @@ pub(crate) fn reach(stream: TcpStream) -> Reached {
 }
 
 // Where the links of a document are.
-fn link_place(rt: &HostRuntime, address: &Address) -> io::Result<String> {
-    let host = address.host.as_str();
-    let port = address.port;
-    let path = address.path.as_str();
+fn link_place(alloc: Global, address: Address<'_>) -> Result<String, AllocError> {
+    let Address {
+        host,
+        port,
+        path,
+        ..
+    } = address;
     if host.contains(':') {
-        return Ok(format!(in rt.alloc(); "ws://[{host}]:{port}{path}link")?);
+        return format!(in alloc; "ws://[{host}]:{port}/{path}/link");
     }
-    Ok(format!(in rt.alloc(); "ws://{host}:{port}{path}link")?)
+    format!(in alloc; "ws://{host}:{port}/{path}/link")
+}
+
+// The request of an upgrade.
+fn request_for(alloc: Global, address: Address<'_>) -> Result<Request<()>, Error> {
+    let place = link_place(alloc, address)?;
+    let request = client::request_of(alloc, place.as_str());
+    drop(place);
+    request
+}
+
+// Random bytes.
+fn nonce(rt: &HostRuntime) -> io::Result<[u8; NONCE]> {
+    let mut nonce = [0; NONCE];
+    rt.fill_bytes(&mut nonce)?;
+    Ok(nonce)
 }
 
 // Asks for the upgrade of a stream.
-fn asked(rt: &HostRuntime, address: &Address, stream: TcpStream) -> Result<Greeting, Error> {
-    let place = link_place(rt, address)?;
-    let request = client::request_of(rt.alloc(), place.as_str())?;
-    let mut nonce = [0; NONCE];
-    rt.fill_bytes(&mut nonce)?;
-    let keys: Keys = RandomKeys::new(*rt);
-    client::start(rt.alloc(), nonce, keys, request, stream, Some(limits()))
+fn ask(rt: &HostRuntime, request: Request<()>, stream: TcpStream) -> Result<Greeting, Error> {
+    match nonce(rt) {
+        Ok(nonce) => {
+            let keys: Keys = RandomKeys::new(*rt);
+            client::start(rt.alloc(), nonce, keys, request, stream, Some(limits()))
+        }
+        Err(error) => {
+            drop(request);
+            drop(stream);
+            Err(Error::Io(error))
+        }
+    }
+}
+
+// Asks for the upgrade of a stream at the place of an address.
+fn asked(rt: &HostRuntime, address: Address<'_>, stream: TcpStream) -> Result<Greeting, Error> {
+    match request_for(rt.alloc(), address) {
+        Ok(request) => ask(rt, request, stream),
+        Err(error) => {
+            drop(stream);
+            Err(error)
+        }
+    }
 }
 
 // What an error of an upgrade says.
@@ -119,7 +162,7 @@ pub(crate) fn greet(greeting: Greeting) -> Greeted {
 }
 
 /// Begins the upgrade of a stream.
-pub(crate) fn begin(rt: &HostRuntime, address: &Address, stream: TcpStream) -> Greeted {
+pub(crate) fn begin(rt: &HostRuntime, address: Address<'_>, stream: TcpStream) -> Greeted {
     match asked(rt, address, stream) {
         Ok(greeting) => greet(greeting),
         Err(_) => Greeted::Failed,

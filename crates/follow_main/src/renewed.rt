@@ -1,8 +1,13 @@
 //! What a follower tells at its end where its document was renewed: what it wrote that the host didn't take.
+ghost use Rattle.std.specs.Prelude.{◌≡◌, Some, IfOk, IsTrue, ◌↔◌, option_and_then};
+ghost use Rattle.elem_show.specs.Cell.{shown};
+ghost use Rattle.peer_core.specs.Peer.{cell_at};
+ghost use Rattle.follow_main.specs.Writing.{writes, own_writes};
 
 use crate::edge::Edge;
 use coop_request::{Edit, Piece};
 use edit_message::Message;
+use elem_show::shown;
 use element_name::Name;
 use follow_core::Follower;
 use follow_talk::Stop;
@@ -16,7 +21,9 @@ use std::str;
 pub(crate) const RENEWED: u16 = 4024;
 
 // The element and the piece of what a request writes; none of a deletion.
-fn written(message: &Message) -> Option<(Name, Piece)> {
+fn written(message: &Message) -> Option<(Name, Piece)>
+    ensures { result ≡ writes message.now }
+{
     let Message::Coop(request) = message else {
         return None;
     };
@@ -27,17 +34,20 @@ fn written(message: &Message) -> Option<(Name, Piece)> {
     }
 }
 
-// Whether an element shows at a peer.
-fn is_shown(peer: &Peer, element: Name) -> bool {
-    peer.place_of(element).is_some()
+// Whether an element shows a piece at a peer.
+fn is_shown(peer: &Peer, element: Name, piece: Piece) -> bool
+    ensures { IsTrue result ↔ (option_and_then shown (cell_at peer.now element) ≡ Some piece) }
+{
+    match peer.cell(element) {
+        Some(cell) => shown(cell) == Some(piece),
+        None => false,
+    }
 }
 
-// The line of what a device wrote by the message at a place of its journal and that shows, if it wrote something there.
-fn left_line<K: Keeper>(
-    alloc: Global,
-    follower: &Follower<K>,
-    place: u32,
-) -> Result<Option<String>, Stop> {
+// What the message at a place of a follower's journal writes, if it is the device's own.
+fn own_written<K: Keeper>(follower: &Follower<K>, place: u32) -> Result<Option<(Name, Piece)>, Stop>
+    ensures { IfOk result (λ found. found ≡ own_writes follower.now.outbox place) }
+{
     let Some(item) = follower.peer().journal(place) else {
         return Ok(None);
     };
@@ -48,14 +58,25 @@ fn left_line<K: Keeper>(
         None
     };
     drop(message);
-    match found {
-        Some((element, piece)) if is_shown(follower.peer(), element) => {
-            let mut line = Vec::from_slice(alloc, b"left")?;
-            put_shown(&mut line, piece.bytes())?;
-            Ok(Some(String::from_str(
-                alloc,
-                str::from_utf8(&line).unwrap_or("left"),
-            )?))
+    Ok(found)
+}
+
+// The line of a piece that the host didn't take.
+fn line_of(alloc: Global, piece: Piece) -> Result<String, Stop> {
+    let mut line = Vec::from_slice(alloc, b"left")?;
+    put_shown(&mut line, piece.bytes())?;
+    Ok(String::from_str(alloc, str::from_utf8(&line).unwrap_or("left"))?)
+}
+
+// The line of the piece that a device wrote by the message at a place of its journal, if it wrote one there and that shows.
+fn left_line<K: Keeper>(
+    alloc: Global,
+    follower: &Follower<K>,
+    place: u32,
+) -> Result<Option<String>, Stop> {
+    match own_written(follower, place)? {
+        Some((element, piece)) if is_shown(follower.peer(), element, piece) => {
+            Ok(Some(line_of(alloc, piece)?))
         }
         _ => Ok(None),
     }

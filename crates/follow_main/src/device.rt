@@ -1,6 +1,6 @@
 //! The device of a file: its site and its secret, the document, and how far it came with the host.
 
-use std::alloc::Global;
+use std::alloc::{AllocError, Global};
 use std::fs;
 use std::fs::{File, OpenOptions};
 use std::io::{self, ErrorKind, Write};
@@ -22,6 +22,15 @@ pub struct Mark {
     pub back: u32,
 }
 
+impl Mark {
+    /// That of a device which has nothing.
+    pub const NONE: Mark = Mark {
+        known: 0,
+        length: 0,
+        back: 0,
+    };
+}
+
 /// A device.
 #[derive(Drop)]
 pub struct Device {
@@ -30,6 +39,15 @@ pub struct Device {
     /// The identity of the document, or `-`.
     pub identity: String,
     pub mark: Mark,
+}
+
+// What the lines of a device's file say.
+#[derive(Clone, Copy)]
+struct Words<'a> {
+    site: u16,
+    secret: &'a str,
+    identity: &'a str,
+    mark: Mark,
 }
 
 // The line of a word, without that word.
@@ -53,15 +71,6 @@ fn mark_of(words: &str) -> Option<Mark> {
     })
 }
 
-// What the lines of a file say.
-#[derive(Clone, Copy)]
-struct Words<'a> {
-    site: u16,
-    secret: &'a str,
-    identity: &'a str,
-    mark: Mark,
-}
-
 // Reads the lines of a file.
 fn words_of(text: &str) -> Option<Words<'_>> {
     let (site, secret) = line_of(text, "device ")?.split_once(' ')?;
@@ -73,40 +82,40 @@ fn words_of(text: &str) -> Option<Words<'_>> {
     })
 }
 
+// A device of these words.
+fn device_with(alloc: Global, words: Words<'_>) -> Result<Device, AllocError> {
+    let secret = String::from_str(alloc, words.secret)?;
+    match String::from_str(alloc, words.identity) {
+        Ok(identity) => Ok(Device {
+            site: words.site,
+            secret,
+            identity,
+            mark: words.mark,
+        }),
+        Err(AllocError) => Err(AllocError),
+    }
+}
+
+// The device that the lines of a file say.
+fn device_of(alloc: Global, text: &str) -> io::Result<Device> {
+    match words_of(text) {
+        Some(words) => Ok(device_with(alloc, words)?),
+        None => Err(ErrorKind::InvalidData.into()),
+    }
+}
+
 impl Device {
     /// A device that has nothing yet.
-    pub fn new(alloc: Global, site: u16, secret: &str) -> io::Result<Device> {
-        Ok(Device {
-            site,
-            secret: String::from_str(alloc, secret)?,
-            identity: String::from_str(alloc, UNKNOWN)?,
-            mark: Mark {
-                known: 0,
-                length: 0,
-                back: 0,
-            },
-        })
-    }
-
-    // The device that the lines of a file say.
-    fn of_text(alloc: Global, text: &str) -> io::Result<Device> {
-        let Some(
+    pub fn new(alloc: Global, site: u16, secret: &str) -> Result<Device, AllocError> {
+        device_with(
+            alloc,
             Words {
                 site,
                 secret,
-                identity,
-                mark,
+                identity: UNKNOWN,
+                mark: Mark::NONE,
             },
-        ) = words_of(text)
-        else {
-            return Err(ErrorKind::InvalidData.into());
-        };
-        Ok(Device {
-            site,
-            secret: String::from_str(alloc, secret)?,
-            identity: String::from_str(alloc, identity)?,
-            mark,
-        })
+        )
     }
 
     /// Whether the device was let in to its document once.
@@ -117,43 +126,68 @@ impl Device {
     /// Reads a file; none where it isn't there.
     pub fn read(rt: &HostRuntime, path: &str) -> io::Result<Option<Device>> {
         match fs::read_to_string(rt, path) {
-            Ok(text) => Ok(Some(Device::of_text(rt.alloc(), text.as_str())?)),
+            Ok(text) => {
+                let device = device_of(rt.alloc(), text.as_str());
+                drop(text);
+                Ok(Some(device?))
+            }
             Err(error) if error.kind() == ErrorKind::NotFound => Ok(None),
             Err(error) => Err(error),
         }
     }
 
     // The lines of the file.
-    fn text(&self, alloc: Global) -> io::Result<String> {
+    fn text(&self, alloc: Global) -> Result<String, AllocError> {
         let site = self.site;
         let secret = self.secret.as_str();
         let identity = self.identity.as_str();
-        let Mark {
-            known,
-            length,
-            back,
-        } = self.mark;
-        let text = format!(in alloc;
+        let known = self.mark.known;
+        let length = self.mark.length;
+        let back = self.mark.back;
+        format!(in alloc;
             "device {site} {secret}\ndocument {identity}\nmark {known} {length} {back}\n"
-        )?;
-        Ok(text)
+        )
     }
 
     /// Writes a file whole, in place of the one that was there.
     pub fn write(&self, rt: &HostRuntime, path: &str) -> io::Result<()> {
         let text = self.text(rt.alloc())?;
-        let coming = format!(in rt.alloc(); "{path}.new")?;
-        let mut file = OpenOptions::new()
-            .write(true)
-            .create(true)
-            .truncate(true)
-            .mode(MODE)
-            .open(rt, coming.as_str())?;
-        file.write_all(text.as_str().as_bytes())?;
-        file.sync_all()?;
-        fs::rename(rt, coming.as_str(), path)?;
-        sync_folder(rt, path)
+        let outcome = write_whole(rt, path, text.as_str());
+        drop(text);
+        outcome
     }
+}
+
+// Writes a text beside a file, and puts it in the file's place.
+fn write_whole(rt: &HostRuntime, path: &str, text: &str) -> io::Result<()> {
+    let coming = format!(in rt.alloc(); "{path}.new")?;
+    let outcome = write_beside(rt, coming.as_str(), path, text);
+    drop(coming);
+    outcome
+}
+
+// Writes a text into a file of a name, and gives it another.
+fn write_beside(rt: &HostRuntime, coming: &str, path: &str, text: &str) -> io::Result<()> {
+    let file = open_new(rt, coming)?;
+    write_synced(file, text)?;
+    fs::rename(rt, coming, path)?;
+    sync_folder(rt, path)
+}
+
+// An empty file, which only its owner reads and writes.
+fn open_new(rt: &HostRuntime, path: &str) -> io::Result<File> {
+    OpenOptions::new()
+        .write(true)
+        .create(true)
+        .truncate(true)
+        .mode(MODE)
+        .open(rt, path)
+}
+
+// Writes a text, so that it is on the disk.
+fn write_synced(mut file: File, text: &str) -> io::Result<()> {
+    file.write_all(text.as_bytes())?;
+    file.sync_all()
 }
 
 // Puts the name of a file on the disk.

@@ -1,4 +1,8 @@
 //! The socket of a link, which doesn't wait.
+ghost use Rattle.std.specs.Prelude.{◌≡◌, true};
+ghost use Rattle.tungstenite.specs.Content as content;
+ghost use Rattle.tungstenite.specs.Failure.{IsIo};
+ghost use Rattle.follow_main.specs.Sending.{is_taken, IsSent};
 
 use mio::net::TcpStream;
 use std::alloc::Global;
@@ -60,33 +64,47 @@ pub(crate) fn must_wait(error: &io::Error) -> bool {
 }
 
 // What an error of a socket says of what was given to it.
-fn sent_of(outcome: Result<(), Error>) -> Sent {
-    match outcome {
-        Ok(()) => Sent::All,
-        Err(Error::Io(error)) if must_wait(&error) => Sent::Waits,
-        Err(_) => Sent::Gone,
+fn after_error(error: &Error) -> Sent
+    ensures { is_taken result ≡ true → IsIo error.now }
+{
+    match error {
+        Error::Io(error) if must_wait(error) => Sent::Waits,
+        _ => Sent::Gone,
     }
 }
 
 /// Sends a text.
-pub(crate) fn send_text(alloc: Global, socket: &mut Socket, text: &str) -> Sent {
-    match Message::text(alloc, text) {
-        Ok(message) => sent_of(socket.send(message)),
-        Err(_) => Sent::Gone,
+pub(crate) fn send_text(alloc: Global, socket: &mut Socket, text: &str) -> Sent
+    ensures { is_taken result ≡ true → IsSent (content.text text.now) socket.old socket.new }
+{
+    let Ok(message) = Message::text(alloc, text) else {
+        return Sent::Gone;
+    };
+    match socket.send(message) {
+        Ok(()) => Sent::All,
+        Err(error) => after_error(&error),
     }
 }
 
 /// Sends frames.
-pub(crate) fn send_frames(alloc: Global, socket: &mut Socket, frames: &[u8]) -> Sent {
-    match Message::binary(alloc, frames) {
-        Ok(message) => sent_of(socket.send(message)),
-        Err(_) => Sent::Gone,
+pub(crate) fn send_frames(alloc: Global, socket: &mut Socket, frames: &[u8]) -> Sent
+    ensures { is_taken result ≡ true → IsSent (content.binary frames.now) socket.old socket.new }
+{
+    let Ok(message) = Message::binary(alloc, frames) else {
+        return Sent::Gone;
+    };
+    match socket.send(message) {
+        Ok(()) => Sent::All,
+        Err(error) => after_error(&error),
     }
 }
 
 /// Goes on with what the stream didn't take.
 pub(crate) fn flush(socket: &mut Socket) -> Sent {
-    sent_of(socket.flush())
+    match socket.flush() {
+        Ok(()) => Sent::All,
+        Err(error) => after_error(&error),
+    }
 }
 
 // What an error of reading says.

@@ -1,6 +1,8 @@
 //! Links that came so far.
-ghost use Rattle.std.specs.Prelude.{IfOk, IfSome};
+ghost use Rattle.std.specs.Prelude.{◌≡◌, true, IfOk, IfSome};
 ghost use Rattle.follow_talk.specs.Sending.{PassesFrames};
+ghost use Rattle.follow_main.specs.Ends.{is_final};
+ghost use Rattle.follow_main.specs.Sending.{is_taken, SendsPassed};
 
 use crate::address::Key;
 use crate::device::Device;
@@ -9,7 +11,7 @@ use crate::edge::Edge;
 use crate::renewed::RENEWED;
 use crate::socket::{Came, Sent, Socket, flush, next_message, send_frames, send_text};
 use crate::stage::{Linked, Stage};
-use crate::told::status_of;
+use crate::told::{or_status, status_of};
 use follow_talk::{HostText, Stop, Welcome, read_host_text};
 use line_engine::Status;
 use mio::Poll;
@@ -33,13 +35,16 @@ const MESSAGE: usize = 32_768;
 
 // The shortest and the longest pause before a link is tried again, in milliseconds.
 const SHORT_PAUSE: u64 = 250;
+
 const LONG_PAUSE: u64 = 30_000;
 
 // The close of a link to a document that isn't there, or can't be opened.
 const NO_DOCUMENT: u16 = 4014;
 
 // The closes that aren't mended by linking again.
-fn is_final(code: u16) -> bool {
+fn is_final(code: u16) -> bool
+    ensures { result ≡ is_final code }
+{
     matches!(code, 4000..=4006 | 4013 | 4015 | 4016 | RENEWED)
 }
 
@@ -52,42 +57,66 @@ pub(crate) enum Turned {
     Ends(Status),
 }
 
+// What the answer to a first message makes of a socket.
+#[derive(Clone, Copy, Debug, PartialEq, Eq)]
+enum Answered {
+    /// It waits for more.
+    Waits,
+    /// It has a device now, and says who it is.
+    Joined,
+    /// It was let in, and may send requests or not. The host had saved so many messages.
+    Linked { writes: bool, saved: u32 },
+}
+
 impl From<Stop> for Turned {
     fn from(stop: Stop) -> Turned {
         Turned::Ends(status_of(stop))
     }
 }
 
-// A socket is let go in one place of a function: it takes long to prove what that does.
 impl<'a> Edge<'a> {
     // Begins a link.
     fn dial(&mut self, poll: &Poll) -> Stage {
         self.until = self.now.saturating_add(PATIENCE);
         self.tries = self.tries.wrapping_add(1);
-        match dial(self.rt, poll, &self.address, self.tries) {
+        match dial(self.rt, poll, self.address, self.tries) {
             Ok(stream) => Stage::Dialling(stream),
             Err(_) => self.apart(),
         }
     }
 
-    // What is said first on a socket: `join` without a device, and `hello` with one.
-    fn first_text(&self) -> Result<String, Stop> {
-        let alloc = self.alloc;
-        let Some(device) = &self.device else {
-            let secret = match &self.address.key {
-                Key::Invitation(secret) => secret.as_str(),
-                _ => "",
-            };
-            return Ok(format!(in alloc; "join 1 {secret}")?);
+    // What is said first without a device.
+    fn join_text(&self) -> Result<String, Stop> {
+        let secret = match self.address.key {
+            Key::Invitation(secret) => secret,
+            _ => "",
         };
-        let known = match &self.talk {
+        Ok(format!(in self.alloc; "join 1 {secret}")?)
+    }
+
+    // How many messages of the host's journal are here.
+    fn known(&self) -> u32 {
+        match &self.talk {
             Some(talk) => talk.known(),
             None => 0,
-        };
+        }
+    }
+
+    // What is said first by a device.
+    fn hello_text(&self, device: &Device) -> Result<String, Stop> {
+        let known = self.known();
         let identity = device.identity.as_str();
         let site = device.site;
         let secret = device.secret.as_str();
-        Ok(format!(in alloc; "hello 1 {identity} {site} {secret} {known}")?)
+        Ok(format!(in self.alloc; "hello 1 {identity} {site} {secret} {known}")?)
+    }
+
+    // What is said first on a socket: `join` without a device, and `hello` with one.
+    fn first_text(&self) -> Result<String, Stop> {
+        match &self.device {
+            Some(device) => self.hello_text(device),
+            None => self.join_text(),
+        }
     }
 
     // Says the first message on a socket.
@@ -95,7 +124,9 @@ impl<'a> Edge<'a> {
         self.until = self.now.saturating_add(PATIENCE);
         self.again = true;
         let text = self.first_text()?;
-        match send_text(self.alloc, socket, text.as_str()) {
+        let sent = send_text(self.alloc, socket, text.as_str());
+        drop(text);
+        match sent {
             Sent::Gone => Err(Turned::Gone),
             _ => Ok(()),
         }
@@ -123,66 +154,113 @@ impl<'a> Edge<'a> {
     }
 
     // Keeps the device that was made.
-    fn take_device(&mut self, site: u16, secret: &str) -> Result<(), Turned> {
+    fn take_device(&mut self, site: u16, secret: &str) -> Result<Answered, Status> {
         let Ok(device) = Device::new(self.alloc, site, secret) else {
-            return Err(Turned::Ends(Status::NoMemory));
+            return Err(Status::NoMemory);
         };
-        self.device = Some(device);
+        let none = mem::replace(&mut self.device, Some(device));
+        drop(none);
         self.keep_device()?;
-        self.begin().map_err(Turned::Ends)
+        self.begin()?;
+        Ok(Answered::Joined)
     }
 
     // Keeps the identity of the document, where it wasn't known.
-    fn keep_identity(&mut self, identity: &str) -> Result<(), Stop> {
+    fn keep_identity(&mut self, identity: &str) -> Result<(), Status> {
         let Some(device) = &mut self.device else {
             return Ok(());
         };
         if device.identity.as_str() == identity {
             return Ok(());
         }
-        device.identity = String::from_str(self.alloc, identity)?;
+        let Ok(known) = String::from_str(self.alloc, identity) else {
+            return Err(Status::NoMemory);
+        };
+        let unknown = mem::replace(&mut device.identity, known);
+        drop(unknown);
         self.keep_device()
     }
 
+    // Says that the host let the link in.
+    fn tell_welcome(&mut self, welcome: Welcome<'_>) -> Result<(), Stop> {
+        let Welcome {
+            site,
+            person,
+            role,
+            ..
+        } = welcome;
+        let line = format!(in self.alloc; "linked {site} {person} {role}")?;
+        let said = self.say(line.as_str());
+        drop(line);
+        said
+    }
+
     // Takes what a host says to a link that it lets in.
-    fn take_welcome(&mut self, welcome: &Welcome<'_>) -> Result<(), Stop> {
+    fn take_welcome(&mut self, welcome: Welcome<'_>) -> Result<Answered, Status> {
         self.pause = 0;
         self.is_missing = false;
         self.until = self.now.saturating_add(SILENCE);
         self.again = true;
         self.keep_identity(welcome.identity)?;
-        let alloc = self.alloc;
-        let site = welcome.site;
-        let person = welcome.person;
-        let role = welcome.role;
         if let Some(talk) = &mut self.talk {
             talk.link();
-            let line = format!(in alloc; "linked {site} {person} {role}")?;
-            talk.say(line.as_str())?;
+            or_status(self.tell_welcome(welcome))?;
         }
-        Ok(())
+        Ok(Answered::Linked {
+            writes: welcome.role != "reader",
+            saved: welcome.saved,
+        })
     }
 
-    // A link that was let in.
-    fn welcomed(&mut self, socket: Socket, welcome: &Welcome<'_>) -> Result<Stage, Turned> {
-        match self.take_welcome(welcome) {
-            Ok(()) => Ok(Stage::Linked(Linked {
-                socket,
-                writes: welcome.role != "reader",
-                is_blocked: false,
-                saved: welcome.saved,
-            })),
-            Err(stop) => {
-                drop(socket);
-                Err(Turned::from(stop))
+    // Takes a text that answers the first message.
+    fn take_answer(&mut self, text: &str) -> Result<Answered, Turned> {
+        let taken = match read_host_text(text) {
+            Some(HostText::Device { site, secret }) => self.take_device(site, secret),
+            Some(HostText::Welcome(welcome)) => self.take_welcome(welcome),
+            _ => return Err(Turned::Gone),
+        };
+        match taken {
+            Ok(answered) => Ok(answered),
+            Err(status) => Err(Turned::Ends(status)),
+        }
+    }
+
+    // Takes what came behind the first message.
+    fn answered(&mut self, came: &Came) -> Result<Answered, Turned> {
+        match came {
+            Came::Text(text) => self.take_answer(text.as_str()),
+            Came::Sign => {
+                self.again = true;
+                Ok(Answered::Waits)
             }
+            Came::Nothing => Ok(Answered::Waits),
+            Came::Closed { code, words } => Err(self.closed(*code, words.as_str())),
+            Came::Frames(_) => Err(Turned::Gone),
+            Came::Gone => Err(Turned::Gone),
         }
     }
 
-    // A socket whose device was made: it says who it is.
-    fn joined(&mut self, socket: Socket, site: u16, secret: &str) -> Result<Stage, Turned> {
-        match self.take_device(site, secret) {
-            Ok(()) => self.open(socket),
+    // Reads what answers the first message. Who has a device from now on says who it is.
+    fn read_answer(&mut self, socket: &mut Socket) -> Result<Answered, Turned> {
+        let came = next_message(self.alloc, socket);
+        let answered = self.answered(&came);
+        drop(came);
+        if let Ok(Answered::Joined) = answered {
+            self.say_first(socket)?;
+        }
+        answered
+    }
+
+    // Goes on with a socket whose first message was sent.
+    fn go_on_opening(&mut self, mut socket: Socket) -> Result<Stage, Turned> {
+        match self.read_answer(&mut socket) {
+            Ok(Answered::Linked { writes, saved }) => Ok(Stage::Linked(Linked {
+                socket,
+                writes,
+                is_blocked: false,
+                saved,
+            })),
+            Ok(_) => Ok(Stage::Opening(socket)),
             Err(turned) => {
                 drop(socket);
                 Err(turned)
@@ -190,47 +268,12 @@ impl<'a> Edge<'a> {
         }
     }
 
-    // What a text makes of a socket that waits for an answer.
-    fn answered(&mut self, socket: Socket, text: &str) -> Result<Stage, Turned> {
-        match read_host_text(text) {
-            Some(HostText::Device { site, secret }) => self.joined(socket, site, secret),
-            Some(HostText::Welcome(welcome)) => self.welcomed(socket, &welcome),
-            _ => {
-                drop(socket);
-                Err(Turned::Gone)
-            }
-        }
-    }
-
-    // A socket on which nothing came.
-    fn waits(&mut self, socket: Socket, again: bool) -> Stage {
-        self.again = self.again || again;
-        Stage::Opening(socket)
-    }
-
-    // A socket that is let go.
-    fn let_go(&mut self, socket: Socket, came: Came) -> Turned {
-        drop(socket);
-        match came {
-            Came::Closed { code, words } => self.closed(code, words.as_str()),
-            _ => Turned::Gone,
-        }
-    }
-
-    // Reads what answers the first message.
-    fn read_opening(&mut self, mut socket: Socket) -> Result<Stage, Turned> {
-        match next_message(self.alloc, &mut socket) {
-            Came::Text(text) => self.answered(socket, text.as_str()),
-            Came::Sign => Ok(self.waits(socket, true)),
-            Came::Nothing => Ok(self.waits(socket, false)),
-            came => Err(self.let_go(socket, came)),
-        }
-    }
-
     // Says that a host closed a link.
     fn tell_close(&mut self, code: u16, words: &str) -> Result<(), Stop> {
         let line = format!(in self.alloc; "closed {code} {words}")?;
-        self.say(line.as_str())?;
+        let said = self.say(line.as_str());
+        drop(line);
+        said?;
         if code == RENEWED {
             return self.tell_renewed();
         }
@@ -246,7 +289,9 @@ impl<'a> Edge<'a> {
     }
 
     // Whether a close ends the run. A document that was there may come back; an address that never led to one is wrong.
-    fn ends_by(&self, code: u16) -> bool {
+    fn ends_by(&self, code: u16) -> bool
+        ensures { is_final code ≡ true → result ≡ true }
+    {
         is_final(code) || (code == NO_DOCUMENT && !self.knows_document())
     }
 
@@ -296,38 +341,46 @@ impl<'a> Edge<'a> {
         }
     }
 
-    // Takes what came on a link that was let in. False where nothing did.
-    fn take_message(&mut self, came: Came) -> Result<bool, Turned> {
+    // Takes what came on a link that was let in.
+    fn take_message(&mut self, came: &Came) -> Result<(), Turned> {
         match came {
-            Came::Frames(bytes) => self.take_frames(&bytes)?,
-            Came::Text(text) => self.take_text(text.as_str())?,
-            Came::Sign => {}
-            Came::Nothing => return Ok(false),
-            Came::Closed { code, words } => return Err(self.closed(code, words.as_str())),
-            Came::Gone => return Err(Turned::Gone),
+            Came::Frames(bytes) => self.take_frames(bytes),
+            Came::Text(text) => self.take_text(text.as_str()),
+            Came::Sign => Ok(()),
+            Came::Nothing => Ok(()),
+            Came::Closed { code, words } => Err(self.closed(*code, words.as_str())),
+            Came::Gone => Err(Turned::Gone),
         }
-        self.until = self.now.saturating_add(SILENCE);
-        Ok(true)
     }
 
-    // Reads what came on a link that was let in. True where there may be more.
-    fn read_linked(&mut self, linked: &mut Linked) -> Result<bool, Turned> {
+    // Reads what came next on a link that was let in. False where nothing did.
+    fn read_next(&mut self, socket: &mut Socket) -> Result<bool, Turned> {
+        let came = next_message(self.alloc, socket);
+        let is_there = !matches!(came, Came::Nothing);
+        let taken = self.take_message(&came);
+        drop(came);
+        taken?;
+        if is_there {
+            self.until = self.now.saturating_add(SILENCE);
+        }
+        Ok(is_there)
+    }
+
+    // Reads what came on a link that was let in.
+    fn read_linked(&mut self, socket: &mut Socket) -> Result<(), Turned> {
         for _ in 0..MOST_READ {
-            let came = next_message(self.alloc, &mut linked.socket);
-            if !self.take_message(came)? {
-                return Ok(false);
+            if !self.read_next(socket)? {
+                return Ok(());
             }
         }
-        Ok(true)
+        self.again = true;
+        Ok(())
     }
 
     // Goes on with a link that was let in.
     fn go_on_linked(&mut self, mut linked: Linked) -> Result<Stage, Turned> {
-        match self.read_linked(&mut linked) {
-            Ok(has_more) => {
-                self.again = self.again || has_more;
-                Ok(Stage::Linked(linked))
-            }
+        match self.read_linked(&mut linked.socket) {
+            Ok(()) => Ok(Stage::Linked(linked)),
             Err(turned) => {
                 drop(linked);
                 Err(turned)
@@ -340,7 +393,7 @@ impl<'a> Edge<'a> {
         match reach(stream) {
             Reached::Waits(stream) => Ok(Stage::Dialling(stream)),
             Reached::Connected(stream) => {
-                let greeted = begin(self.rt, &self.address, stream);
+                let greeted = begin(self.rt, self.address, stream);
                 self.greeted(greeted)
             }
             Reached::Failed => Err(Turned::Gone),
@@ -361,7 +414,7 @@ impl<'a> Edge<'a> {
             Stage::Apart => Ok(self.go_on_apart(poll)),
             Stage::Dialling(stream) => self.reached(stream),
             Stage::Greeting(greeting) => self.greeted(greet(greeting)),
-            Stage::Opening(socket) => self.read_opening(socket),
+            Stage::Opening(socket) => self.go_on_opening(socket),
             Stage::Linked(linked) => self.go_on_linked(linked),
         }
     }
@@ -377,11 +430,10 @@ impl<'a> Edge<'a> {
     }
 
     // There is no link. It is tried again after a pause, which grows.
-    fn apart(&mut self) -> Stage {
-        self.pause = self
-            .pause
-            .saturating_mul(2)
-            .clamp(SHORT_PAUSE, LONG_PAUSE);
+    fn apart(&mut self) -> Stage
+        ensures { result ≡ Stage.Apart }
+    {
+        self.pause = self.pause.saturating_mul(2).clamp(SHORT_PAUSE, LONG_PAUSE);
         self.until = self.now.saturating_add(self.pause);
         Stage::Apart
     }
@@ -392,12 +444,15 @@ impl<'a> Edge<'a> {
         drop(none);
     }
 
-    // A link that stood, or was begun, is gone.
-    fn lose(&mut self, was_linked: bool) -> Result<(), Status> {
+    // A link that stood, or was begun, is gone, or the run ends.
+    fn turned(&mut self, turned: Turned, was_linked: bool) -> Result<(), Status> {
+        if let Turned::Ends(status) = turned {
+            return Err(status);
+        }
         let apart = self.apart();
         self.put_stage(apart);
         if was_linked {
-            self.say("apart").map_err(status_of)?;
+            or_status(self.say("apart"))?;
         }
         Ok(())
     }
@@ -411,8 +466,7 @@ impl<'a> Edge<'a> {
                 self.put_stage(stage);
                 Ok(())
             }
-            Err(Turned::Ends(status)) => Err(status),
-            Err(Turned::Gone) => self.lose(was_linked),
+            Err(turned) => self.turned(turned, was_linked),
         }
     }
 
@@ -426,20 +480,29 @@ impl<'a> Edge<'a> {
         }
     }
 
+    // Sends the next requests on a socket. None where there are none.
+    fn send_next(&mut self, socket: &mut Socket) -> Result<Option<Sent>, Turned>
+        ensures { IfOk result (λ sent. IfSome sent (λ taken. is_taken taken ≡ true
+            → IfSome self.old.talk (λ t. IfSome self.new.talk (λ u. SendsPassed t.follower.outbox u.follower.outbox socket.old socket.new)))) }
+    {
+        let frames = self.next_frames()?;
+        if frames.is_empty() {
+            return Ok(None);
+        }
+        Ok(Some(send_frames(self.alloc, socket, &frames)))
+    }
+
     // Sends requests on a link, as long as its socket takes them.
     fn send_some(&mut self, linked: &mut Linked) -> Result<(), Turned> {
         for _ in 0..MOST_SENT {
-            let frames = self.next_frames()?;
-            if frames.is_empty() {
-                return Ok(());
-            }
-            match send_frames(self.alloc, &mut linked.socket, &frames) {
-                Sent::All => {}
-                Sent::Waits => {
+            match self.send_next(&mut linked.socket)? {
+                None => return Ok(()),
+                Some(Sent::All) => {}
+                Some(Sent::Waits) => {
                     linked.is_blocked = true;
                     return Ok(());
                 }
-                Sent::Gone => return Err(Turned::Gone),
+                Some(Sent::Gone) => return Err(Turned::Gone),
             }
         }
         self.again = true;
@@ -468,13 +531,9 @@ impl<'a> Edge<'a> {
                 self.put_stage(Stage::Linked(linked));
                 Ok(())
             }
-            Err(Turned::Ends(status)) => {
+            Err(turned) => {
                 drop(linked);
-                Err(status)
-            }
-            Err(Turned::Gone) => {
-                drop(linked);
-                self.lose(true)
+                self.turned(turned, true)
             }
         }
     }
