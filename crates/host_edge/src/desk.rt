@@ -8,6 +8,7 @@ use host_http::{Origins, Pages, Routes};
 use host_link::Ending;
 use host_socket::{Counts, Happening, Limits, Socket, WrongKeys, send_close};
 use std::alloc::Global;
+use std::mem;
 
 /// A house with its connections.
 #[derive(Drop)]
@@ -141,7 +142,7 @@ impl<'a> Desk<'a> {
 
     // Notes what happened, if there is memory for it.
     pub(crate) fn note(&mut self, what: Happening) {
-        let _ = self.happened.push(what);
+        drop(self.happened.push(what));
     }
 
     // Seats a link. Where its device has another one here, that one is told and ends.
@@ -195,12 +196,19 @@ impl<'a> Desk<'a> {
     // A link that is told why it ends.
     pub(crate) fn ended_link(&mut self, slot: usize, linked: Linked, why: Ending) -> Option<Conn> {
         self.part(slot, &linked, Some(why));
-        self.ended(linked.socket, why)
+        let Linked {
+            socket,
+            answers,
+            ..
+        } = linked;
+        drop(answers);
+        self.ended(socket, why)
     }
 
     // A link that is gone.
     pub(crate) fn gone_link(&mut self, slot: usize, linked: Linked) -> Option<Conn> {
         self.part(slot, &linked, None);
+        drop(linked);
         None
     }
 
@@ -267,6 +275,14 @@ impl<'a> Desk<'a> {
         }
     }
 
+    // Puts a connection into a slot.
+    fn put_in(&mut self, slot: usize, conn: Conn) {
+        match self.conns.get_mut(slot) {
+            Some(place) => drop(mem::replace(place, Some(conn))),
+            None => drop(conn),
+        }
+    }
+
     // Puts back what is left of a connection.
     pub(crate) fn put_back(&mut self, slot: usize, left: Option<Conn>) {
         let Some(conn) = left else {
@@ -276,9 +292,7 @@ impl<'a> Desk<'a> {
         if conn.unread {
             let _ = self.again.push(slot);
         }
-        if let Some(place) = self.conns.get_mut(slot) {
-            *place = Some(conn);
-        }
+        self.put_in(slot, conn);
     }
 
     // How many connections stand.

@@ -26,19 +26,68 @@ pub(crate) struct Entrance {
     paused_until: u64,
 }
 
+// A listener at this address, of whom events are told.
+fn listener_at(rt: &impl Net, poll: &Poll, address: SocketAddr) -> io::Result<TcpListener> {
+    let mut listener = TcpListener::bind(rt, address)?;
+    match poll
+        .registry()
+        .register(&mut listener, LISTENER, Interest::READABLE)
+    {
+        Ok(()) => Ok(listener),
+        Err(error) => {
+            drop(listener);
+            Err(error)
+        }
+    }
+}
+
+// Has events of a stream told by the number of its slot, and says whether they are.
+fn is_registered(poll: &Poll, stream: &mut TcpStream, slot: usize) -> bool {
+    let _ = stream.set_nodelay(true);
+    let both = Interest::READABLE | Interest::WRITABLE;
+    poll.registry().register(stream, Token(slot), both).is_ok()
+}
+
+// Why nobody was taken in.
+#[derive(Clone, Copy)]
+enum Missed {
+    /// Nobody waits.
+    Nobody,
+    /// He who waited is gone.
+    Gone,
+    /// The system has no descriptor left.
+    Failed,
+}
+
+impl Missed {
+    // By an error of the listener.
+    fn by(error: io::Error) -> Missed {
+        let kind = error.kind();
+        drop(error);
+        match kind {
+            ErrorKind::WouldBlock => Missed::Nobody,
+            ErrorKind::ConnectionAborted => Missed::Gone,
+            _ => Missed::Failed,
+        }
+    }
+}
+
 impl Entrance {
     /// An entrance at this address.
     pub(crate) fn open(rt: &impl Net, address: SocketAddr) -> io::Result<Entrance> {
         let poll = Poll::new(rt)?;
-        let mut listener = TcpListener::bind(rt, address)?;
-        poll.registry()
-            .register(&mut listener, LISTENER, Interest::READABLE)?;
-        Ok(Entrance {
-            poll,
-            listener,
-            is_waiting: false,
-            paused_until: 0,
-        })
+        match listener_at(rt, &poll, address) {
+            Ok(listener) => Ok(Entrance {
+                poll,
+                listener,
+                is_waiting: false,
+                paused_until: 0,
+            }),
+            Err(error) => {
+                drop(poll);
+                Err(error)
+            }
+        }
     }
 
     /// An event said that somebody waits.
@@ -68,21 +117,20 @@ impl<'a> Desk<'a> {
         Ok(Some(slot))
     }
 
-    // Takes in a stream from an address. One too many is dropped.
-    fn take_in(&mut self, poll: &Poll, mut stream: TcpStream, peer: IpAddr) -> io::Result<()> {
+    // The slot of a stream of which events are told; none where it is one too many.
+    fn slot_of(&mut self, poll: &Poll, stream: &mut TcpStream) -> io::Result<Option<usize>> {
         let Some(slot) = self.new_slot()? else {
-            return Ok(());
+            return Ok(None);
         };
-        let _ = stream.set_nodelay(true);
-        let both = Interest::READABLE | Interest::WRITABLE;
-        if poll
-            .registry()
-            .register(&mut stream, Token(slot), both)
-            .is_err()
-        {
-            self.free.push(slot)?;
-            return Ok(());
+        if is_registered(poll, stream, slot) {
+            return Ok(Some(slot));
         }
+        self.free.push(slot)?;
+        Ok(None)
+    }
+
+    // Begins with a stream from an address.
+    fn begin(&mut self, slot: usize, stream: TcpStream, peer: IpAddr) {
         let asking = Asking {
             stream,
             peer,
@@ -91,7 +139,37 @@ impl<'a> Desk<'a> {
         let until = self.now.saturating_add(self.limits.head);
         self.counts.connections = self.counts.connections.saturating_add(1);
         self.put_back(slot, Some(Conn::waiting(Stage::Asking(asking), until)));
-        Ok(())
+    }
+
+    // Takes in a stream from an address. One too many is dropped.
+    fn take_in(&mut self, poll: &Poll, mut stream: TcpStream, peer: IpAddr) {
+        match self.slot_of(poll, &mut stream) {
+            Ok(Some(slot)) => self.begin(slot, stream, peer),
+            _ => drop(stream),
+        }
+    }
+
+    // Takes in one who waits, if there is one, and says whether another one may wait.
+    fn accept_one(&mut self, entrance: &mut Entrance) -> bool {
+        let missed = match entrance.listener.accept() {
+            Ok((stream, address)) => {
+                self.take_in(&entrance.poll, stream, address.ip());
+                return true;
+            }
+            Err(error) => Missed::by(error),
+        };
+        match missed {
+            Missed::Gone => true,
+            Missed::Nobody => {
+                entrance.is_waiting = false;
+                false
+            }
+            Missed::Failed => {
+                self.note(Happening::Paused);
+                entrance.paused_until = self.now.saturating_add(self.limits.pause);
+                false
+            }
+        }
     }
 
     /// Takes in those that wait, up to so many. Where the system has no descriptor left nobody is taken in for a while.
@@ -100,20 +178,8 @@ impl<'a> Desk<'a> {
             return;
         }
         for _ in 0..MOST_ACCEPTED {
-            match entrance.listener.accept() {
-                Ok((stream, address)) => {
-                    let _ = self.take_in(&entrance.poll, stream, address.ip());
-                }
-                Err(error) if error.kind() == ErrorKind::WouldBlock => {
-                    entrance.is_waiting = false;
-                    return;
-                }
-                Err(error) if error.kind() == ErrorKind::ConnectionAborted => {}
-                Err(_) => {
-                    self.note(Happening::Paused);
-                    entrance.paused_until = self.now.saturating_add(self.limits.pause);
-                    return;
-                }
+            if !self.accept_one(entrance) {
+                return;
             }
         }
     }

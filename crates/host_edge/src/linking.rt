@@ -14,7 +14,7 @@ use crate::pushing::{push, send_answers};
 use crate::room::Who;
 use edit_frame::{Frame, FrameFail, first_frame};
 use edit_message::Message;
-use host_core::Role;
+use host_core::{LinkId, Role};
 use host_house::{Consequence, Done};
 use host_link::{Ending, HouseOrder, Said, caret_text, read_house_order, read_said};
 use host_socket::{After, Came, Happening, next_message, no_memory, send_text};
@@ -52,16 +52,33 @@ fn tell_answer(desk: &Desk<'_>, linked: &mut Linked, answer: &Answer) -> After {
     }
 }
 
+// Hands a message in to a document.
+fn hand_in(
+    desk: &mut Desk<'_>,
+    link: LinkId,
+    number: usize,
+    message: Message,
+) -> Result<Answer, Ending> {
+    match desk.house.document(number) {
+        Some(document) => document.take(link, message),
+        None => {
+            drop(message);
+            Err(Ending::NoDocument)
+        }
+    }
+}
+
 // Takes a message of the journal's kind.
 fn take_item(desk: &mut Desk<'_>, linked: &mut Linked, number: usize, message: Message) -> After {
-    let Some(document) = desk.house.document(number) else {
-        return After::Ends(Ending::NoDocument);
-    };
-    let taken = document.take(linked.link, message);
+    let taken = hand_in(desk, linked.link, number, message);
     desk.mark_unsaved(number);
     desk.counts.requests = desk.counts.requests.saturating_add(1);
     match taken {
-        Ok(answer) => tell_answer(desk, linked, &answer),
+        Ok(answer) => {
+            let after = tell_answer(desk, linked, &answer);
+            drop(answer);
+            after
+        }
         Err(why) => After::Ends(why),
     }
 }

@@ -241,7 +241,10 @@ fn turn_away(desk: &mut Desk<'_>, socket: Socket, why: Ending) -> Option<Conn> {
 fn do_join(desk: &mut Desk<'_>, mut unknown: Unknown, secret: &Secret) -> Option<Conn> {
     match join(desk, &mut unknown, secret) {
         After::Ends(why) => turn_away(desk, unknown.socket, why),
-        After::Gone => None,
+        After::Gone => {
+            drop(unknown);
+            None
+        }
         _ => {
             let until = desk.now.saturating_add(desk.limits.hello);
             Some(Conn::ready(Stage::Unknown(unknown), until))
@@ -267,6 +270,29 @@ fn do_opening(desk: &mut Desk<'_>, slot: usize, unknown: Unknown, text: &str) ->
     }
 }
 
+// What comes first on a socket; nothing where it says too little for too often.
+fn next_said(desk: &Desk<'_>, socket: &mut Socket) -> Came {
+    for _ in 0..MOST_AT_ONCE {
+        match next_message(desk.alloc, socket) {
+            Came::Nothing => {}
+            came => return came,
+        }
+    }
+    Came::Nothing
+}
+
+// What becomes of a socket on which nothing was said.
+fn unsaid(desk: &mut Desk<'_>, unknown: Unknown, after: After, until: u64) -> Option<Conn> {
+    match after {
+        After::Ends(why) => desk.ended(unknown.socket, why),
+        After::Gone => {
+            drop(unknown);
+            None
+        }
+        _ => Some(Conn::waiting(Stage::Unknown(unknown), until)),
+    }
+}
+
 /// Waits for the first message of a socket.
 pub(crate) fn serve_unknown(
     desk: &mut Desk<'_>,
@@ -274,15 +300,10 @@ pub(crate) fn serve_unknown(
     mut unknown: Unknown,
     until: u64,
 ) -> Option<Conn> {
-    for _ in 0..MOST_AT_ONCE {
-        match next_message(desk.alloc, &mut unknown.socket) {
-            Came::Text(text) => return do_opening(desk, slot, unknown, text.as_str()),
-            Came::Frames(_) => return desk.ended(unknown.socket, Ending::BadMessage),
-            Came::Nothing => {}
-            Came::Other(After::Ends(why)) => return desk.ended(unknown.socket, why),
-            Came::Other(After::Gone) => return None,
-            Came::Other(_) => return Some(Conn::waiting(Stage::Unknown(unknown), until)),
-        }
+    match next_said(desk, &mut unknown.socket) {
+        Came::Text(text) => do_opening(desk, slot, unknown, text.as_str()),
+        Came::Frames(_) => desk.ended(unknown.socket, Ending::BadMessage),
+        Came::Nothing => unsaid(desk, unknown, After::Gone, until),
+        Came::Other(after) => unsaid(desk, unknown, after, until),
     }
-    None
 }

@@ -15,7 +15,7 @@ use edit_frame::{Frame, encode};
 use host_core::LinkId;
 use host_document::Document;
 use host_link::{Ending, FRAMES_AT_ONCE};
-use host_socket::{After, flush, send_frames, send_text};
+use host_socket::{After, Socket, flush, send_frames, send_text};
 use std::alloc::Global;
 use std::mem;
 
@@ -37,7 +37,10 @@ fn put_next(
     let Some(message) = document.next_item(link)? else {
         return Ok(false);
     };
-    match encode(alloc, &Frame::Item(message), frames) {
+    let frame = Frame::Item(message);
+    let encoded = encode(alloc, &frame, frames);
+    drop(frame);
+    match encoded {
         Ok(()) => Ok(true),
         Err(_) => Err(Ending::NoMemory),
     }
@@ -106,16 +109,24 @@ fn push_items(desk: &mut Desk<'_>, linked: &mut Linked) -> After {
     After::More
 }
 
-/// Sends a link the answers that are kept for it. What they tell of is saved.
-pub(crate) fn send_answers(desk: &Desk<'_>, linked: &mut Linked) -> After {
-    for text in mem::replace(&mut linked.answers, Vec::new(desk.alloc)) {
-        match send_text(desk.alloc, &mut linked.socket, text.as_str()) {
+// Sends texts, also where they wait for the stream.
+fn send_texts(alloc: Global, socket: &mut Socket, texts: &[String]) -> After {
+    for text in texts {
+        match send_text(alloc, socket, text.as_str()) {
             After::More => {}
             After::Waits => {}
             after => return after,
         }
     }
     After::More
+}
+
+/// Sends a link the answers that are kept for it. What they tell of is saved.
+pub(crate) fn send_answers(desk: &Desk<'_>, linked: &mut Linked) -> After {
+    let answers = mem::replace(&mut linked.answers, Vec::new(desk.alloc));
+    let after = send_texts(desk.alloc, &mut linked.socket, &answers);
+    drop(answers);
+    after
 }
 
 // Whether a link is told the answers that are kept for it: at a document once its host says that all is saved, at the house
@@ -222,7 +233,7 @@ impl<'a> Desk<'a> {
     fn forget_carets(&mut self, place: Place) {
         let alloc = self.alloc;
         if let Some(room) = self.room(place) {
-            room.carets = Vec::new(alloc);
+            drop(mem::replace(&mut room.carets, Vec::new(alloc)));
         }
     }
 

@@ -103,9 +103,11 @@ impl<'a> Desk<'a> {
     // Writes the log of a turn.
     fn log_turn(&mut self, log: &impl Log) {
         let alloc = self.alloc;
-        for what in mem::replace(&mut self.happened, Vec::new(alloc)) {
+        let happened = mem::replace(&mut self.happened, Vec::new(alloc));
+        for what in &happened {
             info!(log; "{what}");
         }
+        drop(happened);
     }
 
     // Does what the events say.
@@ -136,21 +138,57 @@ impl<'a> Desk<'a> {
         Ok(seconds.saturating_add(u64::from(passed.subsec_millis())))
     }
 
-    /// Serves on an address, until the system fails. A turn takes what events say, saves what they changed, one save for
-    /// each document, and sends what links lack of what is saved.
-    pub fn run(&mut self, wait: &impl Wait, log: &impl Log, address: SocketAddr) -> io::Result<()> {
-        let mut entrance = Entrance::open(self.rt, address)?;
-        let mut events = Events::with_capacity(self.alloc, EVENTS)?;
+    // Waits for what comes at an entrance, and takes it.
+    fn await_some(
+        &mut self,
+        entrance: &mut Entrance,
+        events: &mut Events,
+        start: Instant,
+    ) -> io::Result<()> {
+        let pause = Duration::from_millis(self.pause(entrance));
+        entrance.poll.poll(events, Some(pause))?;
+        self.now = self.time_since(start)?;
+        self.take_events(entrance, events);
+        self.accept_some(entrance);
+        Ok(())
+    }
+
+    // Makes one turn after another.
+    fn turn_forever(
+        &mut self,
+        wait: &impl Wait,
+        log: &impl Log,
+        entrance: &mut Entrance,
+        events: &mut Events,
+    ) -> io::Result<()> {
         let start = Instant::now(self.rt)?;
         for _ in wait.forever() {
-            let pause = Duration::from_millis(self.pause(&entrance));
-            entrance.poll.poll(&mut events, Some(pause))?;
-            self.now = self.time_since(start)?;
-            self.take_events(&mut entrance, &events);
-            self.accept_some(&mut entrance);
+            self.await_some(entrance, events, start)?;
             self.end_turn();
             self.log_turn(log);
         }
         Ok(())
+    }
+
+    // Serves at an entrance.
+    fn run_at(
+        &mut self,
+        wait: &impl Wait,
+        log: &impl Log,
+        entrance: &mut Entrance,
+    ) -> io::Result<()> {
+        let mut events = Events::with_capacity(self.alloc, EVENTS)?;
+        let outcome = self.turn_forever(wait, log, entrance, &mut events);
+        drop(events);
+        outcome
+    }
+
+    /// Serves on an address, until the system fails. A turn takes what events say, saves what they changed, one save for
+    /// each document, and sends what links lack of what is saved.
+    pub fn run(&mut self, wait: &impl Wait, log: &impl Log, address: SocketAddr) -> io::Result<()> {
+        let mut entrance = Entrance::open(self.rt, address)?;
+        let outcome = self.run_at(wait, log, &mut entrance);
+        drop(entrance);
+        outcome
     }
 }

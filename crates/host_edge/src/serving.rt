@@ -16,6 +16,7 @@ fn serve_closing(mut closing: Closing, until: u64) -> Option<Conn> {
     if await_close(&mut closing.socket, MOST_LET_GO) {
         Some(Conn::waiting(Stage::Closing(closing), until))
     } else {
+        drop(closing);
         None
     }
 }
@@ -87,20 +88,35 @@ fn expire_closing(desk: &mut Desk<'_>, closing: Closing) -> Option<Conn> {
     let Closing { socket, why } = closing;
     match why {
         Some(why) => desk.ended(socket, why),
-        None => None,
+        None => {
+            drop(socket);
+            None
+        }
+    }
+}
+
+// What a connection that is no link becomes when its time is up.
+fn expired(desk: &mut Desk<'_>, stage: Stage) -> Option<Conn> {
+    match stage {
+        Stage::Unknown(unknown) => desk.ended(unknown.socket, Ending::Silent),
+        Stage::Closing(closing) => expire_closing(desk, closing),
+        stage => {
+            drop(stage);
+            None
+        }
     }
 }
 
 // Looks whether the time of a connection is up that is no link.
-fn expire_other(desk: &mut Desk<'_>, conn: Conn) -> Option<Conn> {
-    if desk.now <= conn.until {
-        return Some(conn);
+fn expire_other(desk: &mut Desk<'_>, stage: Stage, until: u64, unread: bool) -> Option<Conn> {
+    if desk.now <= until {
+        return Some(Conn {
+            stage,
+            until,
+            unread,
+        });
     }
-    match conn.stage {
-        Stage::Unknown(unknown) => desk.ended(unknown.socket, Ending::Silent),
-        Stage::Closing(closing) => expire_closing(desk, closing),
-        _ => None,
-    }
+    expired(desk, stage)
 }
 
 /// Looks at a connection once a second. None where it is gone.
@@ -112,13 +128,6 @@ pub(crate) fn expire_conn(desk: &mut Desk<'_>, slot: usize, conn: Conn) -> Optio
     } = conn;
     match stage {
         Stage::Linked(linked) => expire_linked(desk, slot, linked, until, unread),
-        stage => expire_other(
-            desk,
-            Conn {
-                stage,
-                until,
-                unread,
-            },
-        ),
+        stage => expire_other(desk, stage, until, unread),
     }
 }

@@ -7,7 +7,7 @@ use crate::opening::serve_unknown;
 use host_http::{
     Asked, MAX_HEAD, Part, Route, Status, body_head, moved_answer, read_head, status_answer,
 };
-use host_socket::{Network, accepted, read_some, write_some};
+use host_socket::{Network, Socket, accepted, read_some, write_some};
 use mio::net::TcpStream;
 use std::alloc::{AllocError, Global};
 use std::io;
@@ -136,7 +136,10 @@ pub(crate) fn serve_answering(
 ) -> Option<Conn> {
     match write_answer(desk, &mut answering) {
         Ok(false) => Some(Conn::waiting(Stage::Answering(answering), until)),
-        _ => None,
+        _ => {
+            drop(answering);
+            None
+        }
     }
 }
 
@@ -155,19 +158,23 @@ fn place_of(desk: &Desk<'_>, route: &Route) -> Option<Place> {
     }
 }
 
-// Makes a socket of a stream that asked for a link, with a head of this length.
+// A socket of a stream that asked for a link, with a head of this length.
+fn socket_of(desk: &Desk<'_>, asking: Asking, answer: &[u8], len: usize) -> Option<Socket> {
+    let Asking { stream, head, .. } = asking;
+    let rest = head.get(len..).unwrap_or(&[]);
+    let socket = accepted(desk.alloc, stream, answer, rest);
+    drop(head);
+    socket
+}
+
+// Waits for what is said on a socket.
 fn begin_link(
     desk: &mut Desk<'_>,
     slot: usize,
-    asking: Asking,
+    socket: Socket,
     place: Place,
     from: Option<Network>,
-    answer: &[u8],
-    len: usize,
 ) -> Option<Conn> {
-    let Asking { stream, head, .. } = asking;
-    let rest = head.get(len..).unwrap_or(&[]);
-    let socket = accepted(desk.alloc, stream, answer, rest)?;
     let until = desk.now.saturating_add(desk.limits.hello);
     let unknown = Unknown {
         socket,
@@ -184,10 +191,14 @@ fn answer_request(
     answer: Result<Answer, AllocError>,
     until: u64,
 ) -> Option<Conn> {
-    let Asking { stream, .. } = asking;
+    let Asking { stream, head, .. } = asking;
+    drop(head);
     match answer {
         Ok(answer) => begin_answer(desk, stream, answer, until),
-        Err(_) => None,
+        Err(_) => {
+            drop(stream);
+            None
+        }
     }
 }
 
@@ -197,26 +208,39 @@ fn refuse(desk: &Desk<'_>, asking: Asking, status: Status, until: u64) -> Option
     answer_request(desk, asking, answer, until)
 }
 
+// Waits for the rest of a head, if more may come.
+fn await_rest(asking: Asking, is_open: bool, until: u64) -> Option<Conn> {
+    if is_open {
+        Some(Conn::waiting(Stage::Asking(asking), until))
+    } else {
+        drop(asking);
+        None
+    }
+}
+
 // Does what a request asks for, whose head may not be whole.
 fn do_asked(
     desk: &mut Desk<'_>,
     slot: usize,
     asking: Asking,
-    asked: Asked,
+    asked: &Asked,
     is_open: bool,
     until: u64,
 ) -> Option<Conn> {
     match asked {
-        Asked::More if is_open => Some(Conn::waiting(Stage::Asking(asking), until)),
-        Asked::More => None,
-        Asked::Refused(status) => refuse(desk, asking, status, until),
+        Asked::More => await_rest(asking, is_open, until),
+        Asked::Refused(status) => refuse(desk, asking, *status, until),
         Asked::Get {
             route,
             credential,
             forwarded,
         } => {
-            let from = desk.network_of(asking.peer, forwarded);
-            let answer = answer_of(desk, &route, Asker { credential, from });
+            let from = desk.network_of(asking.peer, *forwarded);
+            let asker = Asker {
+                credential: *credential,
+                from,
+            };
+            let answer = answer_of(desk, route, asker);
             answer_request(desk, asking, answer, until)
         }
         Asked::Link {
@@ -224,13 +248,35 @@ fn do_asked(
             answer,
             len,
             forwarded,
-        } => match place_of(desk, &route) {
+        } => match place_of(desk, route) {
             Some(place) => {
-                let from = desk.network_of(asking.peer, forwarded);
-                begin_link(desk, slot, asking, place, from, &answer, len)
+                let from = desk.network_of(asking.peer, *forwarded);
+                let socket = socket_of(desk, asking, answer, *len)?;
+                begin_link(desk, slot, socket, place, from)
             }
             None => refuse(desk, asking, Status::NotFound, until),
         },
+    }
+}
+
+// Does what the head of a request asks for, which may not be whole.
+fn do_head(
+    desk: &mut Desk<'_>,
+    slot: usize,
+    asking: Asking,
+    is_open: bool,
+    until: u64,
+) -> Option<Conn> {
+    match read_head(desk.alloc, &desk.routes, &desk.origins, &asking.head) {
+        Ok(asked) => {
+            let left = do_asked(desk, slot, asking, &asked, is_open, until);
+            drop(asked);
+            left
+        }
+        Err(_) => {
+            drop(asking);
+            None
+        }
     }
 }
 
@@ -241,11 +287,11 @@ pub(crate) fn serve_asking(
     mut asking: Asking,
     until: u64,
 ) -> Option<Conn> {
-    let Ok(is_open) = read_some(&mut asking.stream, &mut asking.head, MAX_HEAD) else {
-        return None;
-    };
-    match read_head(desk.alloc, &desk.routes, &desk.origins, &asking.head) {
-        Ok(asked) => do_asked(desk, slot, asking, asked, is_open, until),
-        Err(_) => None,
+    match read_some(&mut asking.stream, &mut asking.head, MAX_HEAD) {
+        Ok(is_open) => do_head(desk, slot, asking, is_open, until),
+        Err(_) => {
+            drop(asking);
+            None
+        }
     }
 }
