@@ -68,7 +68,27 @@ fn with<'a>(
     command: Result<Command<'a>, AllocError>,
     argument: Arg<'a>,
 ) -> Result<Command<'a>, AllocError> {
-    command?.arg(argument)
+    match command {
+        Ok(command) => command.arg(argument),
+        Err(error) => {
+            drop(argument);
+            Err(error)
+        }
+    }
+}
+
+// A command with one more word that was made.
+fn with_made<'a>(
+    command: Result<Command<'a>, AllocError>,
+    word: Command<'a>,
+) -> Result<Command<'a>, AllocError> {
+    match command {
+        Ok(command) => command.subcommand(word),
+        Err(error) => {
+            drop(word);
+            Err(error)
+        }
+    }
 }
 
 // A command with one more word that begins a command of its own.
@@ -76,7 +96,13 @@ fn with_word<'a>(
     command: Result<Command<'a>, AllocError>,
     word: Result<Command<'a>, AllocError>,
 ) -> Result<Command<'a>, AllocError> {
-    command?.subcommand(word?)
+    match word {
+        Ok(word) => with_made(command, word),
+        Err(error) => {
+            drop(command);
+            Err(error)
+        }
+    }
 }
 
 // The word `host` with what may follow it.

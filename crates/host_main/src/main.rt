@@ -92,13 +92,25 @@ fn greet(rt: &HostRuntime, house: &mut House<'_>, set: &Setting) -> Result<()> {
     }
 }
 
+// Adds the places that were named.
+fn add_origins(rt: &HostRuntime, set: &Setting, origins: &mut Origins) -> Result<()> {
+    for place in &set.origins {
+        let place = String::from_str(rt.alloc(), place.as_str())?;
+        origins.add(place)?;
+    }
+    Ok(())
+}
+
 // The places whose pages may ask for links.
 fn origins(rt: &HostRuntime, set: &Setting) -> Result<Origins> {
     let mut origins = Origins::new(Vec::new(rt.alloc()));
-    for place in &set.origins {
-        origins.add(String::from_str(rt.alloc(), place.as_str())?)?;
+    match add_origins(rt, set, &mut origins) {
+        Ok(()) => Ok(origins),
+        Err(error) => {
+            drop(origins);
+            Err(error)
+        }
     }
-    Ok(origins)
 }
 
 // The table of the routes.
@@ -107,6 +119,14 @@ fn routes(rt: &HostRuntime) -> Result<Routes> {
         Ok(routes) => Ok(routes),
         Err(_) => Err(anyhow!("no memory")),
     }
+}
+
+// What a host shows besides its documents, and wrong keys of nobody.
+fn shown(rt: &HostRuntime, set: &Setting) -> Result<(WrongKeys, Origins, Pages)> {
+    let wrong_keys = WrongKeys::new(rt.alloc())?;
+    let origins = origins(rt, set)?;
+    let pages = Pages::load(rt, set.web.as_str())?;
+    Ok((wrong_keys, origins, pages))
 }
 
 // Listens, and serves until the system fails. What happens is told on standard error.
@@ -138,7 +158,7 @@ fn serve_house(
     outcome
 }
 
-// Greets the owner, and serves. A house is let go in one place, as it takes long to prove what that does.
+// Greets the owner, and serves. What is large goes by a call: it takes long to prove what its end does, at each place anew.
 fn serve_greeted(
     rt: &HostRuntime,
     wait: &impl Wait,
@@ -150,6 +170,23 @@ fn serve_greeted(
         Ok(()) => serve_house(rt, wait, set, house, front),
         Err(error) => {
             drop(house);
+            drop(front);
+            Err(error)
+        }
+    }
+}
+
+// What a host shows, with this table of the routes.
+fn front_with(rt: &HostRuntime, set: &Setting, routes: Routes) -> Result<Front> {
+    match shown(rt, set) {
+        Ok((wrong_keys, origins, pages)) => Ok(Front {
+            pages,
+            routes,
+            origins,
+            wrong_keys,
+        }),
+        Err(error) => {
+            drop(routes);
             Err(error)
         }
     }
@@ -168,14 +205,14 @@ fn try_listening(rt: &HostRuntime, address: SocketAddr) -> Result<()> {
 // Serves, until the system fails.
 fn serve(rt: &HostRuntime, wait: &impl Wait, set: &Setting) -> Result<()> {
     try_listening(rt, set.listen)?;
-    let front = Front {
-        pages: Pages::load(rt, set.web.as_str())?,
-        routes: routes(rt)?,
-        origins: origins(rt, set)?,
-        wrong_keys: WrongKeys::new(rt.alloc())?,
-    };
-    let house = open_house(rt, &set.folder, set.address.as_str())?;
-    serve_greeted(rt, wait, set, house, front)
+    let front = front_with(rt, set, routes(rt)?)?;
+    match open_house(rt, &set.folder, set.address.as_str()) {
+        Ok(house) => serve_greeted(rt, wait, set, house, front),
+        Err(error) => {
+            drop(front);
+            Err(error)
+        }
+    }
 }
 
 // Whether a folder has a house, of which nothing is made.
@@ -221,25 +258,53 @@ fn verify(rt: &HostRuntime, folder: &String) -> Result<()> {
     outcome
 }
 
+// Answers words that are none of a task: an error where they are bad.
+fn answer_words(rt: &HostRuntime, error: &clap::Error) -> Result<()> {
+    error.print(rt)?;
+    if error.use_stderr() {
+        return Err(anyhow!("bad words"));
+    }
+    Ok(())
+}
+
 // What the words say is to be done. None where they are answered, as `--help` is.
 fn read_task(rt: &HostRuntime, words: &[String]) -> Result<Option<Task>> {
     match all_words(rt.alloc())?.try_get_matches_from(words) {
-        Ok(matches) => Ok(Some(task_of(rt.alloc(), &matches)?)),
+        Ok(matches) => {
+            let task = task_of(rt.alloc(), &matches);
+            drop(matches);
+            Ok(Some(task?))
+        }
         Err(error) => {
-            error.print(rt)?;
-            if error.use_stderr() {
-                return Err(anyhow!("bad words"));
-            }
+            let outcome = answer_words(rt, &error);
+            drop(error);
+            outcome?;
             Ok(None)
         }
     }
 }
 
-fn main(rt: HostRuntime) -> Result<()> {
-    let words = words(&rt)?;
-    match read_task(&rt, &words)? {
-        Some(Task::Host(set)) => serve(&rt, &rt, &set),
-        Some(Task::Verify(folder)) => verify(&rt, &folder),
+// Does what is to be done.
+fn do_task(rt: &HostRuntime, wait: &impl Wait, task: &Task) -> Result<()> {
+    match task {
+        Task::Host(set) => serve(rt, wait, set),
+        Task::Verify(folder) => verify(rt, folder),
+    }
+}
+
+// Does what words say is to be done, if they do.
+fn do_words(rt: &HostRuntime, wait: &impl Wait, words: &[String]) -> Result<()> {
+    match read_task(rt, words)? {
+        Some(task) => {
+            let outcome = do_task(rt, wait, &task);
+            drop(task);
+            outcome
+        }
         None => Ok(()),
     }
+}
+
+fn main(rt: HostRuntime) -> Result<()> {
+    let words = words(&rt)?;
+    do_words(&rt, &rt, &words)
 }
