@@ -66,16 +66,18 @@ class Stage:
         self.way = self.team.ways[-1]
         self.editor = EDITORS[kind](kind, folder, follow, address)
 
-    def meet(self, wanted=None):
-        """Waits until all have one text, and gives it."""
+    def meet(self, wanted=None, guests=()):
+        """Waits until all have one text, and gives it. What a guest has kept may go out later, so as long as a guest's text is another
+        one no text is the last."""
         def one():
             self.ben.take_all()
-            texts = {self.editor.text, self.ben.text, self.team.text}
+            texts = {self.editor.text, self.ben.text, self.team.text, *(it.text for it in guests)}
             return len(texts) == 1 and self.ben.unanswered == 0 and (wanted is None or texts == {wanted})
         try:
             wait_for("one text", one)
         except Wrong:
             texts = {"the editor": self.editor.text, "Ben": self.ben.text, "the host": self.team.text, "wanted": wanted}
+            texts |= {it.name: it.text for it in guests}
             raise Wrong(f"no one text: {', '.join(f'{who} {short(text)}' for who, text in texts.items())}") from None
         return self.ben.text
 
@@ -329,10 +331,7 @@ def play_random(stages, edits, dice):
         if dice.random() < 0.02:
             dice.choice(stages).way.cut()
     wait_for("all is kept", lambda: all(it.is_kept() for it in editors))
-    text = stage.meet()
-    for other in others:
-        wait_for("the other editor's text", lambda: other.editor.text == text)
-    return text
+    return stage.meet(guests=[it.editor for it in others])
 
 
 class Guest:
