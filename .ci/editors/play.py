@@ -1,10 +1,11 @@
 """Plays an editor and another member on one document of a host, by keys in a terminal: what is typed and what comes, undo, pastes, a loss of
-the link, a right that is taken away, letters of every length, and random edits that end in one text.
+the link, a right that is taken away, letters of every length, renewals, and random edits that end in one text.
 
     python3 .ci/editors/play.py HOST FOLLOW [EDITS] [EDITOR ..]
 
 EDITOR is vim, nvim, emacs, or page: a page in Chromium, which takes part in the random edits alone. Its module has to be built.
 """
+import glob
 import os
 import random
 import shutil
@@ -25,6 +26,7 @@ EDITORS = {"vim": Vim, "nvim": Neovim, "emacs": Emacs}
 SEED = int(os.environ.get("EDITOR_SEED", "11"))
 LETTERS = ["a", "b", "c", " ", "\n", "\\", "é", "ß", "€", "漢", "𝄞", "\t", "#", "'", '"', "e\u0301"]
 FEW = 40  # so many edits without a number
+LINK_FAULT = 6  # the status of a follower whose document was renewed
 FAULTS = (Wrong, WrongFollower, Ended, Broken, OSError)
 
 tried = 0
@@ -48,23 +50,43 @@ class Stage:
 
     def __init__(self, kind, host, follow, folder):
         self.team = Team(host, folder)
+        self.follow, self.folder, self.lives = follow, folder, 0
         self.editor = self.ben = None
         try:
-            self.begin(kind, follow, folder)
+            self.begin(kind)
         except FAULTS:
             self.end()
             raise
 
-    def begin(self, kind, follow, folder):
+    def begin(self, kind):
         ann_secret, self.ann = self.team.invite("writer Ann")
         ben_secret, _ = self.team.invite("writer Ben")
-        self.ben = Follower(follow, self.team.address(ben_secret), os.path.join(folder, "ben"))
+        self.let_ben_in(ben_secret)
+        address = self.team.address(ann_secret, is_cut=True)
+        self.way = self.team.ways[-1]
+        self.editor = EDITORS[kind](kind, self.folder, self.follow, address)
+
+    def let_ben_in(self, secret):
+        """Ben opens the document, in a file of its own each time."""
+        self.lives += 1
+        self.ben = Follower(self.follow, self.team.address(secret), os.path.join(self.folder, f"ben{self.lives}"))
         self.ben.wait_for("a link", lambda: any(line.startswith("linked ") for line in self.ben.news))
         self.ben.reach(self.team.saved)
         self.ben.begin()
-        address = self.team.address(ann_secret, is_cut=True)
-        self.way = self.team.ways[-1]
-        self.editor = EDITORS[kind](kind, folder, follow, address)
+
+    def renew(self):
+        """The owner renews the document, and Ben goes on in the new one."""
+        same("a renewal", self.team.order("renew"), ["renewed notes"])
+        lines = self.ben.last_lines()
+        same("what Ben is told", lines[lines.index("closed 4024 the document was renewed") :][1:], ["renewed"])
+        same("how his follower ends", self.ben.process.wait(), LINK_FAULT)
+        with open(self.ben.words[3] + ".device", encoding="ascii") as kept:
+            self.let_ben_in(".".join(next(kept).split()[1:]))
+
+    @property
+    def asides(self):
+        """How many documents Ann has put aside."""
+        return len(glob.glob(os.path.join(self.folder, self.editor.name, "roastcliff", "*.renewed*.device")))
 
     def meet(self, wanted=None, guests=()):
         """Waits until all have one text, and gives it. What a guest has kept may go out later, so as long as a guest's text is another
@@ -299,8 +321,102 @@ def play_groups(stage):
         wait_for(f"what Ann may do behind {operations}", lambda: may in stage.editor.who())
 
 
+def left_of(editor):
+    """What the editor lists as left."""
+    if isinstance(editor, Emacs):
+        return editor.help("roastcliff-left", "*Roastcliff left*")
+    editor.do("RoastcliffLeft")
+    lines = editor.tell("getline(1, '$')")
+    editor.do("close")
+    return "\n".join(lines)
+
+
+def put_left(editor, which):
+    """Puts in at the cursor what is left."""
+    if isinstance(editor, Emacs):
+        editor.tell(f'(progn (roastcliff-put-left "{which}") t)')
+    else:
+        editor.do(f"RoastcliffLeft {which}")
+
+
+def drop_left(editor, which):
+    """Lets go what is left."""
+    if isinstance(editor, Emacs):
+        editor.tell(f'(progn (roastcliff-drop-left "{which}") t)')
+    else:
+        editor.do(f"RoastcliffLeft! {which}")
+
+
+def play_renewed(stage):
+    """The document is renewed while Ann is apart. She goes on in the new one, and what she wrote apart is listed until it is put in or let go."""
+    stage.begin_with("one\ntwo\nthree\n")
+    stage.apart()
+    stage.editor.change(3, 3, " and a half")
+    stage.editor.write_at_end("Ann's é漢𝄞, \\n apart")
+    wait_for("what she wrote is kept", stage.editor.is_kept)
+    stage.ben.replace(0, 0, "zero\n")
+    wait_for("what Ben wrote", lambda: stage.team.text.startswith("zero"))
+    stage.editor.go(2, 2)
+    stage.renew()
+    stage.linked()
+    stage.meet("zero\none\ntwo\nthree\n")
+    wait_for("Ann writes on", stage.editor.is_linked)
+    same("where the cursor is", stage.editor.place(), [3, 2])
+    same("what is kept of the old one", stage.asides, 1)
+    pieces = ["1.  and a half", "2. Ann's é漢𝄞, \\n apart"]
+    same("what is left", left_of(stage.editor).split("\n")[:3], ["You wrote this while the document was renewed:", *pieces])
+    same("its number in words", "2 left" in stage.editor.state(), True)
+    stage.editor.undo()
+    stage.editor.start_again()
+    wait_for("a link", stage.editor.is_linked)
+    same("what is left behind the editor's end", left_of(stage.editor).split("\n")[1:3], pieces)
+    drop_left(stage.editor, 1)
+    stage.editor.go(2, 1)
+    put_left(stage.editor, "all")
+    stage.meet("zero\nAnn's é漢𝄞, \\n apartone\ntwo\nthree\n")
+    same("what is left now", left_of(stage.editor).startswith("Nothing is left"), True)
+    stage.editor.undo()
+    stage.meet("zero\none\ntwo\nthree\n")
+    play_renewed_at_once(stage)
+    play_not_opened(stage)
+
+
+def play_renewed_at_once(stage):
+    """The document is renewed while Ann writes: each word that she wrote is in the new one, or listed."""
+    stage.begin_with("before\n")
+    stage.editor.write_at_end("at once")
+    stage.renew()
+    wait_for("the new document", lambda: stage.asides == 2 and stage.editor.is_linked())
+    text = stage.meet()
+    if text != "before\nat once":
+        left = "".join(line.partition(". ")[2] for line in left_of(stage.editor).split("\n") if line[:1].isdigit())
+        same("what came, with what is left", text + left, "before\nat once")
+        drop_left(stage.editor, "all")
+    same("what is left", "left" in stage.editor.state(), False)
+    stage.editor.write_at_end(", and on")
+    stage.meet(text + ", and on")
+
+
+def play_not_opened(stage):
+    """A new document that can't be opened leaves the old one's text in the editor, and says where it is. It is opened later by its device."""
+    stage.begin_with("kept\n")
+    is_emacs = isinstance(stage.editor, Emacs)
+    program = stage.editor.tell("(car roastcliff-program)" if is_emacs else "g:roastcliff_program[0]")
+    choose = lambda it: stage.editor.tell(f'(progn (setq roastcliff-program (list "{it}")) t)') if is_emacs else stage.editor.do(f"let g:roastcliff_program = ['{it}']")
+    choose("false")
+    stage.renew()
+    wait_for("the end", lambda: "ended" in stage.editor.state())
+    wait_for("what is told", lambda: "the old document is" in stage.editor.screen() and ".renewed3" in stage.editor.screen())
+    same("the old text", (stage.editor.text, stage.editor.is_open()), ("kept\n", False))
+    choose(program)
+    stage.editor.open(stage.editor.address.partition("#")[0])
+    wait_for("the new document", stage.editor.is_linked)
+    stage.editor.write_at_end("on")
+    stage.meet("kept\non")
+
+
 # The right goes first: later it would undo all that Ann wrote until then.
-PARTS = [play_rights, play_typing, play_cursor, play_at_once, play_undo, play_many, play_letters, play_ends, play_paste, play_apart, play_start]
+PARTS = [play_rights, play_typing, play_cursor, play_at_once, play_undo, play_many, play_letters, play_ends, play_paste, play_apart, play_start, play_renewed]
 
 
 def change(dice, text, make):

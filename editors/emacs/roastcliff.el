@@ -8,7 +8,8 @@
 ;; `M-x roastcliff' asks for the address of a document and opens it in a buffer.  What you write goes to the others as you
 ;; write, and what they write comes into the buffer, while you are linked; apart you go on, and all of it meets later.
 ;; `undo' takes back what you wrote, and nothing of what others wrote.  What the rules denied or undid is marked at its line
-;; with the reason; `roastcliff-why' lists it, and `roastcliff-who' says who may do what.
+;; with the reason; `roastcliff-why' lists it, and `roastcliff-who' says who may do what.  Where the document was renewed while
+;; you were apart, `roastcliff-left' lists what you wrote meanwhile, and `roastcliff-put-left' puts it in.
 ;;
 ;; A program beside the editor, `roastcliff follow', keeps the document and talks with the host.  This file and the program
 ;; say lines to one another: docs/FORMATS.md has them.  A place is counted in letters from the text's begin, from 0.
@@ -49,6 +50,12 @@
 (defconst roastcliff--most-tries 10
   "How often a follower is started again whose file another one has open.")
 
+(defconst roastcliff--near 20
+  "How many letters on each side tell whether words stand in a text.")
+
+(defconst roastcliff--least 5
+  "How many letters are enough for that, with those of the words.")
+
 (defconst roastcliff--no-letter "[^\0-\uD7FF\uE000-\U0010FFFF]"
   "What Emacs has as a letter and UTF-8 hasn't.")
 
@@ -63,7 +70,9 @@
   (tick 0)                   ; when the buffer was as the follower takes it to be
   (shadow nil)               ; a buffer with the text that the follower takes this one to have
   (pending nil)              ; changes that aren't sent yet, the last in front: (AT OUT PUT)
-  (seen 0) (unanswered 0)
+  (seen 0)
+  (sent nil)                 ; what was sent and isn't answered yet
+  (refusals 0)               ; how often not all of that was made
   (timer nil)
   (rows nil)                 ; changes that came and aren't in the buffer yet, the last in front: (AT OUT PUT)
   (rows-reason nil)          ; why these came
@@ -72,6 +81,11 @@
   (marks nil)                ; what was denied or undone: (TEXT DEED WHY)
   (closed nil)               ; the host's words at a close
   (tries 0)                  ; how often it was started again
+  (is-renewed nil)           ; whether it said that a new document has the place of this one
+  (told nil)                 ; what it said is left of what was written here, the last in front
+  (is-going-on nil)          ; whether the text of the new document is awaited
+  (aside nil)                ; where the files of the old one are then
+  (left nil)                 ; what is left of documents that were renewed
   (person 0)
   (people nil) (devices nil) (here nil)
   (rules (roastcliff--rules-of)))
@@ -127,14 +141,14 @@
 
 (defun roastcliff--say-replace (document at out put)
   "Say in DOCUMENT that PUT comes in place of OUT letters from place AT on."
-  (when (zerop (roastcliff--document-unanswered document))
+  (unless (roastcliff--document-sent document)
     (setf (roastcliff--document-reason document) (roastcliff--document-rows-reason document)))
   (roastcliff--forget-rows document)
   (dolist (part (roastcliff--parts put))
     (roastcliff--say document (format "seen %d" (roastcliff--document-seen document)))
     (roastcliff--say document (format "replace %d %d%s" at (+ at out)
                                       (if (string-empty-p part) "" (concat " " (roastcliff--spelled part)))))
-    (cl-incf (roastcliff--document-unanswered document))
+    (setf (roastcliff--document-sent document) (nconc (roastcliff--document-sent document) (list part)))
     (setq at (+ at (length part)) out 0)))
 
 (defun roastcliff--put-in (buffer at out put)
@@ -211,6 +225,7 @@
   (when (buffer-live-p (roastcliff--document-buffer document))
     (with-current-buffer (roastcliff--document-buffer document)
       (when (and (roastcliff--document-is-open document)
+                 (not (roastcliff--document-is-renewed document))
                  (/= (buffer-chars-modified-tick) (roastcliff--document-tick document))
                  (process-live-p (roastcliff--document-process document)))
         (roastcliff--send-pending document)))))
@@ -241,7 +256,7 @@
 (defun roastcliff--show-kept (document)
   "Show as unmodified what is kept of DOCUMENT."
   (when (and (roastcliff--document-is-open document)
-             (zerop (roastcliff--document-unanswered document))
+             (null (roastcliff--document-sent document))
              (null (roastcliff--document-pending document)))
     (with-current-buffer (roastcliff--document-buffer document)
       (restore-buffer-modified-p nil))))
@@ -400,29 +415,36 @@ That puts PUT letters in place of OUT letters from AT on."
 
 ;;;; What comes
 
+(defun roastcliff--fill (buffer text)
+  "Make TEXT that of BUFFER."
+  (with-current-buffer buffer
+    (erase-buffer)
+    (insert text)))
+
 (defun roastcliff--take-text (document spelled)
   "The whole text of DOCUMENT comes, SPELLED."
   (let ((text (roastcliff--read spelled)) (roastcliff--is-taking t) (inhibit-read-only t))
-    (with-current-buffer (roastcliff--document-shadow document)
-      (erase-buffer)
-      (insert text))
-    (erase-buffer)
-    (insert text)
-    (goto-char (point-min))
+    (if (roastcliff--document-is-going-on document)
+        (roastcliff--show-renewed document text)
+      (roastcliff--fill (roastcliff--document-shadow document) text)
+      (roastcliff--fill (current-buffer) text)
+      (goto-char (point-min))
+      (roastcliff--tell-left document nil))
     (roastcliff--forget-rows document)
     (setq buffer-undo-list nil buffer-read-only nil)
     (setf (roastcliff--document-is-open document) t
           (roastcliff--document-tick document) (buffer-chars-modified-tick)
           (roastcliff--document-seen document) 0
-          (roastcliff--document-unanswered document) 0
+          (roastcliff--document-sent document) nil
           (roastcliff--document-pending document) nil)
     (restore-buffer-modified-p nil)))
 
 (defun roastcliff--take-replaced (document rest)
   "A range of DOCUMENT was replaced, or not all of it, as REST says."
-  (cl-decf (roastcliff--document-unanswered document))
+  (pop (roastcliff--document-sent document))
   (when (string-match " but \\(.*\\)" rest)
     (let ((answer (match-string 1 rest)))
+      (cl-incf (roastcliff--document-refusals document))
       (setf (roastcliff--document-reason document) (cons 'denied answer))
       (message "roastcliff: not written: %s" (roastcliff--refusal document answer))))
   (roastcliff--show-kept document))
@@ -436,7 +458,7 @@ and comes again."
     (when (> (roastcliff--document-rows-undone document) 0)
       (cl-decf (roastcliff--document-rows-undone document))
       (setf (roastcliff--document-reason document) (roastcliff--document-undoing document)))
-    (when (zerop (roastcliff--document-unanswered document))
+    (unless (roastcliff--document-sent document)
       (roastcliff--keep-row document rest))))
 
 (defun roastcliff--keep-row (document rest)
@@ -507,6 +529,7 @@ and comes again."
 (defun roastcliff--take-linked (document rest)
   "The host let DOCUMENT in, as REST says."
   (setf (roastcliff--document-state document) 'linked
+        (roastcliff--document-tries document) 0
         (roastcliff--document-person document) (string-to-number (nth 1 (split-string rest " "))))
   (force-mode-line-update))
 
@@ -538,6 +561,8 @@ and comes again."
       ("linked" (roastcliff--take-linked document rest))
       ("apart" (setf (roastcliff--document-state document) 'apart) (force-mode-line-update))
       ("closed" (setf (roastcliff--document-closed document) rest) (message "roastcliff: the host closed the link: %s" rest))
+      ("renewed" (setf (roastcliff--document-is-renewed document) t))
+      ("left" (push (roastcliff--read rest) (roastcliff--document-told document)))
       ("people" (setf (roastcliff--document-people document) nil (roastcliff--document-devices document) nil))
       ("person" (roastcliff--take-person document rest))
       ("device" (roastcliff--take-device document rest))
@@ -700,6 +725,254 @@ With a prefix argument, FORGET it: the marks go."
         (pcase-dolist (`(,text ,deed ,why) marks)
           (princ (format "%s: %s\n    %s\n" deed why (string-replace "\n" "\n    " text))))))))
 
+;;;; The document was renewed
+;;
+;; A new document has the place of the old one then.  The follower tells which pieces of what was written here the host hasn't,
+;; and ends.  The files of the old document are put aside, and the device goes on in the new one.  What is left of the old one
+;; stands in a file beside the document's, a line for each place, until it is put in or let go.
+
+(defun roastcliff--read-left (file)
+  "What is left of documents that had FILE and were renewed."
+  (let ((kept (concat file ".left")) (coding-system-for-read 'utf-8-unix))
+    (when (file-readable-p kept)
+      (with-temp-buffer
+        (insert-file-contents kept)
+        (mapcar #'roastcliff--read (split-string (buffer-string) "\n" t))))))
+
+(defun roastcliff--write-left (left file)
+  "Write in FILE what is LEFT."
+  (let ((coming (concat file ".new")) (coding-system-for-write 'utf-8-unix))
+    (with-temp-file coming
+      (dolist (text left)
+        (insert (roastcliff--spelled text) "\n")))
+    (rename-file coming file t)))
+
+(defun roastcliff--keep-left (document)
+  "Keep in a file what is left of DOCUMENT.  It is gone where nothing is."
+  (let ((file (concat (roastcliff--document-file document) ".left")) (left (roastcliff--document-left document)))
+    (condition-case nil
+        (if left (roastcliff--write-left left file) (delete-file file))
+      (file-error (message "roastcliff: this Emacs alone has what is left, since it can't be written to %s" file)))))
+
+(defun roastcliff--join (text pieces)
+  "Those of PIECES, in their order, that stand side by side in TEXT as one."
+  (let ((joined nil) (at 0))
+    (dolist (piece pieces (nreverse joined))
+      (let ((found (and joined (string-search (concat (car joined) piece) text at))))
+        (if found
+            (setcar joined (concat (car joined) piece))
+          (push piece joined))
+        (setq at (or found 0))))))
+
+(defun roastcliff--text ()
+  "The whole text of this buffer."
+  (save-restriction
+    (widen)
+    (buffer-substring-no-properties (point-min) (point-max))))
+
+(defun roastcliff--take-unsent (document)
+  "The changes of DOCUMENT that its follower wasn't told of."
+  (save-restriction
+    (widen)
+    (let ((changes (nreverse (roastcliff--document-pending document)))
+          (shadow (roastcliff--document-shadow document)))
+      (setf (roastcliff--document-pending document) nil)
+      (pcase-dolist (`(,at ,out ,put) changes)
+        (roastcliff--put-in shadow at out (roastcliff--clean put)))
+      (when-let ((change (roastcliff--difference shadow)))
+        (setq changes (append changes (list change))))
+      (roastcliff--fill shadow (roastcliff--text))
+      changes)))
+
+(defun roastcliff--take-untaken (document)
+  "What was written in DOCUMENT and its follower hasn't taken.
+It didn't answer that, or wasn't told of it."
+  (let ((unsent (mapcar (lambda (it) (roastcliff--clean (nth 2 it))) (roastcliff--take-unsent document))))
+    (prog1 (remove "" (append (roastcliff--document-sent document) unsent))
+      (setf (roastcliff--document-sent document) nil))))
+
+(defun roastcliff--leave-behind (document told)
+  "Keep what was TOLD as left of DOCUMENT, and what its follower hasn't taken."
+  (when-let ((pieces (append told (roastcliff--take-untaken document))))
+    (setf (roastcliff--document-left document)
+          (append (roastcliff--document-left document) (roastcliff--join (roastcliff--text) pieces)))
+    (roastcliff--keep-left document)))
+
+(defun roastcliff--names-aside (file)
+  "Under which names documents are that had FILE and were renewed.
+The first is free, and the others follow from the newest on."
+  (let ((names (list (concat file ".renewed"))))
+    (while (or (file-exists-p (car names)) (file-exists-p (concat (car names) ".device")))
+      (push (format "%s.renewed%d" file (1+ (length names))) names))
+    names))
+
+(defun roastcliff--put-aside (file)
+  "Put FILE under another name, and its device behind it, and give that name.
+Where it breaks off the follower tells of the renewal once more."
+  (let ((name (car (roastcliff--names-aside file))))
+    (rename-file file name)
+    (condition-case wrong
+        (rename-file (concat file ".device") (concat name ".device"))
+      (file-error
+       (rename-file name file)
+       (signal (car wrong) (cdr wrong))))
+    name))
+
+(defun roastcliff--device-of (file)
+  "The device of FILE as an address has it, SITE.SECRET, nil where there is none."
+  (let ((kept (concat file ".device")))
+    (when (file-readable-p kept)
+      (with-temp-buffer
+        (insert-file-contents kept)
+        (when (looking-at "device \\([0-9]+\\) \\([^ \n]+\\)$")
+          (concat (match-string 1) "." (match-string 2)))))))
+
+(defun roastcliff--address-again (address file)
+  "The ADDRESS of a document by the device of FILE, which another one had."
+  (concat (car (split-string address "#")) "#" (roastcliff--device-of file)))
+
+(defun roastcliff--go-on (document)
+  "Go on in the document that has the place of DOCUMENT.
+This buffer shows the text of the old one until that of the other comes."
+  (roastcliff--leave-behind document (reverse (roastcliff--document-told document)))
+  (setq buffer-read-only t)
+  (let ((file (roastcliff--document-file document)))
+    (condition-case wrong
+        (let* ((address (roastcliff--address-again (roastcliff--document-address document) file))
+               (aside (roastcliff--put-aside file)))
+          (roastcliff--open-again document address aside))
+      (file-error
+       (message "roastcliff: %s can't be put aside, so the new document isn't opened: %s"
+                (abbreviate-file-name file) (error-message-string wrong))))))
+
+(defun roastcliff--open-again (document address aside)
+  "Open in this buffer the document of ADDRESS, which has the place of DOCUMENT.
+The files of that are ASIDE."
+  (setq roastcliff--document
+        (roastcliff--document-of
+         :address address :file (roastcliff--document-file document) :buffer (current-buffer)
+         :shadow (roastcliff--document-shadow document) :marks (roastcliff--document-marks document)
+         :tries (roastcliff--document-tries document) :left (roastcliff--document-left document)
+         :is-going-on t :aside aside))
+  (roastcliff--fetch roastcliff--document))
+
+(defun roastcliff--is-there (text other words)
+  "Whether TEXT has WORDS where OTHER has them, by what stands around them there.
+It has to have them once, or they may be others."
+  (let* ((at (string-search words other))
+         (near (and at (not (string-search words other (1+ at)))
+                    (substring other (max 0 (- at roastcliff--near))
+                               (min (length other) (+ at (length words) roastcliff--near))))))
+    (and near (>= (length near) roastcliff--least) (string-search near text))))
+
+(defun roastcliff--show-renewed (document text)
+  "Show TEXT, that of DOCUMENT, in place of that of the one whose place it has.
+The point stays where it was, as near as TEXT allows.  The host may have taken
+what it didn't say it had."
+  (roastcliff--leave-behind document nil)
+  (let ((old (roastcliff--text)) (place (point)) (buffer-undo-list t) (shadow (roastcliff--document-shadow document)))
+    (roastcliff--fill shadow text)
+    (save-restriction
+      (widen)
+      (unless (replace-buffer-contents shadow 2)
+        (goto-char (min place (point-max)))))
+    (setf (roastcliff--document-is-going-on document) nil
+          (roastcliff--document-aside document) nil
+          (roastcliff--document-left document)
+          (cl-remove-if (lambda (it) (roastcliff--is-there text old it)) (roastcliff--document-left document)))
+    (roastcliff--keep-left document)
+    (roastcliff--tell-left document "the document was renewed")))
+
+(defun roastcliff--tell-left (document happened)
+  "Tell how much is left of DOCUMENT, behind what HAPPENED."
+  (let* ((count (length (roastcliff--document-left document)))
+         (left (and (> count 0)
+                    (format "%d %s left: see M-x roastcliff-left" count
+                            (if (= count 1) "piece that you wrote is" "pieces that you wrote are"))))
+         (words (delq nil (list happened left))))
+    (when words
+      (message "roastcliff: %s" (string-join words ", and ")))))
+
+(defun roastcliff-left ()
+  "Show what you wrote and the host didn't have when the document was renewed.
+`roastcliff-put-left' puts it in, and `roastcliff-drop-left' lets it go."
+  (interactive)
+  (let* ((document (roastcliff--here)) (left (roastcliff--document-left document)) (number 0)
+         (aside (nth 1 (roastcliff--names-aside (roastcliff--document-file document)))))
+    (with-help-window "*Roastcliff left*"
+      (princ (if left "You wrote this while the document was renewed:\n"
+               "Nothing is left that you wrote while a document was renewed.\n"))
+      (dolist (text left)
+        (princ (format "%d. %s\n" (cl-incf number) (string-replace "\n" "⏎" text))))
+      (when left
+        (princ "`M-x roastcliff-put-left' puts it in at point, `M-x roastcliff-drop-left' lets it go.\n"))
+      (when aside
+        (princ (format "The old document is %s.\n" (abbreviate-file-name aside)))))))
+
+(defun roastcliff--read-which (prompt default)
+  "Which pieces are meant of those that are left, as read with PROMPT and DEFAULT."
+  (let ((count (length (roastcliff--document-left (roastcliff--here)))))
+    (when (zerop count)
+      (user-error "Nothing is left"))
+    (completing-read (format "%s which, 1 to %d, or all%s: " prompt count (if default (format " (default %s)" default) ""))
+                     (cons "all" (mapcar #'number-to-string (number-sequence 1 count))) nil t nil nil default)))
+
+(defun roastcliff--named-left (document which)
+  "What is left of DOCUMENT and WHICH names: the number of a piece, or all."
+  (let ((left (roastcliff--document-left document)) (number (string-to-number which)))
+    (cond ((equal which "all") left)
+          ((<= 1 number (length left)) (list (nth (1- number) left)))
+          (t (user-error "Which? A number of the list, or all")))))
+
+(defun roastcliff--let-go (document pieces)
+  "Take PIECES off the list of what is left of DOCUMENT."
+  (dolist (piece pieces)
+    (let ((left (roastcliff--document-left document)))
+      (setf (roastcliff--document-left document) (cl-remove piece left :test #'equal :count 1))))
+  (roastcliff--keep-left document)
+  (force-mode-line-update))
+
+(defun roastcliff--tell-gone (document pieces deed)
+  "Tell that PIECES were left of DOCUMENT, and their DEED."
+  (let ((count (length pieces)))
+    (roastcliff--tell-left document (format "%d %s %s" count (if (= count 1) "piece is" "pieces are") deed))))
+
+(defun roastcliff--write-at-point (document text)
+  "Write TEXT in DOCUMENT at point.  Give whether the rules allow it."
+  (barf-if-buffer-read-only)
+  (roastcliff--send document)
+  (let ((refusals (roastcliff--document-refusals document)))
+    (undo-boundary)
+    (insert text)
+    (undo-boundary)
+    (roastcliff--send document)
+    (roastcliff--wait-while (roastcliff--document-process document) (lambda () (roastcliff--document-sent document)))
+    (and (null (roastcliff--document-sent document))
+         (roastcliff--document-is-open document)
+         (= refusals (roastcliff--document-refusals document)))))
+
+(defun roastcliff--in-lines (texts)
+  "TEXTS in one: each begins a line, but the first."
+  (concat (mapconcat (lambda (it) (string-remove-suffix "\n" it)) (butlast texts) "\n")
+          (and (cdr texts) "\n") (car (last texts))))
+
+(defun roastcliff-put-left (which)
+  "Put in at point what you wrote while the document was renewed.
+WHICH is the number of a piece, as `roastcliff-left' shows it, or all."
+  (interactive (list (roastcliff--read-which "Put in" "all")))
+  (let* ((document (roastcliff--here)) (pieces (roastcliff--named-left document which)))
+    (when (roastcliff--write-at-point document (roastcliff--in-lines pieces))
+      (roastcliff--let-go document pieces)
+      (roastcliff--tell-gone document pieces "put in"))))
+
+(defun roastcliff-drop-left (which)
+  "Let go what you wrote while the document was renewed.
+WHICH is the number of a piece, as `roastcliff-left' shows it, or all."
+  (interactive (list (roastcliff--read-which "Let go" nil)))
+  (let* ((document (roastcliff--here)) (pieces (roastcliff--named-left document which)))
+    (roastcliff--let-go document pieces)
+    (roastcliff--tell-gone document pieces "let go")))
+
 ;;;; What is shown
 
 (defun roastcliff--here ()
@@ -769,8 +1042,11 @@ The first rule says it that is for him."
 (defun roastcliff--lighter ()
   "How it stands with the document of this buffer."
   (if roastcliff--document
-      (format " Roastcliff:%s%s" (roastcliff--document-state roastcliff--document)
-              (if (buffer-modified-p) ", not kept yet" ""))
+      (format " Roastcliff:%s%s%s" (roastcliff--document-state roastcliff--document)
+              (if (buffer-modified-p) ", not kept yet" "")
+              (if (roastcliff--document-left roastcliff--document)
+                  (format ", %d left" (length (roastcliff--document-left roastcliff--document)))
+                ""))
     ""))
 
 ;;;; The follower
@@ -778,20 +1054,37 @@ The first rule says it that is for him."
 (defun roastcliff--start (document ended)
   "Start the follower of DOCUMENT.
 When it has ended ENDED is called with the document and with the status."
-  (let ((buffer (roastcliff--document-buffer document)))
-    (setf (roastcliff--document-rest document) ""
-          (roastcliff--document-process document)
-          (make-process
-           :name "roastcliff" :connection-type 'pipe
-           ;; The end of Emacs by a signal isn't that of the follower, which has lines to read then.
-           :command (append (and (executable-find "nohup") '("nohup")) roastcliff-program
-                            (list (roastcliff--document-address document) (roastcliff--document-file document)))
-           :coding 'utf-8-unix :noquery t
-           :filter (lambda (_ some) (roastcliff--filter document some))
-           :sentinel (lambda (process _)
-                       (when (and (memq (process-status process) '(exit signal)) (buffer-live-p buffer))
-                         (with-current-buffer buffer
-                           (funcall ended document (process-exit-status process)))))))))
+  (setf (roastcliff--document-rest document) ""
+        (roastcliff--document-process document)
+        (make-process
+         :name "roastcliff" :connection-type 'pipe
+         ;; The end of Emacs by a signal isn't that of the follower, which has lines to read then.
+         :command (append (and (executable-find "nohup") '("nohup")) roastcliff-program
+                          (list (roastcliff--document-address document) (roastcliff--document-file document)))
+         :coding 'utf-8-unix :noquery t
+         :filter (lambda (_ some) (roastcliff--filter document some))
+         :sentinel (lambda (process _)
+                     (when (memq (process-status process) '(exit signal))
+                       (roastcliff--when-taken document ended (process-exit-status process)))))))
+
+(defun roastcliff--when-taken (document ended status)
+  "Call ENDED with DOCUMENT and STATUS once all that its follower said is taken."
+  (cond
+   ((not (buffer-live-p (roastcliff--document-buffer document))))
+   ((roastcliff--document-is-busy document)
+    (run-with-timer 0.05 nil #'roastcliff--when-taken document ended status))
+   (t (with-current-buffer (roastcliff--document-buffer document)
+        (funcall ended document status)))))
+
+(defun roastcliff--fetch (document)
+  "Have all that the host has of DOCUMENT put in its file."
+  (condition-case wrong
+      (progn
+        (roastcliff--start document #'roastcliff--fetched)
+        (process-send-eof (roastcliff--document-process document)))
+    (file-error
+     (setf (roastcliff--document-closed document) (error-message-string wrong))
+     (roastcliff--ended document -1))))
 
 (defun roastcliff--fetched (document status)
   "All that the host had is in the file of DOCUMENT, or not, as STATUS says."
@@ -801,6 +1094,7 @@ When it has ended ENDED is called with the document and with the status."
 
 (defun roastcliff--follow (document)
   "Follow DOCUMENT, from its file on."
+  (setf (roastcliff--document-address document) (car (split-string (roastcliff--document-address document) "#")))
   (roastcliff--start document #'roastcliff--ended)
   (roastcliff--say document "text")
   (roastcliff--say document "rules"))
@@ -808,19 +1102,27 @@ When it has ended ENDED is called with the document and with the status."
 (defun roastcliff--ended (document status)
   "The follower of DOCUMENT has ended with STATUS.
 So nothing that is written would be kept."
-  (let ((was-open (roastcliff--document-is-open document)))
+  (let ((was-open (roastcliff--document-is-open document))
+        (may-try (<= (cl-incf (roastcliff--document-tries document)) roastcliff--most-tries)))
     (setf (roastcliff--document-state document) 'ended
           (roastcliff--document-is-open document) nil)
-    (if (and (= status roastcliff--is-locked) (not was-open) (< (roastcliff--document-tries document) roastcliff--most-tries))
-        (progn
-          (cl-incf (roastcliff--document-tries document))
-          (run-with-timer 0.5 nil #'roastcliff--follow-again document))
-      (setq buffer-read-only t)
-      (message "roastcliff: %s%s"
-               (if (= status roastcliff--is-locked)
-                   "the disk failed, or another program has this document open here"
-                 (format "the follower ended with status %d" status))
-               (if (roastcliff--document-closed document) (concat ": " (roastcliff--document-closed document)) "")))))
+    (cond
+     ((and (roastcliff--document-is-renewed document) may-try) (roastcliff--go-on document))
+     ((and (= status roastcliff--is-locked) (not was-open) may-try)
+      (run-with-timer 0.5 nil #'roastcliff--follow-again document))
+     (t (setq buffer-read-only t)
+        (message "roastcliff: %s" (roastcliff--end-words document status))))))
+
+(defun roastcliff--end-words (document status)
+  "Why the follower of DOCUMENT ended, with STATUS."
+  (let ((aside (roastcliff--document-aside document)))
+    (string-join
+     (delq nil (list (and aside (concat "the old document is " (abbreviate-file-name aside)))
+                     (if (= status roastcliff--is-locked)
+                         "the disk failed, or another program has this document open here"
+                       (format "the follower ended with status %d" status))
+                     (roastcliff--document-closed document)))
+     ": ")))
 
 (defun roastcliff--follow-again (document)
   "Follow DOCUMENT, if it is still there."
@@ -841,7 +1143,7 @@ It ends once all is at the host, or at least in its file: what a lost link keeps
 back goes out when the document is opened again."
   (when (roastcliff--document-is-open document)
     (setf (roastcliff--document-is-open document) nil)
-    (roastcliff--wait-while process (lambda () (> (roastcliff--document-unanswered document) 0)))
+    (roastcliff--wait-while process (lambda () (roastcliff--document-sent document)))
     (process-send-eof process)
     (roastcliff--wait-while process (lambda () (eq 'linked (roastcliff--document-state document)))))
   (delete-process process))
@@ -850,6 +1152,8 @@ back goes out when the document is opened again."
   "Send what was written, and end the follower: AT-ONCE by the end of its input."
   (when-let ((document roastcliff--document))
     (roastcliff--send document)
+    (when (or (roastcliff--document-is-renewed document) (roastcliff--document-is-going-on document))
+      (roastcliff--leave-behind document nil))
     (let ((process (roastcliff--document-process document)))
       (when (process-live-p process)
         (set-process-sentinel process #'ignore)
@@ -915,7 +1219,7 @@ PLACE is the address without its secret."
   (make-directory roastcliff-folder t)
   (let* ((file (expand-file-name (replace-regexp-in-string "[^A-Za-z0-9.-]" "_" place) roastcliff-folder))
          (document (roastcliff--document-of
-                    :address address :file file :buffer (current-buffer)
+                    :address address :file file :buffer (current-buffer) :left (roastcliff--read-left file)
                     :shadow (generate-new-buffer " *roastcliff text*" t))))
     (with-current-buffer (roastcliff--document-shadow document)
       (setq buffer-undo-list t))
@@ -924,8 +1228,11 @@ PLACE is the address without its secret."
     (roastcliff-mode 1)
     (if (file-exists-p (concat file ".device"))
         (roastcliff--follow document)
-      (roastcliff--start document #'roastcliff--fetched)
-      (process-send-eof (roastcliff--document-process document)))))
+      ;; The last end may have come before the device of a new document was there.
+      (let ((aside (nth 1 (roastcliff--names-aside file))))
+        (when (and aside (not (string-match-p "#." address)))
+          (setf (roastcliff--document-address document) (roastcliff--address-again address aside))))
+      (roastcliff--fetch document))))
 
 ;;;###autoload
 (defun roastcliff (address)

@@ -33,6 +33,10 @@ let s:most_lines_ahead = 40
 let s:is_locked = 10
 let s:most_tries = 10
 
+" How many bytes on each side tell whether words stand in a text, and how many are enough with the words.
+let s:near = 20
+let s:least = 5
+
 let s:has_virtual_text = has('nvim') || (has('textprop') && has('patch-9.0.0067'))
 
 " The documents that are open, by the numbers of their buffers.
@@ -120,14 +124,15 @@ endfunction
 
 " The next lines that both have, as the numbers of lines in front of them: [] where none is near.
 function! s:next_alike(old, i, new, j) abort
-  for ahead in range(1, s:most_lines_ahead)
-    if get(a:old, a:i + ahead, '') ==# a:new[a:j] && a:i + ahead < len(a:old)
-      return [ahead, 0]
-    elseif get(a:new, a:j + ahead, '') ==# a:old[a:i] && a:j + ahead < len(a:new)
-      return [0, ahead]
-    elseif a:i + ahead < len(a:old) && a:j + ahead < len(a:new) && a:old[a:i + ahead] ==# a:new[a:j + ahead]
-      return [ahead, ahead]
-    endif
+  let [old, new] = [a:old[a:i : a:i + s:most_lines_ahead], a:new[a:j : a:j + s:most_lines_ahead]]
+  for ahead in range(1, max([len(old), len(new)]) - 1)
+    for other in [0, ahead] + range(1, ahead - 1)
+      if ahead < len(old) && other < len(new) && old[ahead] ==# new[other]
+        return [ahead, other]
+      elseif ahead < len(new) && other < len(old) && new[ahead] ==# old[other]
+        return [other, ahead]
+      endif
+    endfor
   endfor
   return []
 endfunction
@@ -280,7 +285,7 @@ endfunction
 
 " Whether all that stands in the buffer is kept shows as that it isn't modified.
 function! s:show_kept(document) abort
-  if a:document.is_open && a:document.unanswered == 0 && getbufvar(a:document.buffer, 'changedtick') == a:document.tick && getbufvar(a:document.buffer, '&modified')
+  if a:document.is_open && empty(a:document.sent) && getbufvar(a:document.buffer, 'changedtick') == a:document.tick && getbufvar(a:document.buffer, '&modified')
     call setbufvar(a:document.buffer, '&modified', 0)
     let a:document.tick = getbufvar(a:document.buffer, 'changedtick')
   endif
@@ -290,7 +295,7 @@ endfunction
 
 " Says a line to the follower.
 function! s:say(document, line) abort
-  if a:document.job is v:null
+  if a:document.job is v:null || a:document.is_renewed
     return
   elseif has('nvim')
     call chansend(a:document.job, a:line . "\n")
@@ -302,13 +307,13 @@ endfunction
 " Says that a text comes in place of so many letters from a place on, in several lines where it is long.
 function! s:say_replace(document, at, out, put) abort
   let [at, out, size, done] = [a:at, a:out, strchars(a:put), 0]
-  let a:document.reason = a:document.unanswered > 0 ? a:document.reason : a:document.rows_reason
+  let a:document.reason = empty(a:document.sent) ? a:document.rows_reason : a:document.reason
   call s:forget_rows(a:document)
   while 1
     let part = size <= s:most_letters ? a:put : strcharpart(a:put, done, s:most_letters)
     call s:say(a:document, 'seen ' . a:document.seen)
     call s:say(a:document, 'replace ' . at . ' ' . (at + out) . (empty(part) ? '' : ' ' . s:spelled(part)))
-    let a:document.unanswered += 1
+    call add(a:document.sent, part)
     let done += s:most_letters
     if done >= size
       return
@@ -340,7 +345,7 @@ function! s:send(document) abort
   call timer_stop(a:document.timer)
   let a:document.timer = -1
   let tick = getbufvar(a:document.buffer, 'changedtick')
-  if a:document.job is v:null || !a:document.is_open || tick == a:document.tick
+  if a:document.job is v:null || !a:document.is_open || a:document.is_renewed || tick == a:document.tick
     return
   endif
   let new = s:buffer_text(a:document.buffer)
@@ -566,21 +571,26 @@ endfunction
 
 " A text comes, or the whole of it again.
 function! s:take_text(document, spelled) abort
-  let a:document.text = s:read(a:spelled)
-  let [a:document.seen, a:document.unanswered] = [0, 0]
+  let text = s:read(a:spelled)
   call s:forget_rows(a:document)
   call setbufvar(a:document.buffer, '&modifiable', 1)
-  call s:put_lines(a:document.buffer, 1, getbufline(a:document.buffer, 1, '$'), s:lines(a:document.text))
-  let a:document.is_open = 1
+  if a:document.is_going_on
+    call s:show_renewed(a:document, text)
+  else
+    call s:put_lines(a:document.buffer, 1, getbufline(a:document.buffer, 1, '$'), s:lines(text))
+    call s:tell_left(a:document, '')
+  endif
+  call extend(a:document, {'text': text, 'has_text': 1, 'seen': 0, 'sent': [], 'is_open': 1})
   call setbufvar(a:document.buffer, '&modified', 0)
   let a:document.tick = getbufvar(a:document.buffer, 'changedtick')
 endfunction
 
 " A range was replaced, or not all of it.
 function! s:take_replaced(document, rest) abort
-  let a:document.unanswered -= 1
+  call remove(a:document.sent, 0)
   let reason = matchstr(a:rest, ' but \zs.*')
   if !empty(reason)
+    let a:document.refusals += 1
     let a:document.reason = {'kind': 'denied', 'words': reason}
     call s:tell('not written: ' . s:refusal(a:document, reason))
   endif
@@ -596,7 +606,7 @@ function! s:take_changed(document, rest) abort
   let is_undone = a:document.rows_undone > 0
   let a:document.rows_undone -= is_undone
   let a:document.reason = is_undone ? a:document.undoing : a:document.reason
-  if a:document.unanswered > 0
+  if !empty(a:document.sent)
     return
   endif
   if a:document.reason != a:document.rows_reason
@@ -649,7 +659,7 @@ endfunction
 
 function! s:take_linked(document, rest) abort
   let [site, person, role] = split(a:rest, ' ')
-  call extend(a:document, {'state': 'linked', 'person': str2nr(person), 'role': role})
+  call extend(a:document, {'state': 'linked', 'person': str2nr(person), 'role': role, 'tries': 0})
   redrawstatus!
 endfunction
 
@@ -681,6 +691,15 @@ function! s:take_here(document, rest) abort
   let a:document.here = split(a:rest, ' ')
 endfunction
 
+" A new document has the place of this one. The pieces that are left of what was written here come next.
+function! s:take_renewed(document, rest) abort
+  let a:document.is_renewed = 1
+endfunction
+
+function! s:take_left(document, rest) abort
+  call add(a:document.told, s:read(a:rest))
+endfunction
+
 function! s:take_told(document, rest) abort
   call s:tell('the host did not take an edit: ' . a:rest)
 endfunction
@@ -698,6 +717,8 @@ let s:takers = {
       \ 'person': function('s:take_person'),
       \ 'device': function('s:take_device'),
       \ 'here': function('s:take_here'),
+      \ 'renewed': function('s:take_renewed'),
+      \ 'left': function('s:take_left'),
       \ 'told': function('s:take_told') }
 
 function! s:take(document, line) abort
@@ -707,6 +728,235 @@ function! s:take(document, line) abort
     call s:take_entry(a:document.rules, rest)
   elseif has_key(s:takers, word)
     call s:takers[word](a:document, rest)
+  endif
+endfunction
+
+" ---- the document was renewed
+"
+" A new document has the place of the old one then. The follower tells which pieces of what was written here the host hasn't, and
+" ends. The files of the old document are put aside, and the device goes on in the new one. What is left of the old one stands in a
+" file beside the document's, a line for each place, until it is put in or let go.
+
+" A file and its folder in a message, of which a row may show the begin alone.
+function! s:short_name(file) abort
+  return fnamemodify(a:file, ':t') . ' of ' . fnamemodify(a:file, ':~:h')
+endfunction
+
+" What the file has that is left.
+function! s:read_left(file) abort
+  let lines = filereadable(a:file . '.left') ? readfile(a:file . '.left', 'b') : []
+  return map(filter(lines, '!empty(v:val)'), 's:read(v:val)')
+endfunction
+
+" Keeps what is left in the file, which is gone where nothing is.
+function! s:keep_left(document) abort
+  let file = a:document.file . '.left'
+  try
+    if empty(a:document.left)
+      call delete(file)
+    elseif writefile(map(copy(a:document.left), 's:spelled(v:val)') + [''], file . '.new', 'bs') || rename(file . '.new', file)
+      throw 'roastcliff: not written'
+    endif
+  catch
+    call s:tell('this editor alone has what is left, since it can''t be written: ' . s:short_name(file))
+  endtry
+endfunction
+
+" Pieces that were written one after another: those that stand side by side in a text are one.
+function! s:joined(text, pieces) abort
+  let [joined, at] = [[], 0]
+  for piece in a:pieces
+    let found = empty(joined) ? -1 : stridx(a:text, joined[-1] . piece, at)
+    if found < 0
+      call add(joined, piece)
+    else
+      let joined[-1] .= piece
+    endif
+    let at = max([found, 0])
+  endfor
+  return joined
+endfunction
+
+" What was written here that the follower hasn't taken: it didn't answer that, or wasn't told of it.
+function! s:take_untaken(document) abort
+  let text = s:buffer_text(a:document.buffer)
+  let puts = a:document.sent
+  if a:document.has_text && text !=# a:document.text
+    let puts += map(reverse(s:differences(a:document.text, text)), 's:clean(v:val.put)')
+  endif
+  let [a:document.sent, a:document.text] = [[], text]
+  return filter(puts, '!empty(v:val)')
+endfunction
+
+" Keeps what the follower told as left, and what it hasn't taken.
+function! s:leave_behind(document, told) abort
+  let pieces = a:told + s:take_untaken(a:document)
+  if !empty(pieces)
+    let a:document.left += s:joined(a:document.text, pieces)
+    call s:keep_left(a:document)
+  endif
+endfunction
+
+" Under which names the files of a document that was renewed are, from the oldest on. The last one is free.
+function! s:names_aside(file) abort
+  let names = [a:file . '.renewed']
+  while !empty(getftype(names[-1])) || !empty(getftype(names[-1] . '.device'))
+    call add(names, a:file . '.renewed' . (len(names) + 1))
+  endwhile
+  return names
+endfunction
+
+" Puts the files of the old document aside, the device behind the text: where that breaks off the follower tells of the renewal once
+" more. Gives whether it was done.
+function! s:put_aside(document) abort
+  let [file, name] = [a:document.file, s:names_aside(a:document.file)[-1]]
+  if rename(file, name)
+    return 0
+  elseif rename(file . '.device', name . '.device')
+    call rename(name, file)
+    return 0
+  endif
+  let a:document.aside = name
+  return 1
+endfunction
+
+" The device of a file as an address has it, SITE.SECRET, or '' where there is none.
+function! s:device_of(file) abort
+  let lines = filereadable(a:file . '.device') ? readfile(a:file . '.device') : []
+  return join(matchlist(get(lines, 0, ''), '\v^device (\d+) (\S+)$')[1:2], '.')
+endfunction
+
+" The address of a document by the device that had the one before it, where it has one.
+function! s:address_again(address, file) abort
+  return matchstr(a:address, '^[^#]*') . '#' . s:device_of(a:file)
+endfunction
+
+" Goes on in the new document. The buffer shows the text of the old one until the other comes.
+function! s:go_on(document) abort
+  call s:leave_behind(a:document, a:document.told)
+  call setbufvar(a:document.buffer, '&modifiable', 0)
+  let address = s:address_again(a:document.address, a:document.file)
+  if !s:put_aside(a:document)
+    return s:tell('the new document isn''t opened, since the old one can''t be put aside: ' . s:short_name(a:document.file))
+  endif
+  call timer_stop(a:document.timer)
+  call extend(a:document, s:untold())
+  call extend(a:document, {'address': address, 'is_going_on': 1, 'timer': -1, 'past': [], 'undone': [], 'is_typing': 0})
+  call s:fetch(a:document)
+endfunction
+
+" Whether a text has words where another has them, by what stands around them there. It has to have them once, or they may be others.
+function! s:is_there(text, other, words) abort
+  let at = stridx(a:other, a:words)
+  if at < 0 || stridx(a:other, a:words, at + 1) >= 0
+    return 0
+  endif
+  let start = max([0, at - s:near])
+  let near = strpart(a:other, start, at + len(a:words) + s:near - start)
+  return len(near) >= s:least && stridx(a:text, near) >= 0
+endfunction
+
+" Shows the text of the new document in place of the old one's. The cursors stay where they were, as near as it allows. The host may
+" have taken what it didn't say it had.
+function! s:show_renewed(document, text) abort
+  call s:leave_behind(a:document, [])
+  let old = a:document.text
+  for change in old ==# a:text ? [] : s:differences(old, a:text)
+    call s:change_buffer(a:document, change)
+  endfor
+  call filter(a:document.left, '!s:is_there(a:text, old, v:val)')
+  call s:keep_left(a:document)
+  call extend(a:document, {'is_going_on': 0, 'aside': ''})
+  call s:tell_left(a:document, 'the document was renewed')
+endfunction
+
+function! s:count_left(document) abort
+  let number = len(a:document.left)
+  return number . (number == 1 ? ' piece that you wrote is' : ' pieces that you wrote are') . ' left: see :RoastcliffLeft'
+endfunction
+
+" Tells how much is left, behind what happened.
+function! s:tell_left(document, happened) abort
+  let words = filter([a:happened, empty(a:document.left) ? '' : s:count_left(a:document)], '!empty(v:val)')
+  if !empty(words)
+    call s:tell(join(words, ', and '))
+  endif
+endfunction
+
+" Puts a text in at the cursor: in front of the letter at which it stands, or behind that where it is the last of its line. Gives
+" whether that was done.
+function! s:put_in(document, text) abort
+  call s:send(a:document)
+  let [a:document.is_typing, refusals] = [0, a:document.refusals]
+  let [first, line, at] = [line('.'), getline('.'), col('.') - 1]
+  let at = at + len(matchstr(line, '.', at)) < len(line) ? at : len(line)
+  let lines = s:lines(a:text)
+  let lines[0] = strpart(line, 0, at) . lines[0]
+  let end = len(lines[-1])
+  let lines[-1] .= strpart(line, at)
+  call s:put_lines(a:document.buffer, first, [line], lines)
+  call cursor(first + len(lines) - 1, end + 1)
+  call s:send(a:document)
+  call s:wait_while({-> a:document.is_open && !empty(a:document.sent)})
+  return a:document.is_open && empty(a:document.sent) && a:document.refusals == refusals
+endfunction
+
+" What is left that a word names: the number of a piece, or `all`.
+function! s:named_left(document, word) abort
+  if a:word ==# 'all'
+    return copy(a:document.left)
+  endif
+  let number = a:word =~# '\v^[1-9]\d*$' ? str2nr(a:word) : 0
+  return number > 0 && number <= len(a:document.left) ? [a:document.left[number - 1]] : []
+endfunction
+
+" Lets pieces go that were put in, or aren't wanted.
+function! s:let_go(document, pieces) abort
+  for piece in a:pieces
+    let place = index(a:document.left, piece)
+    if place >= 0
+      call remove(a:document.left, place)
+    endif
+  endfor
+  call s:keep_left(a:document)
+endfunction
+
+" Texts in one: each begins a line, but the first.
+function! s:in_lines(texts) abort
+  return join(map(a:texts[:-2], 'v:val =~# ''\n$'' ? v:val : v:val . "\n"') + a:texts[-1:], '')
+endfunction
+
+function! s:show_left(document) abort
+  let lines = map(copy(a:document.left), '(v:key + 1) . ". " . s:separated(v:val, "\n", "⏎")')
+  let how = ['`:RoastcliffLeft NUMBER` puts one in at the cursor, `:RoastcliffLeft all` all of it; with `!` they are let go.']
+  let lines = empty(lines) ? ['Nothing is left that you wrote while a document was renewed.'] : ['You wrote this while the document was renewed:'] + lines + how
+  let aside = get(s:names_aside(a:document.file), -2, '')
+  call s:show('left', lines + (empty(aside) ? [] : ['The old document is ' . fnamemodify(aside, ':~') . '.']))
+endfunction
+
+" Goes from the list of what is left back to where it was asked for.
+function! s:close_left() abort
+  if bufname() ==# '[Roastcliff left]'
+    let window = win_getid(winnr('#'))
+    close
+    call win_gotoid(window)
+  endif
+endfunction
+
+function! s:left(word, is_let_go) abort
+  call s:close_left()
+  let document = s:here()
+  if empty(a:word) && !a:is_let_go
+    return s:show_left(document)
+  endif
+  let pieces = s:named_left(document, a:word)
+  if empty(pieces)
+    return s:tell(empty(document.left) ? 'nothing is left' : 'which? a number of the list, or all')
+  elseif !a:is_let_go && !document.is_open
+    return s:tell('the document isn''t open')
+  elseif a:is_let_go || s:put_in(document, s:in_lines(pieces))
+    call s:let_go(document, pieces)
+    call s:tell_left(document, len(pieces) . (len(pieces) == 1 ? ' piece is ' : ' pieces are ') . (a:is_let_go ? 'let go' : 'put in'))
   endif
 endfunction
 
@@ -955,7 +1205,8 @@ endfunction
 " How it stands with the document of a buffer, for a status line.
 function! RoastcliffStatus() abort
   let document = get(s:documents, bufnr(), {})
-  return empty(document) ? '' : document.state . (document.unanswered > 0 || &modified ? ', not kept yet' : '')
+  let left = empty(get(document, 'left', [])) ? '' : ', ' . len(document.left) . ' left'
+  return empty(document) ? '' : document.state . (!empty(document.sent) || &modified ? ', not kept yet' : '') . left
 endfunction
 
 " ---- the follower
@@ -976,7 +1227,13 @@ function! s:start(document, has_input, Ended) abort
         \ 'noblock': 1,
         \ 'out_cb': {channel, line -> s:take_line(document, line, ch_canread(channel))},
         \ 'err_cb': {_, line -> s:take_error(document, line)},
-        \ 'exit_cb': {_, status -> timer_start(50, {-> a:Ended(document, status)})} })
+        \ 'exit_cb': {job, status -> s:when_read(job, 60, {-> a:Ended(document, status)})} })
+endfunction
+
+" Calls a function once all that a follower said was taken in Vim, or after so many looks.
+function! s:when_read(job, looks, Then) abort
+  let is_open = a:looks > 0 && ch_status(a:job, {'part': 'out'}) !~# 'closed\|fail'
+  call timer_start(50, is_open ? {-> s:when_read(a:job, a:looks - 1, a:Then)} : {-> a:Then()})
 endfunction
 
 " Takes a line that came to Vim, with more behind it or not.
@@ -1004,6 +1261,16 @@ function! s:take_error(document, words) abort
   endif
 endfunction
 
+" Starts a follower that ends once all that the host has is in the file.
+function! s:fetch(document) abort
+  try
+    let a:document.job = s:start(a:document, 0, function('s:fetched'))
+  catch
+    let a:document.error = v:exception
+    call s:ended(a:document, -1)
+  endtry
+endfunction
+
 " All that the host had is in the file, or it can't be had.
 function! s:fetched(document, status) abort
   if a:status == 0
@@ -1017,6 +1284,7 @@ function! s:follow(document) abort
   if a:document.is_left
     return
   endif
+  let a:document.address = matchstr(a:document.address, '^[^#]*')
   let a:document.job = s:start(a:document, 1, function('s:ended'))
   call s:say(a:document, 'text')
   call s:say(a:document, 'rules')
@@ -1027,6 +1295,9 @@ function! s:ended(document, status) abort
   let [was_open, a:document.job, a:document.state, a:document.is_open] = [a:document.is_open, v:null, 'ended', 0]
   if a:document.is_left || !bufexists(a:document.buffer)
     return
+  elseif a:document.is_renewed && a:document.tries < s:most_tries
+    let a:document.tries += 1
+    return s:go_on(a:document)
   elseif a:status == s:is_locked && !was_open && a:document.tries < s:most_tries
     let a:document.tries += 1
     call timer_start(500, {-> s:follow(a:document)})
@@ -1034,7 +1305,8 @@ function! s:ended(document, status) abort
   endif
   call setbufvar(a:document.buffer, '&modifiable', 0)
   let words = a:status == s:is_locked ? 'the disk failed, or another program has this document open here' : 'the follower ended with status ' . a:status
-  call s:tell(join(filter([words, a:document.closed, a:document.error], '!empty(v:val)'), ': '))
+  let old = empty(a:document.aside) ? '' : 'the old document is ' . s:short_name(a:document.aside)
+  call s:tell(join(filter([old, words, a:document.closed, a:document.error], '!empty(v:val)'), ': '))
 endfunction
 
 " Waits while something is so, but for 3 seconds at most.
@@ -1071,10 +1343,13 @@ function! s:leave(buffer) abort
     return
   endif
   call s:send(document)
+  if document.is_renewed || document.is_going_on
+    call s:leave_behind(document, [])
+  endif
   unlet s:documents[a:buffer]
   let [was_open, document.is_open, document.is_left] = [document.is_open, 0, 1]
   if was_open
-    call s:wait_while({-> document.unanswered > 0})
+    call s:wait_while({-> !empty(document.sent)})
     call s:end_input(document.job)
     call s:wait_while({-> document.state ==# 'linked'})
   endif
@@ -1085,19 +1360,28 @@ endfunction
 
 " ---- commands
 
-function! s:document(buffer, address, file) abort
+" What is known of a document before its follower says something.
+function! s:untold() abort
   return {
-        \ 'buffer': a:buffer, 'address': a:address, 'file': a:file, 'job': v:null,
-        \ 'is_open': 0, 'is_left': 0, 'tries': 0, 'state': 'opening', 'closed': '', 'error': '',
-        \ 'text': '', 'tick': 0, 'seen': 0, 'unanswered': 0, 'timer': -1,
-        \ 'past': [], 'undone': [], 'is_typing': 0,
-        \ 'rows': [], 'rows_reason': {},
-        \ 'reason': {}, 'undoing': {}, 'rows_undone': 0, 'marks': [],
+        \ 'state': 'opening', 'closed': '', 'error': '', 'is_renewed': 0, 'told': [],
+        \ 'seen': 0, 'sent': [], 'rows': [], 'rows_reason': {},
+        \ 'reason': {}, 'undoing': {}, 'rows_undone': 0,
         \ 'person': 0, 'role': '', 'people': {}, 'devices': {}, 'here': [], 'rules': s:no_rules() }
 endfunction
 
+" What was sent and isn't answered yet is in `sent`. While the text of a new document is awaited it `is_going_on`, and the files of
+" the old one are `aside`.
+function! s:document(buffer, address, file) abort
+  return extend(s:untold(), {
+        \ 'buffer': a:buffer, 'address': a:address, 'file': a:file, 'job': v:null,
+        \ 'is_open': 0, 'is_left': 0, 'is_going_on': 0, 'aside': '', 'tries': 0,
+        \ 'text': '', 'has_text': 0, 'tick': 0, 'timer': -1,
+        \ 'past': [], 'undone': [], 'is_typing': 0, 'refusals': 0, 'marks': [],
+        \ 'left': s:read_left(a:file) })
+endfunction
+
 function! s:set_options() abort
-  setlocal buftype=acwrite bufhidden=hide noswapfile undolevels=-1 fileformat=unix nofixendofline noendofline nomodifiable
+  setlocal modifiable buftype=acwrite bufhidden=hide noswapfile undolevels=-1 fileformat=unix nofixendofline noendofline nomodifiable
   setlocal statusline=%f\ [%{RoastcliffStatus()}]%=%l,%c%V\ %P
   nnoremap <buffer> <silent> u :<C-U>call <SID>undo_times(v:count1, 0)<CR>
   nnoremap <buffer> <silent> <C-R> :<C-U>call <SID>undo_times(v:count1, 1)<CR>
@@ -1163,15 +1447,20 @@ function! s:read_buffer(buffer, name) abort
   let s:documents[a:buffer] = document
   call s:set_options()
   if filereadable(file . '.device')
-    call s:follow(document)
-  else
-    let document.job = s:start(document, 0, function('s:fetched'))
+    return s:follow(document)
   endif
+  " The last end came before the new document's device was there.
+  let aside = get(s:names_aside(file), -2, '')
+  if document.address !~# '#.' && !empty(aside)
+    let document.address = s:address_again(document.address, aside)
+  endif
+  call s:fetch(document)
 endfunction
 
 command! -nargs=1 -bar Roastcliff call s:open(<q-args>)
 command! -bar RoastcliffWho call s:who()
 command! -bar -bang RoastcliffWhy call s:reasons(<bang>0)
+command! -nargs=? -bar -bang RoastcliffLeft call s:left(<q-args>, <bang>0)
 command! -bar RoastcliffUndo call s:undo_times(1, 0)
 command! -bar RoastcliffRedo call s:undo_times(1, 1)
 
