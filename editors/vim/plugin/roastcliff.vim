@@ -1327,6 +1327,11 @@ function! s:end_input(job) abort
   endif
 endfunction
 
+" Whether a follower may run. Vim tells nobody of its end while it ends itself.
+function! s:runs(job) abort
+  return has('nvim') || job_status(a:job) ==# 'run'
+endfunction
+
 function! s:stop(job) abort
   if has('nvim')
     call jobstop(a:job)
@@ -1351,7 +1356,7 @@ function! s:leave(buffer) abort
   if was_open
     call s:wait_while({-> !empty(document.sent)})
     call s:end_input(document.job)
-    call s:wait_while({-> document.state ==# 'linked'})
+    call s:wait_while({-> document.state ==# 'linked' && s:runs(document.job)})
   endif
   if document.job isnot v:null
     call s:stop(document.job)
