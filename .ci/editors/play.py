@@ -331,6 +331,11 @@ def left_of(editor):
     return "\n".join(lines)
 
 
+def pieces_left(editor):
+    """The pieces that are left."""
+    return [line.partition(". ")[2] for line in left_of(editor).split("\n") if line[:1].isdigit()]
+
+
 def put_left(editor, which):
     """Puts in at the cursor what is left."""
     if isinstance(editor, Emacs):
@@ -363,38 +368,56 @@ def play_renewed(stage):
     wait_for("Ann writes on", stage.editor.is_linked)
     same("where the cursor is", stage.editor.place(), [3, 2])
     same("what is kept of the old one", stage.asides, 1)
-    pieces = ["1.  and a half", "2. Ann's é漢𝄞, \\n apart"]
-    same("what is left", left_of(stage.editor).split("\n")[:3], ["You wrote this while the document was renewed:", *pieces])
+    same("what is told", "eft has 2 pieces" in stage.editor.screen(), True)
+    same("how it is listed", left_of(stage.editor).startswith("You wrote this while the document was renewed:\n1.  and a half\n2. Ann's"), True)
     same("its number in words", "2 left" in stage.editor.state(), True)
     stage.editor.undo()
     stage.editor.start_again()
     wait_for("a link", stage.editor.is_linked)
-    same("what is left behind the editor's end", left_of(stage.editor).split("\n")[1:3], pieces)
+    same("what is left behind the editor's end", pieces_left(stage.editor), [" and a half", "Ann's é漢𝄞, \\n apart"])
     drop_left(stage.editor, 1)
-    stage.editor.go(2, 1)
-    put_left(stage.editor, "all")
-    stage.meet("zero\nAnn's é漢𝄞, \\n apartone\ntwo\nthree\n")
-    same("what is left now", left_of(stage.editor).startswith("Nothing is left"), True)
-    stage.editor.undo()
-    stage.meet("zero\none\ntwo\nthree\n")
+    play_left(stage, "Ann's é漢𝄞, \\n apart")
     play_renewed_at_once(stage)
     play_not_opened(stage)
 
 
+def play_left(stage, piece):
+    """What the rules deny stays in the list. What is put in is an edit that can be undone."""
+    text = stage.ben.text
+    stage.team.order(f"admin addauth 0 - @{stage.ann} idu 0")
+    wait_for("the rule", lambda: "Ann may not" in stage.editor.who())
+    put_left(stage.editor, 1)
+    stage.meet(text)
+    same("what is left where it is denied", pieces_left(stage.editor), [piece])
+    stage.team.order("admin delauth 0")
+    wait_for("the right", lambda: "Ann may not" not in stage.editor.who())
+    stage.editor.go(2, 1)
+    put_left(stage.editor, "all")
+    stage.meet(text.replace("one", piece + "one"))
+    same("what is left now", left_of(stage.editor).startswith("Nothing is left"), True)
+    stage.editor.undo()
+    stage.meet(text)
+
+
 def play_renewed_at_once(stage):
-    """The document is renewed while Ann writes: each word that she wrote is in the new one, or listed."""
+    """The document is renewed while Ann types: each word that she wrote is in the new one, or listed."""
     stage.begin_with("before\n")
-    stage.editor.write_at_end("at once")
-    stage.renew()
-    wait_for("the new document", lambda: stage.asides == 2 and stage.editor.is_linked())
+    words = [f"w{number}" for number in range(30)]
+    stage.editor.begin_to_type_at_end()
+    for word in words:
+        stage.editor.terminal.type(word + " ")
+        if word == "w9":
+            stage.renew()
+    stage.editor.end_to_type()
+    all_words = lambda: (stage.editor.text + "".join(pieces_left(stage.editor))).split()
+    wait_for("the new document", lambda: stage.asides == 2 and stage.editor.is_linked() and words[-1] in all_words())
     text = stage.meet()
-    if text != "before\nat once":
-        left = "".join(line.partition(". ")[2] for line in left_of(stage.editor).split("\n") if line[:1].isdigit())
-        same("what came, with what is left", text + left, "before\nat once")
+    same("what came, with what is left", sorted(all_words()), sorted(["before", *words]))
+    if pieces_left(stage.editor):
         drop_left(stage.editor, "all")
     same("what is left", "left" in stage.editor.state(), False)
-    stage.editor.write_at_end(", and on")
-    stage.meet(text + ", and on")
+    stage.editor.write_at_end("and on")
+    stage.meet(text + "and on")
 
 
 def play_not_opened(stage):

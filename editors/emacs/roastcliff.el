@@ -50,6 +50,9 @@
 (defconst roastcliff--most-tries 10
   "How often a follower is started again whose file another one has open.")
 
+(defconst roastcliff--patience 3
+  "For how many seconds the text of a new document may be awaited with open buffer.")
+
 (defconst roastcliff--near 20
   "How many letters on each side tell whether words stand in a text.")
 
@@ -792,11 +795,14 @@ It didn't answer that, or wasn't told of it."
       (setf (roastcliff--document-sent document) nil))))
 
 (defun roastcliff--leave-behind (document told)
-  "Keep what was TOLD as left of DOCUMENT, and what its follower hasn't taken."
-  (when-let ((pieces (append told (roastcliff--take-untaken document))))
-    (setf (roastcliff--document-left document)
-          (append (roastcliff--document-left document) (roastcliff--join (roastcliff--text) pieces)))
-    (roastcliff--keep-left document)))
+  "Keep what was TOLD as left of DOCUMENT, and what its follower hasn't taken.
+The first has to be in the text."
+  (let* ((text (roastcliff--text)) (shown (cl-remove-if-not (lambda (it) (string-search it text)) told)))
+    (when-let ((pieces (append shown (roastcliff--take-untaken document))))
+      (let ((left (roastcliff--document-left document)))
+        (setf (roastcliff--document-left document)
+              (append (butlast left) (roastcliff--join text (append (last left) pieces)))))
+      (roastcliff--keep-left document))))
 
 (defun roastcliff--names-aside (file)
   "Under which names documents are that had FILE and were renewed.
@@ -833,15 +839,16 @@ Where it breaks off the follower tells of the renewal once more."
 
 (defun roastcliff--go-on (document)
   "Go on in the document that has the place of DOCUMENT.
-This buffer shows the text of the old one until that of the other comes."
+This buffer shows the text of the old one until that of the other comes.  Who
+types on types into the list of what is left."
   (roastcliff--leave-behind document (reverse (roastcliff--document-told document)))
-  (setq buffer-read-only t)
   (let ((file (roastcliff--document-file document)))
     (condition-case wrong
         (let* ((address (roastcliff--address-again (roastcliff--document-address document) file))
                (aside (roastcliff--put-aside file)))
           (roastcliff--open-again document address aside))
       (file-error
+       (setq buffer-read-only t)
        (message "roastcliff: %s can't be put aside, so the new document isn't opened: %s"
                 (abbreviate-file-name file) (error-message-string wrong))))))
 
@@ -854,7 +861,14 @@ The files of that are ASIDE."
          :shadow (roastcliff--document-shadow document) :marks (roastcliff--document-marks document)
          :tries (roastcliff--document-tries document) :left (roastcliff--document-left document)
          :is-going-on t :aside aside))
+  (run-with-timer roastcliff--patience nil #'roastcliff--await roastcliff--document)
   (roastcliff--fetch roastcliff--document))
+
+(defun roastcliff--await (document)
+  "Let nobody write in the buffer of DOCUMENT, if its text still didn't come."
+  (when (and (roastcliff--document-is-going-on document) (buffer-live-p (roastcliff--document-buffer document)))
+    (with-current-buffer (roastcliff--document-buffer document)
+      (setq buffer-read-only t))))
 
 (defun roastcliff--is-there (text other words)
   "Whether TEXT has WORDS where OTHER has them, by what stands around them there.
@@ -887,11 +901,10 @@ what it didn't say it had."
   "Tell how much is left of DOCUMENT, behind what HAPPENED."
   (let* ((count (length (roastcliff--document-left document)))
          (left (and (> count 0)
-                    (format "%d %s left: see M-x roastcliff-left" count
-                            (if (= count 1) "piece that you wrote is" "pieces that you wrote are"))))
+                    (format "M-x roastcliff-left has %d %s that you wrote" count (if (= count 1) "piece" "pieces"))))
          (words (delq nil (list happened left))))
     (when words
-      (message "roastcliff: %s" (string-join words ", and ")))))
+      (message "roastcliff: %s" (string-join words "; ")))))
 
 (defun roastcliff-left ()
   "Show what you wrote and the host didn't have when the document was renewed.
@@ -1041,12 +1054,12 @@ The first rule says it that is for him."
 
 (defun roastcliff--lighter ()
   "How it stands with the document of this buffer."
-  (if roastcliff--document
-      (format " Roastcliff:%s%s%s" (roastcliff--document-state roastcliff--document)
-              (if (buffer-modified-p) ", not kept yet" "")
-              (if (roastcliff--document-left roastcliff--document)
-                  (format ", %d left" (length (roastcliff--document-left roastcliff--document)))
-                ""))
+  (if-let ((document roastcliff--document))
+      (let ((state (roastcliff--document-state document)) (left (length (roastcliff--document-left document))))
+        (format " Roastcliff:%s%s%s"
+                (if (and (eq state 'linked) (roastcliff--document-is-going-on document)) 'opening state)
+                (if (buffer-modified-p) ", not kept yet" "")
+                (if (> left 0) (format ", %d left" left) "")))
     ""))
 
 ;;;; The follower

@@ -788,11 +788,12 @@ function! s:take_untaken(document) abort
   return filter(puts, '!empty(v:val)')
 endfunction
 
-" Keeps what the follower told as left, and what it hasn't taken.
+" Keeps what the follower told as left, where the text has it, and what it hasn't taken.
 function! s:leave_behind(document, told) abort
-  let pieces = a:told + s:take_untaken(a:document)
+  let untaken = s:take_untaken(a:document)
+  let pieces = filter(copy(a:told), 'stridx(a:document.text, v:val) >= 0') + untaken
   if !empty(pieces)
-    let a:document.left += s:joined(a:document.text, pieces)
+    let a:document.left = a:document.left[:-2] + s:joined(a:document.text, a:document.left[-1:] + pieces)
     call s:keep_left(a:document)
   endif
 endfunction
@@ -870,16 +871,13 @@ function! s:show_renewed(document, text) abort
   call s:tell_left(a:document, 'the document was renewed')
 endfunction
 
-function! s:count_left(document) abort
-  let number = len(a:document.left)
-  return number . (number == 1 ? ' piece that you wrote is' : ' pieces that you wrote are') . ' left: see :RoastcliffLeft'
-endfunction
-
 " Tells how much is left, behind what happened.
 function! s:tell_left(document, happened) abort
-  let words = filter([a:happened, empty(a:document.left) ? '' : s:count_left(a:document)], '!empty(v:val)')
+  let number = len(a:document.left)
+  let left = number == 0 ? '' : ':RoastcliffLeft has ' . number . (number == 1 ? ' piece' : ' pieces') . ' that you wrote'
+  let words = filter([a:happened, left], '!empty(v:val)')
   if !empty(words)
-    call s:tell(join(words, ', and '))
+    call s:tell(join(words, '; '))
   endif
 endfunction
 
@@ -1204,9 +1202,13 @@ endfunction
 
 " How it stands with the document of a buffer, for a status line.
 function! RoastcliffStatus() abort
-  let document = get(s:documents, bufnr(), {})
-  let left = empty(get(document, 'left', [])) ? '' : ', ' . len(document.left) . ' left'
-  return empty(document) ? '' : document.state . (!empty(document.sent) || &modified ? ', not kept yet' : '') . left
+  if !has_key(s:documents, bufnr())
+    return ''
+  endif
+  let document = s:documents[bufnr()]
+  let state = document.is_going_on && document.state ==# 'linked' ? 'opening' : document.state
+  let kept = !empty(document.sent) || &modified ? ', not kept yet' : ''
+  return state . kept . (empty(document.left) ? '' : ', ' . len(document.left) . ' left')
 endfunction
 
 " ---- the follower
