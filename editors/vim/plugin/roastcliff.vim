@@ -241,7 +241,8 @@ function! s:lines_of(text, change) abort
         \ 'tail': len(tail) }
 endfunction
 
-" Where a cursor stands after a change, as a line and a column from 0. One that is left of it stays.
+" Where a cursor stands after a change, as a line and a column from 0. One that is left of it stays, and so does one in its midst
+" where as many lines come as go.
 function! s:carried_cursor(line, column, lines, stays_at) abort
   let last = a:lines.first + len(a:lines.old) - 1
   let end = len(a:lines.old[-1]) - a:lines.tail
@@ -251,6 +252,8 @@ function! s:carried_cursor(line, column, lines, stays_at) abort
     return [a:line + len(a:lines.new) - len(a:lines.old), a:column]
   elseif a:line == last && a:column >= end
     return [a:lines.first + len(a:lines.new) - 1, a:column - end + len(a:lines.new[-1]) - a:lines.tail]
+  elseif a:line > a:lines.first && len(a:lines.new) == len(a:lines.old)
+    return [a:line, min([a:column, len(a:lines.new[a:line - a:lines.first])])]
   endif
   return [a:lines.first, a:lines.begins]
 endfunction
