@@ -372,11 +372,13 @@ def play_renewed(stage):
     same("how it is listed", left_of(stage.editor).startswith("You wrote this while the document was renewed:\n1.  and a half\n2. Ann's"), True)
     same("its number in words", "2 left" in stage.editor.state(), True)
     stage.editor.undo()
+    wait_for("an end of undo", lambda: any(it in stage.editor.screen() for it in ("nothing of yours is left", "No further undo information")))
     stage.editor.start_again()
     wait_for("a link", stage.editor.is_linked)
     same("what is left behind the editor's end", pieces_left(stage.editor), [" and a half", "Ann's é漢𝄞, \\n apart"])
     drop_left(stage.editor, 1)
     play_left(stage, "Ann's é漢𝄞, \\n apart")
+    play_left_within(stage)
     play_renewed_at_once(stage)
     play_not_opened(stage)
 
@@ -399,6 +401,21 @@ def play_left(stage, piece):
     stage.meet(text)
 
 
+def play_left_within(stage):
+    """Words that Ann writes into a piece are told with the whole of it, and listed alone. What she deletes isn't listed."""
+    stage.begin_with("above\nIn a line of one piece, é漢𝄞\nbelow\n")
+    stage.apart()
+    stage.editor.change(10, 10, " long")
+    stage.editor.change(0, 2, "")
+    wait_for("what she wrote is kept", stage.editor.is_kept)
+    stage.renew()
+    stage.linked()
+    wait_for("the new document", lambda: stage.asides == 2 and stage.editor.is_linked())
+    stage.meet("above\nIn a line of one piece, é漢𝄞\nbelow\n")
+    same("what is left of a line", pieces_left(stage.editor), [" long"])
+    drop_left(stage.editor, "all")
+
+
 def play_renewed_at_once(stage):
     """The document is renewed while Ann types: each word that she wrote is in the new one, or listed."""
     stage.begin_with("before\n")
@@ -410,7 +427,7 @@ def play_renewed_at_once(stage):
             stage.renew()
     stage.editor.end_to_type()
     all_words = lambda: (stage.editor.text + "".join(pieces_left(stage.editor))).split()
-    wait_for("the new document", lambda: stage.asides == 2 and stage.editor.is_linked() and words[-1] in all_words())
+    wait_for("the new document", lambda: stage.asides == 3 and stage.editor.is_linked() and words[-1] in all_words())
     text = stage.meet()
     same("what came, with what is left", sorted(all_words()), sorted(["before", *words]))
     if pieces_left(stage.editor):
@@ -429,7 +446,7 @@ def play_not_opened(stage):
     choose("false")
     stage.renew()
     wait_for("the end", lambda: "ended" in stage.editor.state())
-    wait_for("what is told", lambda: "the old document is" in stage.editor.screen() and ".renewed3" in stage.editor.screen())
+    wait_for("what is told", lambda: "the old document is" in stage.editor.screen() and ".renewed4" in stage.editor.screen())
     same("the old text", (stage.editor.text, stage.editor.is_open()), ("kept\n", False))
     choose(program)
     stage.editor.open(stage.editor.address.partition("#")[0])

@@ -53,11 +53,8 @@
 (defconst roastcliff--patience 3
   "For how many seconds the text of a new document may be awaited with open buffer.")
 
-(defconst roastcliff--near 20
-  "How many letters on each side tell whether words stand in a text.")
-
-(defconst roastcliff--least 5
-  "How many letters are enough for that, with those of the words.")
+(defconst roastcliff--nears '(20 10 5)
+  "How many letters on each side tell where words belong, the first that do.")
 
 (defconst roastcliff--no-letter "[^\0-\uD7FF\uE000-\U0010FFFF]"
   "What Emacs has as a letter and UTF-8 hasn't.")
@@ -870,14 +867,35 @@ The files of that are ASIDE."
     (with-current-buffer (roastcliff--document-buffer document)
       (setq buffer-read-only t))))
 
-(defun roastcliff--is-there (text other words)
-  "Whether TEXT has WORDS where OTHER has them, by what stands around them there.
-It has to have them once, or they may be others."
-  (let* ((at (string-search words other))
-         (near (and at (not (string-search words other (1+ at)))
-                    (substring other (max 0 (- at roastcliff--near))
-                               (min (length other) (+ at (length words) roastcliff--near))))))
-    (and near (>= (length near) roastcliff--least) (string-search near text))))
+(defun roastcliff--place-once (text words from)
+  "Where WORDS stand in TEXT from FROM on, nil where more than once or not at all."
+  (let ((at (string-search words text from)))
+    (and at (not (string-search words text (1+ at))) at)))
+
+(defun roastcliff--in-place (new old words near)
+  "What stands in NEW where WORDS stand in OLD, by NEAR letters on each side.
+Nil where it can't be said."
+  (when-let* ((at (roastcliff--place-once old words 0))
+              (front (substring old (max 0 (- at near)) at))
+              (start (if (string-empty-p front) 0 (roastcliff--place-once new front 0)))
+              (from (+ start (length front)))
+              (behind (+ at (length words)))
+              (back (substring old behind (min (length old) (+ behind near))))
+              (end (if (string-empty-p back) (length new) (roastcliff--place-once new back from))))
+    (substring new from end)))
+
+(defun roastcliff--lacking (new old words)
+  "What of WORDS, which stand in OLD, NEW lacks in their place.
+Words that were written into a piece are told with the whole of it.  All of them
+are lacking where it can't be said."
+  (if-let ((there (cl-some (lambda (near) (roastcliff--in-place new old words near)) roastcliff--nears)))
+      (let* ((end (roastcliff--alike (reverse there) (reverse words)))
+             (rest (substring there 0 (- (length there) end)))
+             (put (substring words 0 (- (length words) end)))
+             (front (roastcliff--alike rest put))
+             (put (substring put front)))
+        (if (or (string-empty-p put) (string-search (substring rest front) put)) put words))
+    words))
 
 (defun roastcliff--show-renewed (document text)
   "Show TEXT, that of DOCUMENT, in place of that of the one whose place it has.
@@ -893,7 +911,7 @@ what it didn't say it had."
     (setf (roastcliff--document-is-going-on document) nil
           (roastcliff--document-aside document) nil
           (roastcliff--document-left document)
-          (cl-remove-if (lambda (it) (roastcliff--is-there text old it)) (roastcliff--document-left document)))
+          (remove "" (mapcar (lambda (it) (roastcliff--lacking text old it)) (roastcliff--document-left document))))
     (roastcliff--keep-left document)
     (roastcliff--tell-left document "the document was renewed")))
 

@@ -33,9 +33,8 @@ let s:most_lines_ahead = 40
 let s:is_locked = 10
 let s:most_tries = 10
 
-" How many bytes on each side tell whether words stand in a text, and how many are enough with the words.
-let s:near = 20
-let s:least = 5
+" How many bytes on each side tell where words belong in another text, the first that do.
+let s:nears = [20, 10, 5]
 
 let s:has_virtual_text = has('nvim') || (has('textprop') && has('patch-9.0.0067'))
 
@@ -849,15 +848,40 @@ function! s:go_on(document) abort
   call s:fetch(a:document)
 endfunction
 
-" Whether a text has words where another has them, by what stands around them there. It has to have them once, or they may be others.
-function! s:is_there(text, other, words) abort
-  let at = stridx(a:other, a:words)
-  if at < 0 || stridx(a:other, a:words, at + 1) >= 0
-    return 0
-  endif
-  let start = max([0, at - s:near])
-  let near = strpart(a:other, start, at + len(a:words) + s:near - start)
-  return len(near) >= s:least && stridx(a:text, near) >= 0
+" Where words stand in a text from a place on, or -1 where they don't, or more than once.
+function! s:place_once(text, words, from) abort
+  let at = stridx(a:text, a:words, a:from)
+  return at >= 0 && stridx(a:text, a:words, at + 1) < 0 ? at : -1
+endfunction
+
+" What stands in a new text in the place of words of an old one, by so many bytes on each side, as a list of one: [] where it can't be
+" said.
+function! s:in_place(new, old, words, near) abort
+  let at = s:place_once(a:old, a:words, 0)
+  let front = strpart(a:old, max([0, at - a:near]), min([at, a:near]))
+  let start = at > 0 ? s:place_once(a:new, front, 0) : at
+  let back = strpart(a:old, at + len(a:words), a:near)
+  let end = start < 0 || empty(back) ? len(a:new) : s:place_once(a:new, back, start + len(front))
+  let start += start < 0 ? 0 : len(front)
+  return start < 0 || end < start ? [] : [strpart(a:new, start, end - start)]
+endfunction
+
+" What of words of an old text a new one lacks in their place. Words that were written into a piece are told with the whole of it. All
+" of them are lacking where it can't be said.
+function! s:lacking(new, old, words) abort
+  let [words, size, found] = [a:words, len(a:words), []]
+  for near in s:nears
+    let found += s:in_place(a:new, a:old, words, near)
+  endfor
+  for there in found[:0]
+    let end = s:alike_at_end(there, words, min([len(there), size]))
+    while s:is_inside(words, size - end) || s:is_inside(there, len(there) - end)
+      let end -= 1
+    endwhile
+    let change = s:difference(strpart(there, 0, len(there) - end), strpart(words, 0, size - end))
+    return empty(change.put) || stridx(change.put, change.gone) >= 0 ? change.put : words
+  endfor
+  return words
 endfunction
 
 " Shows the text of the new document in place of the old one's. The cursors stay where they were, as near as it allows. The host may
@@ -868,7 +892,7 @@ function! s:show_renewed(document, text) abort
   for change in old ==# a:text ? [] : s:differences(old, a:text)
     call s:change_buffer(a:document, change)
   endfor
-  call filter(a:document.left, '!s:is_there(a:text, old, v:val)')
+  let a:document.left = filter(map(a:document.left, 's:lacking(a:text, old, v:val)'), '!empty(v:val)')
   call s:keep_left(a:document)
   call extend(a:document, {'is_going_on': 0, 'aside': ''})
   call s:tell_left(a:document, 'the document was renewed')
