@@ -440,15 +440,18 @@ def play_renewed_at_once(stage):
 def play_not_opened(stage):
     """A new document that can't be opened leaves the old one's text in the editor, and says where it is. It is opened later by its device."""
     stage.begin_with("kept\n")
-    is_emacs = isinstance(stage.editor, Emacs)
-    program = stage.editor.tell("(car roastcliff-program)" if is_emacs else "g:roastcliff_program[0]")
-    choose = lambda it: stage.editor.tell(f'(progn (setq roastcliff-program (list "{it}")) t)') if is_emacs else stage.editor.do(f"let g:roastcliff_program = ['{it}']")
-    choose("false")
+    do = stage.editor.tell if isinstance(stage.editor, Emacs) else stage.editor.do
+    takes_away, gives_back = (
+        ("(setq play-program roastcliff-program roastcliff-program '(\"false\"))", "(setq roastcliff-program play-program)")
+        if isinstance(stage.editor, Emacs)
+        else ("let [g:play_program, g:roastcliff_program] = [g:roastcliff_program, ['false']]", "let g:roastcliff_program = g:play_program")
+    )
+    do(takes_away)
     stage.renew()
     wait_for("the end", lambda: "ended" in stage.editor.state())
     wait_for("what is told", lambda: "the old document is" in stage.editor.screen() and ".renewed4" in stage.editor.screen())
     same("the old text", (stage.editor.text, stage.editor.is_open()), ("kept\n", False))
-    choose(program)
+    do(gives_back)
     stage.editor.open(stage.editor.address.partition("#")[0])
     wait_for("the new document", stage.editor.is_linked)
     stage.editor.write_at_end("on")
