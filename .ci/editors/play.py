@@ -12,6 +12,7 @@ import shutil
 import sys
 import tempfile
 import time
+from contextlib import suppress
 
 sys.dont_write_bytecode = True
 from editor import SECONDS, Emacs, Neovim, Vim, Wrong, wait_for
@@ -43,6 +44,23 @@ def same(what, got, wanted):
     tried += 1
     if got != wanted:
         raise Wrong(f"{what}: {short(got)} instead of {short(wanted)}")
+
+
+def is_named(folder):
+    """Whether a program runs that was given a file of a folder."""
+    for path in glob.glob("/proc/[0-9]*/cmdline"):
+        with suppress(OSError), open(path, "rb") as words:
+            if folder.encode() in words.read():
+                return True
+    return False
+
+
+def end_editor(editor):
+    """Ends an editor. Its follower ends once all is at the host, so that has to be there until then."""
+    editor.end()
+    if not isinstance(editor, Page):
+        with suppress(Wrong):
+            wait_for("the end", lambda: not is_named(os.path.join(editor.folder, editor.name, "roastcliff", "")), 5)
 
 
 class Stage:
@@ -121,9 +139,9 @@ class Stage:
         self.way.is_down = False
 
     def end(self):
-        for it in (self.editor, self.team):
-            if it:
-                it.end()
+        if self.editor:
+            end_editor(self.editor)
+        self.team.end()
         if self.ben:
             self.ben.kill()
 
@@ -531,7 +549,7 @@ def play_together(kinds, host, follow, edits, folder):
         print(f"editors: {edits} random edits (seed {SEED}) of {', '.join(kinds)} and a follower ended in one text of {len(text)} letters")
     finally:
         for guest in guests:
-            guest.editor.end()
+            end_editor(guest.editor)
         stage.end()
 
 
