@@ -1,3 +1,4 @@
+pub mod RowWords
 pub mod DigitLemmas
 pub mod Escapes
 pub mod Passing

@@ -1,6 +1,6 @@
 //! Step lines.
 ghost use Rattle.std.specs.Prelude.{◌≡◌, IfOk, IsErrOf, Some, None};
-ghost use Rattle.line_read.specs.Words.{bytes_of};
+ghost use Rattle.line_read.specs.Words.{bytes_of, words};
 ghost use Rattle.line_read.specs.ReadsAs.{ReadsAs};
 ghost use Rattle.line_read.specs.Step.{place_and_piece, read_local_edit, read_plain, read_step, step_line};
 
@@ -9,10 +9,10 @@ use crate::message::message_of;
 use crate::numbers::{one_wide, read_wide};
 use crate::operation::operation_of;
 use crate::pieces::read_piece;
-use crate::words::{are_none, both_words, is_line, parts};
+use crate::words::{MOST_WORDS, are_none, both_words, is_line, split_words, words_of};
 use coop_request::Piece;
 use element_name::NoMemory;
-use line_spelling::{LineFail, SPACE};
+use line_spelling::LineFail;
 use peer_step::{LocalEdit, Step};
 use std::alloc::Global;
 
@@ -98,6 +98,18 @@ fn read_step(alloc: Global, words: &[&[u8]]) -> Result<Step, LineFail>
     read_plain(word).ok_or(LineFail::Bad)
 }
 
+// A step by the words of its line, however many they are. Of the grammar no line comes here.
+#[cold]
+#[inline(never)]
+fn long_step(alloc: Global, line: &[u8]) -> Result<Step, LineFail>
+    ensures { ReadsAs result (read_step (words line.now)) }
+{
+    let Ok(words) = words_of(alloc, line) else {
+        return Err(LineFail::NoMemory);
+    };
+    read_step(alloc, &words)
+}
+
 /// The step that a step line says, for its bytes without the line end. Takes time in their number.
 ///
 /// `Bad` says that they aren't in the grammar.
@@ -108,6 +120,9 @@ pub fn step_line(alloc: Global, bytes: &[u8]) -> Result<Step, LineFail>
     if !is_line(bytes) {
         return Err(LineFail::Bad);
     }
-    let words = parts(alloc, SPACE, bytes)?;
-    read_step(alloc, &words)
+    let mut row = [&bytes[..0]; MOST_WORDS];
+    match split_words(bytes, &mut row) {
+        Some(count) => read_step(alloc, &row[..count]),
+        None => long_step(alloc, bytes),
+    }
 }

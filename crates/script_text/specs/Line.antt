@@ -86,6 +86,10 @@ abbrev pub read_first : List (List ℕ) → Option Line
 read_first (word ∷ args) = beside word ((codes "peers", option_map Peers (one_count args)) ∷ []) None
 read_first [] = None
 
+-- what the words of a line say, of the first one or a later one, where there are so many peers
+abbrev pub read_line : Bool → ℕ → List (List ℕ) → Option Line
+read_line first peers words = if first then read_first words else read_later peers words
+
 -- what a script line says, the first one or a later one, where there are so many peers
 abbrev pub script_line : Bool → ℕ → List ℕ → Option Line
-script_line first peers bytes = given (is_line bytes) (if first then read_first (words bytes) else read_later peers (words bytes))
+script_line first peers bytes = given (is_line bytes) (read_line first peers (words bytes))

@@ -1,15 +1,16 @@
 //! Script lines.
 ghost use Rattle.std.specs.Prelude.{◌≡◌, IfOk, IsErrOf, Some, None, IsTrue, true, false};
 ghost use Rattle.replay_net.specs.Line.{is_opening, is_world_line};
-ghost use Rattle.line_read.specs.Words.{bytes_of};
+ghost use Rattle.line_read.specs.ReadsAs.{ReadsAs};
+ghost use Rattle.line_read.specs.Words.{bytes_of, words};
 ghost use Rattle.script_text.specs.Line.{read_own, read_local, read_give, read_hand, read_look, read_state, read_later};
-ghost use Rattle.script_text.specs.Line.{one_count, read_first, script_line};
+ghost use Rattle.script_text.specs.Line.{one_count, read_first, read_line, script_line};
 
 use crate::peers::{one_peer, read_count, read_peer};
 use element_name::NoMemory;
 use line_read::{
-    is_alone, is_line, read_local_edit, read_message, read_name, read_operation, read_wide,
-    words_of,
+    MOST_WORDS, is_alone, is_line, read_local_edit, read_message, read_name, read_operation,
+    read_wide, split_words, words_of,
 };
 use line_spelling::LineFail;
 use peer_step::Step;
@@ -157,6 +158,39 @@ fn read_first(words: &[&[u8]]) -> Option<Line>
     None
 }
 
+// What a line says by its words: the first one, or a later one.
+fn line_of(alloc: Global, words: &[&[u8]], first: bool, peers: u32) -> Result<Line, LineFail>
+    ensures reads { ReadsAs result (read_line first peers (bytes_of words.now)) }
+    ensures opening { first ≡ true → IfOk result (λ line. IsTrue (is_opening line)) }
+    ensures later { first ≡ false → IfOk result (λ line. IsTrue (is_world_line peers line)) }
+{
+    if first {
+        let Some(line) = read_first(words) else {
+            return Err(LineFail::Bad);
+        };
+        return Ok(line);
+    }
+    match read_later(alloc, peers, words) {
+        Ok(Some(line)) => Ok(line),
+        Ok(None) => Err(LineFail::Bad),
+        Err(_) => Err(LineFail::NoMemory),
+    }
+}
+
+// The same by the words of the line, however many they are. Of the grammar no line comes here.
+#[cold]
+#[inline(never)]
+fn long_line(alloc: Global, bytes: &[u8], first: bool, peers: u32) -> Result<Line, LineFail>
+    ensures reads { ReadsAs result (read_line first peers (words bytes.now)) }
+    ensures opening { first ≡ true → IfOk result (λ line. IsTrue (is_opening line)) }
+    ensures later { first ≡ false → IfOk result (λ line. IsTrue (is_world_line peers line)) }
+{
+    let Ok(words) = words_of(alloc, bytes) else {
+        return Err(LineFail::NoMemory);
+    };
+    line_of(alloc, &words, first, peers)
+}
+
 /// What a line of a script says, for its bytes without the line end: the first one, or a later one in
 /// a world of so many peers. Takes time in the number of bytes.
 ///
@@ -172,18 +206,9 @@ pub fn script_line(alloc: Global, bytes: &[u8], first: bool, peers: u32) -> Resu
     if !is_line(bytes) {
         return Err(LineFail::Bad);
     }
-    let Ok(words) = words_of(alloc, bytes) else {
-        return Err(LineFail::NoMemory);
-    };
-    if first {
-        let Some(line) = read_first(&words) else {
-            return Err(LineFail::Bad);
-        };
-        return Ok(line);
-    }
-    match read_later(alloc, peers, &words) {
-        Ok(Some(line)) => Ok(line),
-        Ok(None) => Err(LineFail::Bad),
-        Err(_) => Err(LineFail::NoMemory),
+    let mut row = [&bytes[..0]; MOST_WORDS];
+    match split_words(bytes, &mut row) {
+        Some(count) => line_of(alloc, &row[..count], first, peers),
+        None => long_line(alloc, bytes, first, peers),
     }
 }
