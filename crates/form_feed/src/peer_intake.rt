@@ -21,8 +21,8 @@ impl Intake for Peer {
 
     ghost closing = { closing_lines };
 
-    fn take_in(&mut self, alloc: Global, frame: Frame, out: &mut Vec<u8>) -> Result<(), NoMemory> {
-        answer_frame(alloc, self, frame, out)
+    fn take_in(&mut self, _alloc: Global, frame: Frame, out: &mut Vec<u8>) -> Result<(), NoMemory> {
+        answer_frame(self, frame, out)
     }
 
     // Appends the text that the peer shows, and what it holds.

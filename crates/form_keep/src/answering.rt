@@ -17,7 +17,7 @@ use crate::stopped::Stopped;
 use edit_io::{OutFail, Sink, Source};
 use element_name::NoMemory;
 use line_engine::offer;
-use line_write::answer_line;
+use line_write::put_answer_line;
 use peer_core::Peer;
 use peer_disk::Disk;
 use peer_step::{Answer, Step};
@@ -44,7 +44,7 @@ fn answer_text(alloc: Global, answer: Answer) -> Result<Vec<u8>, NoMemory>
     ensures { IfOk result (λ line. line.items ≡ answer_line None answer) }
 {
     let mut line = Vec::new(alloc);
-    let told = answer_line(alloc, None, &answer, &mut line);
+    let told = put_answer_line(&mut line, None, &answer);
     drop(answer);
     told?;
     Ok(line)

@@ -2,7 +2,7 @@
 ghost use Rattle.std.specs.Prelude.{◌≡◌, [], None, Some, IfOk, OnOk, IsErrOf};
 ghost use Rattle.form_replay.specs.Replay.{script_turn};
 
-use crate::reply::reply_line;
+use crate::reply::put_reply;
 use line_engine::Lines;
 use line_spelling::LineFail;
 use replay_net::{Line, World};
@@ -58,7 +58,7 @@ fn play(alloc: Global, world: &mut World, line: &[u8], out: &mut Vec<u8>) -> Res
     let Ok(reply) = world.line(line) else {
         return Err(LineFail::NoMemory);
     };
-    reply_line(alloc, &reply, out).or(Err(LineFail::NoMemory))
+    put_reply(out, &reply).or(Err(LineFail::NoMemory))
 }
 
 impl Lines for Replay {

@@ -1,10 +1,10 @@
 //! The lines of replies.
-ghost use Rattle.std.specs.Prelude.{◌≡◌, ◌++◌, OnOk, OnErr, IfOk};
+ghost use Rattle.std.specs.Prelude.{◌≡◌, ◌++◌, OnOk, OnErr};
 ghost use Rattle.line_spelling.specs.Values.{behind_spaces};
 ghost use Rattle.form_replay.specs.Reply.{kept_words, reply_line};
 
 use element_name::NoMemory;
-use line_write::{answer_line, put, put_number_word, put_state};
+use line_write::{put, put_answer_line, put_number_word, put_state};
 use replay_net::Reply;
 use request_state::State;
 use std::alloc::Global;
@@ -19,40 +19,43 @@ fn put_kept(line: &mut Vec<u8>, state: Option<State>) -> Result<(), NoMemory>
     }
 }
 
-// The line of a number of messages that were issued.
-fn no_message_line(alloc: Global, count: u32) -> Result<Vec<u8>, NoMemory>
-    ensures { IfOk result (λ line. line.items ≡ reply_line (Reply.NoMessage count)) }
+// Appends the line of a number of messages that were issued.
+fn put_no_message(line: &mut Vec<u8>, count: u32) -> Result<(), NoMemory>
+    ensures { OnOk result (line.new.items ≡ line.old.items ++ reply_line (Reply.NoMessage count)) }
 {
-    let mut line = Vec::new(alloc);
-    put(&mut line, b"no message")?;
-    put_number_word(&mut line, u64::from(count))?;
-    put(&mut line, b"\n")?;
-    Ok(line)
+    put(line, b"no message")?;
+    put_number_word(line, u64::from(count))?;
+    put(line, b"\n")
 }
 
-// The line of a state that is kept.
-fn state_line(alloc: Global, state: Option<State>) -> Result<Vec<u8>, NoMemory>
-    ensures { IfOk result (λ line. line.items ≡ reply_line (Reply.StateIs state)) }
+// Appends the line of a state that is kept.
+fn put_state_line(line: &mut Vec<u8>, state: Option<State>) -> Result<(), NoMemory>
+    ensures { OnOk result (line.new.items ≡ line.old.items ++ reply_line (Reply.StateIs state)) }
 {
-    let mut line = Vec::new(alloc);
-    put(&mut line, b"state")?;
-    put_kept(&mut line, state)?;
-    put(&mut line, b"\n")?;
-    Ok(line)
+    put(line, b"state")?;
+    put_kept(line, state)?;
+    put(line, b"\n")
 }
 
-/// Appends the line of a reply. Takes time in the length of the line.
+/// Appends the line of a reply. Takes time in the length of the line. Fails where memory is wanting; a part may then stand
+/// in the output.
+pub(crate) fn put_reply(out: &mut Vec<u8>, reply: &Reply) -> Result<(), NoMemory>
+    ensures { OnOk result (out.new.items ≡ out.old.items ++ reply_line reply.now) }
+{
+    match reply {
+        Reply::Answered { number, answer } => put_answer_line(out, *number, answer),
+        Reply::NoMessage(count) => put_no_message(out, *count),
+        Reply::StateIs(state) => put_state_line(out, *state),
+    }
+}
+
+/// Appends the line of a reply, or nothing where memory is wanting. Takes time in the length of the line.
 pub fn reply_line(alloc: Global, reply: &Reply, out: &mut Vec<u8>) -> Result<(), NoMemory>
     ensures ok { OnOk result (out.new.items ≡ out.old.items ++ reply_line reply.now) }
     ensures unchanged { OnErr result (out.new.items ≡ out.old.items) }
 {
-    let line = match reply {
-        Reply::Answered { number, answer } => {
-            return answer_line(alloc, *number, answer, out);
-        }
-        Reply::NoMessage(count) => no_message_line(alloc, *count)?,
-        Reply::StateIs(state) => state_line(alloc, *state)?,
-    };
+    let mut line = Vec::new(alloc);
+    put_reply(&mut line, reply)?;
     out.extend_from_slice(&line)?;
     Ok(())
 }

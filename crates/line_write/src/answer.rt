@@ -12,6 +12,7 @@ use crate::values::{put, put_name_word, put_number_word};
 use coop_request::Request;
 use edit_message::Message;
 use element_name::NoMemory;
+use line_spelling::LINE_END;
 use peer_step::Answer;
 use policy_book::{Entry, EntryFault};
 use request_state::{State, Undone};
@@ -133,7 +134,20 @@ fn put_answer(line: &mut Vec<u8>, number: Option<u32>, answer: &Answer) -> Resul
 }
 
 /// Appends the line of an answer, with the number of the message that it issues where that is told.
-/// Takes time in the length of the line.
+/// Takes time in the length of the line. Fails where memory is wanting; a part may then stand in the output.
+pub fn put_answer_line(
+    out: &mut Vec<u8>,
+    number: Option<u32>,
+    answer: &Answer,
+) -> Result<(), NoMemory>
+    ensures { OnOk result (out.new.items ≡ out.old.items ++ answer_line number answer.now) }
+{
+    put_answer(out, number, answer)?;
+    out.push(LINE_END)?;
+    Ok(())
+}
+
+/// Appends the line of an answer as [`put_answer_line`] does, or nothing where memory is wanting: the line is built apart.
 pub fn answer_line(
     alloc: Global,
     number: Option<u32>,
@@ -144,8 +158,7 @@ pub fn answer_line(
     ensures unchanged { OnErr result (out.new.items ≡ out.old.items) }
 {
     let mut line = Vec::new(alloc);
-    put_answer(&mut line, number, answer)?;
-    put(&mut line, b"\n")?;
+    put_answer_line(&mut line, number, answer)?;
     out.extend_from_slice(&line)?;
     Ok(())
 }

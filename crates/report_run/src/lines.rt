@@ -7,7 +7,7 @@ ghost use Rattle.report_run.specs.Report.{run_line, asked_text, call_line};
 
 use element_name::NoMemory;
 use itoa::Buffer;
-use line_write::{answer_line, put, put_number_word, step_text};
+use line_write::{put, put_answer_line, put_number_word, step_text};
 use peer_core::Peer;
 use peer_step::Step;
 use std::alloc::Global;
@@ -41,12 +41,12 @@ fn put_asked(alloc: Global, caller: u32, step: &Step, out: &mut Vec<u8>) -> Resu
 }
 
 // Makes a step, and appends the line of its answer.
-fn put_answer(alloc: Global, peer: &mut Peer, step: Step, out: &mut Vec<u8>) -> Result<(), NoMemory>
+fn put_answer(peer: &mut Peer, step: Step, out: &mut Vec<u8>) -> Result<(), NoMemory>
     ensures line { OnOk result (out.new.items ≡ out.old.items ++ answer_line None (answer_of peer.old step)) }
     ensures peer { OnOk result (peer.new ≡ peer_after peer.old step) }
 {
     let answer = peer.step(step)?;
-    let told = answer_line(alloc, None, &answer, out);
+    let told = put_answer_line(out, None, &answer);
     drop(answer);
     told
 }
@@ -63,7 +63,7 @@ pub(crate) fn put_call(
     ensures peer { OnOk result (peer.new ≡ peer_after peer.old step) }
 {
     match put_asked(alloc, caller, &step, out) {
-        Ok(()) => put_answer(alloc, peer, step, out),
+        Ok(()) => put_answer(peer, step, out),
         Err(NoMemory) => {
             drop(step);
             Err(NoMemory)
