@@ -1,11 +1,12 @@
 //! Names, pieces, texts, lists and sets.
-ghost use Rattle.std.specs.Prelude.{◌≡◌, ◌++◌, ◌∷◌, [], OnOk, decimal, map, if◌then◌else◌};
+ghost use Rattle.std.specs.Prelude.{◌≡◌, ◌+◌, ◌<◌, ◌++◌, ◌∷◌, [], OnOk, IfSome, IfNone, decimal, length, map, take, drop, if◌then◌else◌};
 ghost use Rattle.line_spelling.specs.Values.{behind_spaces, behind_commas, name_text, text_byte, piece_byte, text_text, piece_text};
 ghost use Rattle.line_spelling.specs.Values.{numbers_text, names_text, users_text, rights_text};
 
 use element_name::{Name, NoMemory};
 use itoa::Buffer;
-use line_spelling::{BACKSLASH, LINE_END, LINE_END_LETTER, SPACE, SPACE_LETTER};
+use line_spelling::{BACKSLASH, LINE_END, LINE_END_LETTER, POINT, SPACE, SPACE_LETTER};
+use memchr::memchr2;
 use policy_book::{Rights, UserSet};
 
 /// Appends bytes. Takes time in their number. Fails where memory is wanting.
@@ -20,6 +21,10 @@ pub fn put(line: &mut Vec<u8>, bytes: &[u8]) -> Result<(), NoMemory>
 pub(crate) fn put_number(line: &mut Vec<u8>, number: u64) -> Result<(), NoMemory>
     ensures { OnOk result (line.new.items ≡ line.old.items ++ decimal number) }
 {
+    if number < 10 {
+        line.push(b'0' + number as u8)?;
+        return Ok(());
+    }
     let mut buffer = Buffer::new();
     let digits = buffer.format(number);
     put(line, digits.as_bytes())
@@ -30,7 +35,7 @@ pub(crate) fn put_number(line: &mut Vec<u8>, number: u64) -> Result<(), NoMemory
 pub fn put_number_word(line: &mut Vec<u8>, number: u64) -> Result<(), NoMemory>
     ensures { OnOk result (line.new.items ≡ line.old.items ++ behind_spaces (decimal number ∷ [])) }
 {
-    put(line, b" ")?;
+    line.push(SPACE)?;
     put_number(line, number)
 }
 
@@ -48,7 +53,7 @@ pub(crate) fn put_name(line: &mut Vec<u8>, name: Name) -> Result<(), NoMemory>
     ensures { OnOk result (line.new.items ≡ line.old.items ++ name_text name) }
 {
     put_number(line, name.stamp())?;
-    put(line, b".")?;
+    line.push(POINT)?;
     put_number(line, u64::from(name.site()))
 }
 
@@ -57,7 +62,7 @@ pub(crate) fn put_name(line: &mut Vec<u8>, name: Name) -> Result<(), NoMemory>
 pub fn put_name_word(line: &mut Vec<u8>, name: Name) -> Result<(), NoMemory>
     ensures { OnOk result (line.new.items ≡ line.old.items ++ behind_spaces (name_text name ∷ [])) }
 {
-    put(line, b" ")?;
+    line.push(SPACE)?;
     put_name(line, name)
 }
 
@@ -75,14 +80,43 @@ fn put_text_byte(line: &mut Vec<u8>, b: u8) -> Result<(), NoMemory>
     Ok(())
 }
 
+// The place of the first byte of a text that isn't written as itself.
+fn escaped_in(text: &[u8]) -> Option<usize>
+    ensures within { IfSome result (λ i. i < length text.now) }
+    ensures plain { IfSome result (λ i. text_text (take i text.now) ≡ take i text.now) }
+    ensures none { IfNone result (text_text text.now ≡ text.now) }
+{
+    memchr2(LINE_END, BACKSLASH, text)
+}
+
+// Appends a text as far as the byte at a place, in front of which each is written as itself.
+fn put_text_until(line: &mut Vec<u8>, text: &[u8], at: usize) -> Result<(), NoMemory>
+    requires within { at < length text.now }
+    requires plain { text_text (take at text.now) ≡ take at text.now }
+    ensures { OnOk result (line.new.items ≡ line.old.items ++ text_text (take (at + 1) text.now)) }
+{
+    put(line, &text[..at])?;
+    put_text_byte(line, text[at])
+}
+
+// What stands behind the byte at a place.
+fn behind(text: &[u8], at: usize) -> &[u8]
+    requires { at < length text.now }
+    ensures { result.now ≡ drop (at + 1) text.now }
+{
+    &text[at + 1..]
+}
+
 /// Appends a text.
 pub(crate) fn put_text(line: &mut Vec<u8>, text: &[u8]) -> Result<(), NoMemory>
     ensures { OnOk result (line.new.items ≡ line.old.items ++ text_text text.now) }
 {
-    for b in text {
-        put_text_byte(line, *b)?;
+    let mut rest = text;
+    while let Some(i) = escaped_in(rest) {
+        put_text_until(line, rest, i)?;
+        rest = behind(rest, i);
     }
-    Ok(())
+    put(line, rest)
 }
 
 // Appends a byte of a piece.
@@ -109,7 +143,7 @@ fn put_piece(line: &mut Vec<u8>, piece: &[u8]) -> Result<(), NoMemory>
 pub(crate) fn put_piece_word(line: &mut Vec<u8>, piece: &[u8]) -> Result<(), NoMemory>
     ensures { OnOk result (line.new.items ≡ line.old.items ++ behind_spaces (piece_text piece.now ∷ [])) }
 {
-    put(line, b" ")?;
+    line.push(SPACE)?;
     put_piece(line, piece)
 }
 
