@@ -15,7 +15,7 @@ use coop_request::{Edit, Request};
 use elem_show::ElemTable;
 use element_name::{Name, NoMemory};
 use request_state::{State, StateTable};
-use tomb_seq::{SeqFault, Shows, TombSeq};
+use tomb_seq::{Shows, TombSeq};
 
 /// What a request is judged on: the new element, or its target.
 pub(crate) fn judged(request: Request) -> Judged
@@ -41,11 +41,7 @@ fn place(seq: &mut TombSeq, request: Request) -> Result<(), NoMemory>
     let Edit::Insert { after, .. } = request.edit() else {
         return Ok(());
     };
-    match seq.insert(request.id(), after) {
-        Ok(_) => Ok(()),
-        Err(SeqFault::NoMemory) => Err(NoMemory),
-        Err(_) => unreachable!(),
-    }
+    seq.enter_new(request.id(), after)
 }
 
 // It leaves its place again.

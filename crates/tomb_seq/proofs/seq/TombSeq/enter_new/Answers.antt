@@ -8,7 +8,7 @@ use Rattle.tomb_seq.specs.Slots.{names_in, marked_names, with_new}
 use Rattle.tomb_seq.proofs.SlotLemmas.{insert_names}
 use Rattle.tomb_seq.proofs.SlotEdits.{shown_insert}
 use Rattle.tomb_seq.proofs.Theorems.{fresh_order}
-use Rattle.tomb_seq.proofs.seq.TombSeq.insert_new.Goals as goal
+use Rattle.tomb_seq.proofs.seq.TombSeq.enter_new.Goals as goal
 
 pub returns-clause-names : goal.returns-clause-names
 returns-clause-names c =
