@@ -1,6 +1,6 @@
 -- What is kept of a journal beside its items.
-use Rattle.std.specs.Prelude.{◌≡◌, ℕ, ◌≤◌, ◌<◌, Bool, true, false, Some, List, [], ◌∷◌, ◌++◌, Option, length, option_map, option_and_then, is_some, is_none, Contains, ◌^◌, ◌-◌, IsTrue, if◌then◌else◌, None}
-use Rattle.std.specs.List.{list_all, list_any}
+use Rattle.std.specs.Prelude.{◌≡◌, ℕ, ◌≤◌, ◌<◌, Bool, true, false, Some, List, [], ◌∷◌, ◌++◌, Option, length, option_map, is_some, is_none, Contains, ◌^◌, ◌-◌, IsTrue, if◌then◌else◌, None}
+use Rattle.std.specs.List.{list_all}
 use Rattle.element_name.specs.Name.{Name, name_eq, has_name}
 use Rattle.element_name.specs.Tree.{with_fresh}
 use Rattle.coop_request.specs.declared.edit.Edit.{Edit}
@@ -24,8 +24,7 @@ use Rattle.check_remote.specs.Laws.{have_span_ends}
 use Rattle.std.specs.Option.{option_map_or}
 use Rattle.request_state.specs.declared.state.State.TheVariants.{Valid}
 use Rattle.request_state.specs.Table.{kept_of, is_in_order, with_state, kept_state as table_state}
-use Rattle.elem_show.specs.Cell.{shown}
-use Rattle.elem_show.specs.Table.{Table, cell_named, including, except, table_of}
+use Rattle.elem_show.specs.Table.{Table, cell_named, including, table_of}
 use Rattle.elem_show.specs.Text.{shown_of}
 use Rattle.tomb_seq.specs.declared.slot.Slot.{Slot}
 use Rattle.tomb_seq.specs.Insert.{insert_fault}
@@ -73,13 +72,13 @@ counted_more counted q state = if is_invalid state then counted else counted ++ 
 abbrev pub with_element : Table → Request → Table
 with_element cells q = if is_insert q.edit then record cells { inserts = including q cells.inserts } else cells
 
--- the table without it
-abbrev pub without_element : Table → Request → Table
-without_element cells q = if is_insert q.edit then record cells { inserts = except cells.inserts q.id } else cells
+-- the table with the request among those that count
+abbrev pub with_counted : Table → Request → Table
+with_counted cells q = record cells { counted = including q cells.counted }
 
--- the table with the request among those that count, unless its state is Invalid
+-- the same, unless its state is Invalid
 abbrev pub counted_by : Table → Request → State → Table
-counted_by cells q state = if is_invalid state then cells else record cells { counted = including q cells.counted }
+counted_by cells q state = if is_invalid state then cells else with_counted cells q
 
 -- both
 abbrev pub cells_joined : Table → Request → State → Table
@@ -96,22 +95,10 @@ pub record IsGrantable (cells : Table) (q : Request) : Type 0 where
   pub element : is_some (cell_named cells (element_of q)) ≡ true
   pub own : is_insert q.edit ≡ true → request_of cells.inserts q.id ≡ Some q
 
--- no counted request is of the element that q makes
-abbrev pub IsUnheard : Table → Request → Type 0
-IsUnheard cells q = is_insert q.edit ≡ true → list_any (λ r. name_eq (element_of r) q.id) cells.counted ≡ false
-
 -- a state that is given is that of the request
 abbrev pub IsGivenState : Option State → List Name → List Entry → Request → Type 0
 IsGivenState None names log q = Unit {0}
 IsGivenState (Some state) names log q = state ≡ state_of names log q
-
--- the piece that shows of an element, by its cell
-abbrev pub piece_by : Table → Name → Option (List ℕ)
-piece_by cells e = option_and_then shown (cell_named cells e)
-
--- whether it shows
-abbrev pub shows_by : Table → Name → Bool
-shows_by cells e = is_some (piece_by cells e)
 
 -- the request of a name is Tentative
 abbrev pub is_tentative_in : List Kept → Name → Bool

@@ -5,7 +5,8 @@ ghost use Rattle.coop_request.specs.Request.{Request};
 ghost use Rattle.policy_book.specs.Entry.{is_entry};
 ghost use Rattle.admin_log.specs.Log.{push_fault};
 ghost use Rattle.peer_tables.specs.Awaiting.{validated_by};
-ghost use Rattle.peer_tables.specs.Kept.{AreTablesOf, AreKnown, IsAdvancing, states_confirmed, shows_by};
+ghost use Rattle.peer_tables.specs.Kept.{AreTablesOf, AreKnown, IsAdvancing, states_confirmed};
+ghost use Rattle.elem_show.specs.Table.{shows_by};
 ghost use Rattle.peer_tables.specs.Derived.{undone_between};
 
 use crate::join::ByCells;

@@ -6,7 +6,8 @@ ghost use Rattle.request_state.specs.Table.{kept_of, with_request};
 ghost use Rattle.check_remote.specs.State.{state_by, state_of};
 ghost use Rattle.tomb_seq.specs.declared.slot.Slot.{Slot};
 ghost use Rattle.tomb_seq.specs.Slots.{names_in, with_mark};
-ghost use Rattle.peer_tables.specs.Kept.{judged_by, names_after, slots_after, IsPlaceable, is_addable, with_element, without_element, counted_by, cells_joined, IsGivenState, IsJoinable, IsGrantable, IsUnheard, shows_by};
+ghost use Rattle.peer_tables.specs.Kept.{judged_by, names_after, slots_after, IsPlaceable, is_addable, with_element, with_counted, cells_joined, IsGivenState, IsJoinable};
+ghost use Rattle.elem_show.specs.Table.{shows_by};
 
 use admin_log::AdminLog;
 use auth_match::Judged;
@@ -55,48 +56,10 @@ fn take_back(seq: &mut TombSeq, request: Request)
     }
 }
 
-// The request counts, unless its state is Invalid.
-fn count(cells: &mut ElemTable, request: Request, state: State) -> Result<(), NoMemory>
-    requires { IsGrantable cells.old request }
-    ensures counted { OnOk result (cells.new ≡ counted_by cells.old request state) }
-    ensures unchanged { OnErr result (cells.new ≡ cells.old) }
-{
-    match state {
-        State::Invalid { .. } => Ok(()),
-        State::Tentative => cells.grant(request),
-        State::Valid { .. } => cells.grant(request),
-    }
-}
-
-// The state is kept, and the request counts by it.
-fn keep_state(
-    cells: &mut ElemTable,
-    states: &mut StateTable,
-    request: Request,
-    state: State,
-) -> Result<(), NoMemory>
-    requires grantable { IsGrantable cells.old request }
-    requires new { kept_of states.old request.id ≡ None }
-    ensures states { OnOk result (states.new ≡ with_request states.old request state) }
-    ensures counted { OnOk result (cells.new ≡ counted_by cells.old request state) }
-    ensures same_cells { OnErr result (cells.new ≡ cells.old) }
-    ensures same_states { OnErr result (states.new ≡ states.old) }
-{
-    states.add(request, state)?;
-    match count(cells, request, state) {
-        Ok(()) => Ok(()),
-        Err(NoMemory) => {
-            states.remove(request.id());
-            Err(NoMemory)
-        }
-    }
-}
-
-// The cell of an insert's element is made.
+// The cell of an insert's element is made, and doesn't count.
 fn add_cell(cells: &mut ElemTable, request: Request) -> Result<(), NoMemory>
     requires { IsTrue (is_addable cells.old request.id request.edit) }
     ensures added { OnOk result (cells.new ≡ with_element cells.old request) }
-    ensures unheard { OnOk result (IsUnheard cells.new request) }
     ensures unchanged { OnErr result (cells.new ≡ cells.old) }
 {
     match request.edit() {
@@ -106,36 +69,63 @@ fn add_cell(cells: &mut ElemTable, request: Request) -> Result<(), NoMemory>
     }
 }
 
-// It goes again.
-fn remove_cell(cells: &mut ElemTable, request: Request)
-    requires { IsUnheard cells.old request }
-    ensures { cells.new ≡ without_element cells.old request }
+// The request counts in the cell of its element, which is made for an insert. Says whether the element shows then.
+fn count(cells: &mut ElemTable, request: Request) -> Result<bool, NoMemory>
+    requires joinable { IsJoinable cells.old request }
+    requires addable { IsTrue (is_addable cells.old request.id request.edit) }
+    ensures counted { OnOk result (cells.new ≡ with_counted (with_element cells.old request) request) }
+    ensures shows { IfOk result (λ shows. shows ≡ shows_by cells.new (element_of request)) }
+    ensures unchanged { OnErr result (cells.new ≡ cells.old) }
 {
-    if let Edit::Insert { .. } = request.edit() {
-        cells.remove(request.id());
+    match request.edit() {
+        Edit::Insert { .. } => {
+            cells.add_granted(request)?;
+            Ok(true)
+        }
+        Edit::Delete { .. } => cells.grant(request),
+        Edit::Update { .. } => cells.grant(request),
     }
 }
 
-// Both tables with the request, whose state is known.
+// The request joins the cells, and counts unless its state is Invalid. Says whether its element shows then.
+fn join_cells(cells: &mut ElemTable, request: Request, state: State) -> Result<bool, NoMemory>
+    requires joinable { IsJoinable cells.old request }
+    requires addable { IsTrue (is_addable cells.old request.id request.edit) }
+    ensures cells { OnOk result (cells.new ≡ cells_joined cells.old request state) }
+    ensures shows { IfOk result (λ shows. shows ≡ shows_by cells.new (element_of request)) }
+    ensures unchanged { OnErr result (cells.new ≡ cells.old) }
+{
+    match state {
+        State::Invalid { .. } => {
+            add_cell(cells, request)?;
+            Ok(is_shown(cells, request.element()))
+        }
+        State::Tentative => count(cells, request),
+        State::Valid { .. } => count(cells, request),
+    }
+}
+
+// Both tables with the request, whose state is known. Says whether its element shows then.
 fn join_tables(
     cells: &mut ElemTable,
     states: &mut StateTable,
     request: Request,
     state: State,
-) -> Result<(), NoMemory>
+) -> Result<bool, NoMemory>
     requires joinable { IsJoinable cells.old request }
     requires addable { IsTrue (is_addable cells.old request.id request.edit) }
     requires new { kept_of states.old request.id ≡ None }
     ensures states { OnOk result (states.new ≡ with_request states.old request state) }
     ensures cells { OnOk result (cells.new ≡ cells_joined cells.old request state) }
+    ensures shows { IfOk result (λ shows. shows ≡ shows_by cells.new (element_of request)) }
     ensures same_cells { OnErr result (cells.new ≡ cells.old) }
     ensures same_states { OnErr result (states.new ≡ states.old) }
 {
-    add_cell(cells, request)?;
-    match keep_state(cells, states, request, state) {
-        Ok(()) => Ok(()),
+    states.add(request, state)?;
+    match join_cells(cells, request, state) {
+        Ok(shows) => Ok(shows),
         Err(NoMemory) => {
-            remove_cell(cells, request);
+            states.remove(request.id());
             Err(NoMemory)
         }
     }
@@ -169,6 +159,13 @@ pub(crate) fn validated_state(validation: Option<u32>) -> State
     }
 }
 
+// What became of a request that joined the tables: its state, and whether its element shows.
+#[derive(Clone, Copy)]
+struct Joined {
+    state: State,
+    shows: bool,
+}
+
 // The request joins both tables with its state.
 fn judge(
     log: &AdminLog,
@@ -177,30 +174,23 @@ fn judge(
     states: &mut StateTable,
     request: Request,
     given: Option<State>,
-) -> Result<State, NoMemory>
+) -> Result<Joined, NoMemory>
     requires carried { request.version ≤ length log.now }
     requires element { has_name (names_in seq.now) (element_of request) ≡ true }
     requires joinable { IsJoinable cells.old request }
     requires addable { IsTrue (is_addable cells.old request.id request.edit) }
     requires new { kept_of states.old request.id ≡ None }
     requires given { IsGivenState given (names_in seq.now) log.now request }
-    ensures state { IfOk result (λ state. state ≡ state_of (names_in seq.now) log.now request) }
-    ensures states { IfOk result (λ state. states.new ≡ with_request states.old request state) }
-    ensures cells { IfOk result (λ state. cells.new ≡ cells_joined cells.old request state) }
+    ensures state { IfOk result (λ joined. joined.state ≡ state_of (names_in seq.now) log.now request) }
+    ensures shows { IfOk result (λ joined. joined.shows ≡ shows_by cells.new (element_of request)) }
+    ensures states { IfOk result (λ joined. states.new ≡ with_request states.old request joined.state) }
+    ensures cells { IfOk result (λ joined. cells.new ≡ cells_joined cells.old request joined.state) }
     ensures same_cells { OnErr result (cells.new ≡ cells.old) }
     ensures same_states { OnErr result (states.new ≡ states.old) }
 {
     let state = state_given(log, seq, request, given)?;
-    join_tables(cells, states, request, state)?;
-    Ok(state)
-}
-
-// The element is marked by whether its cell shows.
-fn mark(seq: &mut TombSeq, cells: &ElemTable, element: Name)
-    requires { has_name (names_in seq.old) element ≡ true }
-    ensures { seq.new ≡ with_mark seq.old element (shows_by cells.now element) }
-{
-    seq.mark(element, is_shown(cells, element));
+    let shows = join_tables(cells, states, request, state)?;
+    Ok(Joined { state, shows })
 }
 
 // Whether an element shows, by its cell.
@@ -218,7 +208,7 @@ fn is_shown(cells: &ElemTable, element: Name) -> bool
 pub(crate) struct ByCells<'a>(pub(crate) &'a ElemTable);
 
 impl Shows for ByCells<'_> {
-    ghost use Rattle.peer_tables.specs.Kept.{shows_by};
+    ghost use Rattle.elem_show.specs.Table.{shows_by};
 
     ghost is_shown = { λ by. shows_by by.0.now };
 
@@ -253,9 +243,9 @@ pub(crate) fn join(
 {
     place(seq, request)?;
     match judge(log, seq, cells, states, request, given) {
-        Ok(state) => {
-            mark(seq, cells, request.element());
-            Ok(state)
+        Ok(joined) => {
+            seq.mark(request.element(), joined.shows);
+            Ok(joined.state)
         }
         Err(NoMemory) => {
             take_back(seq, request);

@@ -1,7 +1,7 @@
 //! The text that a journal shows.
 ghost use Rattle.std.specs.Prelude.{◌≡◌, filter_map, IfOk};
 ghost use Rattle.tomb_seq.specs.Slots.{names_in};
-ghost use Rattle.peer_tables.specs.Kept.{piece_by};
+ghost use Rattle.elem_show.specs.Table.{piece_by};
 
 use coop_request::Piece;
 use elem_show::{ElemTable, shown};

@@ -19,12 +19,12 @@ use Rattle.policy_book.specs.Reach.{narrowed_reach}
 use Rattle.admin_log.specs.Log.{FollowsLog, policy_of}
 use Rattle.request_state.specs.declared.kept.Kept.{Kept}
 use Rattle.retro_undo.specs.Undo.{states_after, undone_count, have_elements, are_reached, counted_of, with_counted}
-use Rattle.elem_show.specs.Table.{Table}
+use Rattle.elem_show.specs.Table.{Table, shows_by}
 use Rattle.tomb_seq.specs.declared.slot.Slot.{Slot}
 use Rattle.tomb_seq.specs.Slots.{names_in, marked_among}
 use Rattle.peer_tables.specs.Awaiting.{validated_by}
 use Rattle.peer_tables.specs.Derived.{undone_between}
-use Rattle.peer_tables.specs.Kept.{AreTablesOf, IsKeptOf, AreKnown, IsAdvancing, states_confirmed, shows_by}
+use Rattle.peer_tables.specs.Kept.{AreTablesOf, IsKeptOf, AreKnown, IsAdvancing, states_confirmed}
 use Rattle.peer_tables.specs.Reached.{reached_elements}
 use Rattle.peer_tables.specs.Journal.{FollowsJournal}
 use Rattle.peer_tables.proofs.JournalLemmas.{follows_log, formed_push, requests_entry, entries_entry}

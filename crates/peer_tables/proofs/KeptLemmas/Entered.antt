@@ -25,7 +25,7 @@ use Rattle.check_remote.specs.Laws.{state_after_entry as judged_after}
 use Rattle.check_remote.proofs.States.{entry_law}
 use Rattle.retro_undo.specs.Undo.{state_after_verdict as swept_after, kept_after, states_after, is_denied, is_undone, undone_count, have_elements, are_reached, counted_of, with_counted}
 use Rattle.elem_show.specs.Cell.{Cell, cell_from, own_piece, shown}
-use Rattle.elem_show.specs.Table.{Table, in_id_order, table_of}
+use Rattle.elem_show.specs.Table.{Table, in_id_order, table_of, shows_by}
 use Rattle.elem_show.specs.Text.{shown_of}
 use Rattle.elem_show.proofs.Orders.{inserts_in, in_id_order-set, filter_once}
 use Rattle.tomb_seq.specs.declared.slot.Slot.{Slot}
@@ -34,7 +34,7 @@ use Rattle.tomb_seq.proofs.Has.{Has, Contains-from_Has}
 use Rattle.tomb_seq.proofs.MarkLemmas.{among_law, names_by, slots_agree}
 use Rattle.peer_tables.specs.Awaiting.{validated_by}
 use Rattle.peer_tables.specs.Derived.{state_in, counted_in, undone_between}
-use Rattle.peer_tables.specs.Kept.{AreTablesOf, AreKnown, states_confirmed, is_tentative_in, shows_by, shows_in}
+use Rattle.peer_tables.specs.Kept.{AreTablesOf, AreKnown, states_confirmed, is_tentative_in, shows_in}
 use Rattle.peer_tables.specs.Reached.{reached_elements}
 use Rattle.peer_tables.proofs.HistoryLemmas.{once_law}
 use Rattle.peer_tables.proofs.StableLemmas.{element_in_order}

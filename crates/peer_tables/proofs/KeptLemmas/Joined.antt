@@ -27,12 +27,12 @@ use Rattle.check_remote.proofs.States.{front_alone}
 use Rattle.request_state.specs.declared.kept.Kept.{Kept}
 use Rattle.request_state.specs.declared.state.State.{State}
 use Rattle.request_state.specs.Table.{kept_of, is_in_order, with_request}
-use Rattle.elem_show.specs.Table.{Table}
+use Rattle.elem_show.specs.Table.{Table, shows_by}
 use Rattle.tomb_seq.specs.declared.slot.Slot.{Slot}
 use Rattle.tomb_seq.specs.Slots.{names_in, with_mark}
 use Rattle.peer_tables.specs.Derived.{state_in}
 use Rattle.peer_tables.specs.Journal.{FollowsJournal}
-use Rattle.peer_tables.specs.Kept.{AreKnown, IsGivenState, IsJoinable, cells_joined, AreTablesOf, IsKeptOf, IsPlaceable, is_addable, kept_in, names_after, shows_by, slots_after}
+use Rattle.peer_tables.specs.Kept.{AreKnown, IsGivenState, IsJoinable, cells_joined, AreTablesOf, IsKeptOf, IsPlaceable, is_addable, kept_in, names_after, slots_after}
 use Rattle.peer_tables.proofs.JournalLemmas.{log_law, formed_push, requests_request, entries_request, follows_history}
 use Rattle.peer_tables.proofs.HistoryLemmas.{order_push}
 use Rattle.peer_tables.proofs.StableLemmas.{known_law}

@@ -27,7 +27,7 @@ use Rattle.request_state.specs.State.{is_invalid}
 use Rattle.request_state.specs.Table.{name_of, kept_of, with_request, is_in_order}
 use Rattle.check_remote.specs.State.{is_granted, state_of}
 use Rattle.elem_show.specs.Cell.{cell_from, cell_of, own_piece, shown}
-use Rattle.elem_show.specs.Table.{Table, including, in_id_order, table_of}
+use Rattle.elem_show.specs.Table.{Table, including, in_id_order, table_of, shows_by}
 use Rattle.elem_show.proofs.Orders.{inserts_in, inserts-insert, inserts-other, in_id_order-snoc}
 use Rattle.elem_show.proofs.Cells.{cell_from-snoc}
 use Rattle.elem_show.proofs.Tables.{with_elsewhere}
@@ -36,7 +36,7 @@ use Rattle.tomb_seq.specs.Slots.{slots_by, with_mark}
 use Rattle.tomb_seq.proofs.Has.{Has}
 use Rattle.tomb_seq.proofs.MarkLemmas.{slots_agree, with_new_by, with_mark_by}
 use Rattle.peer_tables.specs.Derived.{state_in, counted_in, greatest_stamp}
-use Rattle.peer_tables.specs.Kept.{AreKnown, AreTablesOf, cells_joined, counted_more, kept_in, names_after, shows_by, shows_in, slots_after}
+use Rattle.peer_tables.specs.Kept.{AreKnown, AreTablesOf, cells_joined, counted_more, kept_in, names_after, shows_in, slots_after}
 use Rattle.peer_tables.proofs.HistoryLemmas.{once_law, order_push}
 use Rattle.peer_tables.proofs.SameSetLemmas.{found_has, own_by, filter_found, piece_made, read_cells}
 use Rattle.peer_tables.proofs.StableLemmas.{state_more}

@@ -1,5 +1,5 @@
 -- One more request among what is kept, and taken out again.
-use Rattle.std.proofs.Common.{◌≡◌, ℕ, Bool, true, false, not, ◌&&◌, List, [], ◌∷◌, take, drop, insert, None, Some, refl, ap, sym, ◌∙◌}
+use Rattle.std.proofs.Common.{◌≡◌, ℕ, Bool, true, false, not, ◌&&◌, List, [], ◌∷◌, take, drop, insert, None, Some, refl, ap, sym, subst, ◌∙◌}
 use Rattle.std.specs.Prelude.{is_some, option_map, if◌then◌else◌}
 use Rattle.std.specs.Option.{option_or}
 use Rattle.std.specs.declared.option.Option.{Option}
@@ -24,7 +24,7 @@ use Rattle.tomb_seq.specs.declared.slot.Slot.{Slot}
 use Rattle.tomb_seq.specs.Slots.{names_in, without_slot}
 use Rattle.tomb_seq.proofs.SlotEdits.{IsFree-no_fault, without_none}
 use Rattle.peer_tables.proofs.JournalLemmas.{none_is}
-use Rattle.peer_tables.specs.Kept.{names_after, slots_after, IsPlaceable, is_addable, with_element, without_element, IsJoinable, IsGrantable}
+use Rattle.peer_tables.specs.Kept.{names_after, slots_after, IsPlaceable, is_addable, with_element, with_counted, IsJoinable, IsGrantable}
 
 -- ---- the element
 
@@ -52,24 +52,13 @@ placed_element names id (Update target letter) placeable = placeable
 -- ---- its cell
 
 -- an insert's element is new
-new_insert : (cells : Table) (q : Request) → is_addable cells q.id q.edit ≡ true → is_insert q.edit ≡ true → request_of cells.inserts q.id ≡ None
+pub new_insert : (cells : Table) (q : Request) → is_addable cells q.id q.edit ≡ true → is_insert q.edit ≡ true → request_of cells.inserts q.id ≡ None
 new_insert cells q addable is = by q.edit addable is
   where
     by : (edit : Edit) → is_addable cells q.id edit ≡ true → is_insert edit ≡ true → request_of cells.inserts q.id ≡ None
     by (Insert after letter) a i = none_is (request_of cells.inserts q.id) a
     by (Delete target) a i = absurd cc
     by (Update target letter) a i = absurd cc
-
--- the element put in and taken out again
-pub element_again : (cells : Table) (q : Request) → is_addable cells q.id q.edit ≡ true → without_element (with_element cells q) q ≡ cells
-element_again cells q addable = by (is_insert q.edit) refl
-  where
-    by : (inserted : Bool) → is_insert q.edit ≡ inserted
-        → (if inserted then record (if inserted then record cells { inserts = including q cells.inserts } else cells) {
-          inserts = except (if inserted then record cells { inserts = including q cells.inserts } else cells).inserts q.id;
-        } else (if inserted then record cells { inserts = including q cells.inserts } else cells)) ≡ cells
-    by true is = ap (λ (inserts : List Request). record cells { inserts = inserts }) (without_named-put id_of q cells.inserts (new_insert cells q addable is))
-    by false is = refl
 
 -- the request may be granted once its element is there
 pub grantable : (cells : Table) (q : Request) → IsJoinable cells q → is_addable cells q.id q.edit ≡ true → IsGrantable (with_element cells q) q
@@ -105,3 +94,20 @@ grantable cells q joinable addable = record {
     by_element (Update target letter) is =
         ap (λ (edit : Edit). is_some (cell_named (if is_insert edit then record cells { inserts = including q cells.inserts } else cells) (element_by q.id edit))) is
         ∙ ap (is_addable cells q.id) (sym is) ∙ addable
+
+-- another edit makes no element
+other_element : (cells : Table) (q : Request) → is_insert q.edit ≡ false → with_element cells q ≡ cells
+other_element cells q other = ap (λ (b : Bool). if b then record cells { inserts = including q cells.inserts } else cells) other
+
+-- so it may be granted as things are
+pub other_grantable : (cells : Table) (q : Request) → is_insert q.edit ≡ false → IsJoinable cells q → is_addable cells q.id q.edit ≡ true → IsGrantable cells q
+other_grantable cells q other joinable addable = subst (λ (t : Table). IsGrantable t q) (other_element cells q other) (grantable cells q joinable addable)
+
+-- what it leaves where it counts
+pub other_counted : (cells new : Table) (q : Request) → is_insert q.edit ≡ false → new ≡ with_counted cells q → new ≡ with_counted (with_element cells q) q
+other_counted cells new q other is = is ∙ ap (λ (t : Table). with_counted t q) (sym (other_element cells q other))
+
+-- what an insert leaves where it counts
+pub insert_counted : (cells new : Table) (q : Request) → is_insert q.edit ≡ true
+    → new ≡ record { inserts = including q cells.inserts; counted = including q cells.counted } → new ≡ with_counted (with_element cells q) q
+insert_counted cells new q insert is = is ∙ ap (λ (b : Bool). with_counted (if b then record cells { inserts = including q cells.inserts } else cells) q) (sym insert)

@@ -13,11 +13,11 @@ use Rattle.edit_message.specs.declared.message.Message.{Message}
 use Rattle.edit_message.specs.Message.{requests_of, entries_of}
 use Rattle.request_state.specs.declared.kept.Kept.{Kept}
 use Rattle.elem_show.specs.Cell.{shown}
-use Rattle.elem_show.specs.Table.{Table, cell_named}
+use Rattle.elem_show.specs.Table.{Table, cell_named, piece_by}
 use Rattle.tomb_seq.specs.declared.slot.Slot.{Slot}
 use Rattle.tomb_seq.specs.Slots.{names_in}
 use Rattle.tomb_seq.proofs.MarkLemmas.{names_by}
-use Rattle.peer_tables.specs.Kept.{IsKeptOf, piece_by, shows_in}
+use Rattle.peer_tables.specs.Kept.{IsKeptOf, shows_in}
 use Rattle.peer_tables.specs.Derived.{text_in}
 use Rattle.peer_tables.proofs.JournalLemmas.{history_law}
 use Rattle.peer_tables.proofs.SameSetLemmas.{read_cells}

@@ -1,9 +1,10 @@
-use Rattle.std.proofs.Common.{ap, sym, subst, ◌∙◌, List}
+use Rattle.std.proofs.Common.{ap, sym, subst, ◌∙◌, Bool, List}
 use Rattle.element_name.specs.Name.{Name, has_name}
 use Rattle.coop_request.specs.Request.{element_of}
 use Rattle.tomb_seq.specs.declared.slot.Slot.{Slot}
 use Rattle.tomb_seq.specs.Slots.{names_in, with_mark}
-use Rattle.peer_tables.specs.Kept.{shows_by, slots_after, IsGivenState}
+use Rattle.peer_tables.specs.Kept.{slots_after, IsGivenState}
+use Rattle.elem_show.specs.Table.{shows_by}
 use Rattle.peer_tables.proofs.KeptLemmas.Places.{placed_element}
 use Rattle.peer_tables.proofs.join.join.Goals as goal
 
@@ -25,9 +26,10 @@ mark-requires c =
 
 pub returns-in-Ok-clause-slots : goal.returns-in-Ok-clause-slots
 returns-in-Ok-clause-slots c =
-    c.mark.ensures
-    ∙ ap (λ (slots : List Slot). with_mark slots c.element.result (shows_by c.judge.new.cells c.element.result)) c.in_ok-place.ensures.slots
-    ∙ ap (λ (e : Name). with_mark (slots_after c.args.seq.now c.args.request.id c.args.request.edit) e (shows_by c.judge.new.cells e)) c.element.ensures
+    c.mark.ensures.slots
+    ∙ ap (λ (slots : List Slot). with_mark slots c.element.result c.in-Ok.joined.shows) c.in_ok-place.ensures.slots
+    ∙ ap (λ (shows : Bool). with_mark (slots_after c.args.seq.now c.args.request.id c.args.request.edit) c.element.result shows) c.in-Ok.ensures.shows
+    ∙ ap (λ (e : Name). with_mark (slots_after c.args.seq.now c.args.request.id c.args.request.edit) e (shows_by c.judge.new.cells (element_of c.args.request))) c.element.ensures
 
 pub take_back-requires : goal.take_back-requires
 take_back-requires c =

@@ -2,7 +2,7 @@ use Rattle.std.proofs.Common.{◌≡◌, ℕ, List, [], ◌∷◌, ◌++◌, Non
 use Rattle.std.specs.Prelude.{option_and_then, slice_get}
 use Rattle.std.proofs.lemmas.List.{append-nil, take_all}
 use Rattle.std.proofs.lemmas.Option.{slice_get_read}
-use Rattle.peer_tables.specs.Kept.{piece_by}
+use Rattle.elem_show.specs.Table.{piece_by}
 use Rattle.peer_tables.proofs.KeptLemmas.Text.{items_more}
 use Rattle.peer_tables.proofs.text.text_of.Goals as goal
 use Rattle.peer_tables.proofs.text.text_of.Goals.{in-Some+in_ok-push, in_default}

@@ -1,5 +1,5 @@
 use Rattle.std.proofs.Common.{◌≡◌, filter_map, take}
-use Rattle.peer_tables.specs.Kept.{piece_by}
+use Rattle.elem_show.specs.Table.{piece_by}
 use Rattle.peer_tables.proofs.text.text_of.Given as goal
 
 abbrev pub invariant-loop-name : goal.invariant-loop-name

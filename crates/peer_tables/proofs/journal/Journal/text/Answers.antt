@@ -4,7 +4,7 @@ use Rattle.std.proofs.lemmas.Result.{IfOk-weaker}
 use Rattle.edit_message.specs.declared.message.Message.{Message}
 use Rattle.edit_message.specs.Message.{requests_of, entries_of}
 use Rattle.tomb_seq.specs.Slots.{names_in}
-use Rattle.peer_tables.specs.Kept.{piece_by}
+use Rattle.elem_show.specs.Table.{piece_by}
 use Rattle.peer_tables.specs.Derived.{text_in}
 use Rattle.peer_tables.proofs.KeptLemmas.Text.{text_kept}
 use Rattle.peer_tables.proofs.journal.Journal.text.Goals as goal
