@@ -13,7 +13,7 @@ use Rattle.hold_back.specs.declared.held.Held.{Held}
 use Rattle.hold_back.specs.declared.need.Need.{Need}
 use Rattle.hold_back.specs.declared.need.Need.TheVariants.{Element, Front}
 use Rattle.hold_back.specs.Need.{need_eq}
-use Rattle.hold_back.specs.Hold.{waits_for, woken_by, waiting_at}
+use Rattle.hold_back.specs.Hold.{waits_for, woken_at, waiting_at}
 use Rattle.hold_back.specs.Index.{is_awaited}
 
 abbrev pub IsAwaited : List Held → Awaited → Type 0
@@ -56,35 +56,6 @@ any-remove p (h ∷ held) (suc i) none =
 pub none_awaits-remove : (held : List Held) (i : ℕ) (awaited : Awaited) → IsAwaited held awaited → IsAwaited (remove held i) awaited
 none_awaits-remove held i awaited is known need none = any-remove (waits_for need) held i (is known need none)
 
-any_woken : (other need : Need) (held : List Held) → list_any (waits_for other) held ≡ false → list_any (waits_for other) (woken_by need held) ≡ false
-any_woken other need [] none = refl
-any_woken other need (h ∷ held) none =
-    let parts = or_parts (waits_for other h) (list_any (waits_for other) held) none in
-    by (waits_for need h) parts.0 (any_woken other need held parts.1)
-  where
-    by : (b : Bool) → waits_for other h ≡ false → list_any (waits_for other) (woken_by need held) ≡ false
-        → (waits_for other (cond b (record { message = h.message; need = None }) h) || list_any (waits_for other) (woken_by need held)) ≡ false
-    by true here rest = rest
-    by false here rest = ap (λ b. b || list_any (waits_for other) (woken_by need held)) here ∙ rest
-
-any_woken_own : (need : Need) (held : List Held) → list_any (waits_for need) (woken_by need held) ≡ false
-any_woken_own need [] = refl
-any_woken_own need (h ∷ held) = by (waits_for need h) refl (any_woken_own need held)
-  where
-    by : (b : Bool) → waits_for need h ≡ b → list_any (waits_for need) (woken_by need held) ≡ false
-        → (waits_for need (cond b (record { message = h.message; need = None }) h) || list_any (waits_for need) (woken_by need held)) ≡ false
-    by true e rest = rest
-    by false e rest = ap (λ b. b || list_any (waits_for need) (woken_by need held)) e ∙ rest
-
-pub none_awaits-woken : (held : List Held) (need : Need) (old new : Awaited) → IsAwaited held old → IsLess need old new → IsAwaited (woken_by need held) new
-none_awaits-woken held need old new is less known other none = by (need_eq need other) refl
-  where
-    by : (b : Bool) → need_eq need other ≡ b → list_any (waits_for other) (woken_by need held) ≡ false
-    by true e = subst (λ (n : Need). list_any (waits_for n) (woken_by need held) ≡ false) (same_need need other e) (any_woken_own need held)
-    by false e =
-        let was : is_awaited old other ≡ false = sym (ap (λ b. not b && is_awaited old other) e) ∙ sym (less.left other) ∙ none in
-        any_woken other need held (is (sym less.known ∙ known) other was)
-
 any_set : (p : Held → Bool) (held : List Held) (i : ℕ) (y : Held) → p y ≡ false → list_any p held ≡ false → list_any p (slice_set held i y) ≡ false
 any_set p [] i y one none = none
 any_set p (h ∷ held) zero y one none = ap (λ b. b || list_any p held) one ∙ (or_parts (p h) (list_any p held) none).1
@@ -101,6 +72,24 @@ none_awaits-waiting held i need old new is more known other none =
         → list_any (waits_for other) (elim x [ Some h ↦ slice_set held i (record { message = h.message; need = Some need }) | None ↦ held ]) ≡ false
     by None one rest = rest
     by (Some h) one rest = any_set (waits_for other) held i (record { message = h.message; need = Some need }) one rest
+
+pub none_awaits-woken_at : (held : List Held) (i : ℕ) (awaited : Awaited) → IsAwaited held awaited → IsAwaited (woken_at i held) awaited
+none_awaits-woken_at held i awaited is known other none = by (slice_get held i) (is known other none)
+  where
+    by : (x : Option Held) → list_any (waits_for other) held ≡ false
+        → list_any (waits_for other) (elim x [ Some h ↦ slice_set held i (record { message = h.message; need = None }) | None ↦ held ]) ≡ false
+    by None rest = rest
+    by (Some h) rest = any_set (waits_for other) held i (record { message = h.message; need = None }) refl rest
+
+-- a need under which none waits is let go of
+pub none_awaits-met : (held : List Held) (need : Need) (old new : Awaited) → IsAwaited held old → list_any (waits_for need) held ≡ false → IsLess need old new → IsAwaited held new
+none_awaits-met held need old new is free less known other none = by (need_eq need other) refl
+  where
+    by : (b : Bool) → need_eq need other ≡ b → list_any (waits_for other) held ≡ false
+    by true e = subst (λ (n : Need). list_any (waits_for n) held ≡ false) (same_need need other e) free
+    by false e =
+        let was : is_awaited old other ≡ false = sym (ap (λ b. not b && is_awaited old other) e) ∙ sym (less.left other) ∙ none in
+        is (sym less.known ∙ known) other was
 
 not_false : (b : Bool) → not b ≡ false → b ≡ true
 not_false true h = refl

@@ -12,7 +12,7 @@ use Rattle.hold_back.specs.declared.held.Held.{Held}
 use Rattle.hold_back.specs.declared.need.Need.{Need}
 use Rattle.hold_back.specs.declared.need.Need.TheVariants.{Element, Front}
 use Rattle.hold_back.specs.Need.{need_eq}
-use Rattle.hold_back.specs.Hold.{is_woken, waits_for, woken_if, woken_by, waiting_at, due_at, only_woken_due}
+use Rattle.hold_back.specs.Hold.{is_woken, waits_for, woken_if, woken_by, needing_at, due_at, only_woken_due}
 use Rattle.hold_back.specs.Index.{is_like, in_census, held_like}
 use Rattle.hold_back.proofs.Holds.{first_woken_due_is}
 
@@ -75,100 +75,30 @@ sum_set f (x ∷ held) (suc i) h y there =
     let other = sum_by-cons f x (slice_set held i y) in
     omega (arith, rest, first, other)
 
-sum_waiting : (held : List Held) (i : ℕ) (need : Need) (left other : Option Need) → option_map (λ h. h.need) (slice_get held i) ≡ Some left
-    → held_like other (waiting_at i need held) + cond (is_like left other) 1 0 ≡ held_like other held + cond (is_like (Some need) other) 1 0
-sum_waiting held i need left other there = by (slice_get held i) refl there
+sum_needing : (held : List Held) (i : ℕ) (need left other : Option Need) → option_map (λ h. h.need) (slice_get held i) ≡ Some left
+    → held_like other (needing_at i need held) + cond (is_like left other) 1 0 ≡ held_like other held + cond (is_like need other) 1 0
+sum_needing held i need left other there = by (slice_get held i) refl there
   where
     by : (x : Option Held) → slice_get held i ≡ x → option_map (λ h. h.need) x ≡ Some left
-        → held_like other (elim x [ Some h ↦ slice_set held i (record { message = h.message; need = Some need }) | None ↦ held ]) + cond (is_like left other) 1 0
-        ≡ held_like other held + cond (is_like (Some need) other) 1 0
+        → held_like other (elim x [ Some h ↦ slice_set held i (record { message = h.message; need = need }) | None ↦ held ]) + cond (is_like left other) 1 0
+        ≡ held_like other held + cond (is_like need other) 1 0
     by None e none = absurd (cc)
     by (Some h) e some =
         let same : h.need ≡ left = cc in
-        let y : Held = record { message = h.message; need = Some need } in
+        let y : Held = record { message = h.message; need = need } in
         let sum = sum_set (weight other) held i h y e in
         let w = ap one_if (ap (λ (s : Option Need). is_like s other) same) in
         omega (arith, sum, w)
 
-pub counted-waiting : (held : List Held) (i : ℕ) (need : Need) (left : Option Need) (old mid new : Census) → option_map (λ h. h.need) (slice_get held i) ≡ Some left
+pub counted-needing : (held : List Held) (i : ℕ) (need left : Option Need) (old mid new : Census) → option_map (λ h. h.need) (slice_get held i) ≡ Some left
     → IsCounted held old → ((other : Option Need) → in_census mid other + cond (is_like left other) 1 0 ≡ in_census old other)
-    → ((other : Option Need) → in_census new other ≡ in_census mid other + cond (is_like (Some need) other) 1 0) → IsCounted (waiting_at i need held) new
-counted-waiting held i need left old mid new there counted down up other =
-    let sum = sum_waiting held i need left other there in
+    → ((other : Option Need) → in_census new other ≡ in_census mid other + cond (is_like need other) 1 0) → IsCounted (needing_at i need held) new
+counted-needing held i need left old mid new there counted down up other =
+    let sum = sum_needing held i need left other there in
     let a = down other in
     let b = up other in
     let d = counted other in
     omega (arith, sum, a, b, d)
-
--- ---- those that are woken
-
-like_same : (own need : Need) (other : Option Need) → need_eq own need ≡ true → is_like (Some own) other ≡ is_like (Some need) other
-like_same (Element a) (Element b) None h = refl
-like_same (Element a) (Element b) (Some (Element c)) h = refl
-like_same (Element a) (Element b) (Some (Front c)) h = refl
-like_same (Front a) (Front b) None h = refl
-like_same (Front a) (Front b) (Some (Element c)) h = refl
-like_same (Front a) (Front b) (Some (Front c)) h = refl
-like_same (Element a) (Front b) other h = absurd (cc)
-like_same (Front a) (Element b) other h = absurd (cc)
-
-cond_sum : (b : Bool) (m n : ℕ) → cond b (m + n) 0 ≡ cond b m 0 + cond b n 0
-cond_sum true m n = refl
-cond_sum false m n = refl
-
-one_woken : (need : Need) (other : Option Need) (h : Held)
-    → weight other (woken_if need h) + cond (is_like (Some need) other) (cond (waits_for need h) 1 0) 0 ≡ weight other h + cond (is_like None other) (cond (waits_for need h) 1 0) 0
-one_woken need other h = by h.need refl (waits_for need h) refl
-  where
-    none : (b : Bool) → ◌≡◌ {A = ℕ} (cond b 0 0) 0
-    none true = refl
-    none false = refl
-
-    by : (s : Option Need) → h.need ≡ s → (b : Bool) → waits_for need h ≡ b
-        → weight other (cond b (record { message = h.message; need = None }) h) + cond (is_like (Some need) other) (cond b 1 0) 0 ≡ weight other h + cond (is_like None other) (cond b 1 0) 0
-    by s e false f =
-        let a = none (is_like (Some need) other) in
-        let b = none (is_like None other) in
-        omega (arith, a, b)
-    by None e true f = absurd (cc)
-    by (Some own) e true f =
-        let waits : need_eq own need ≡ true = cc in
-        let same = like_same own need other waits in
-        let w = ap one_if (ap (λ (x : Option Need). is_like x other) e ∙ same) in
-        omega (arith, w)
-
-sum_woken : (need : Need) (other : Option Need) (held : List Held)
-    → held_like other (woken_by need held) + cond (is_like (Some need) other) (count_by (waits_for need) held) 0
-    ≡ held_like other held + cond (is_like None other) (count_by (waits_for need) held) 0
-sum_woken need other [] = by (is_like (Some need) other) (is_like None other)
-  where
-    by : (a b : Bool) → 0 + cond a 0 0 ≡ 0 + cond b 0 0
-    by true true = refl
-    by true false = refl
-    by false true = refl
-    by false false = refl
-sum_woken need other (h ∷ held) =
-    let waits = λ (x : Held). cond (waits_for need x) 1 0 in
-    let k = sum_by-cons waits h held in
-    let a = ap (λ n. cond (is_like (Some need) other) n 0) k ∙ cond_sum (is_like (Some need) other) (waits h) (sum_by waits held) in
-    let b = ap (λ n. cond (is_like None other) n 0) k ∙ cond_sum (is_like None other) (waits h) (sum_by waits held) in
-    let first = one_woken need other h in
-    let rest = sum_woken need other held in
-    let old = sum_by-cons (weight other) h held in
-    let new = sum_by-cons (weight other) (woken_if need h) (woken_by need held) in
-    omega (arith, a, b, first, rest, old, new)
-
-pub counted-woken : (held : List Held) (need : Need) (woken : ℕ) (old mid new : Census) → woken ≡ count_by (waits_for need) held
-    → IsCounted held old → ((other : Option Need) → in_census mid other + cond (is_like (Some need) other) woken 0 ≡ in_census old other)
-    → ((other : Option Need) → in_census new other ≡ in_census mid other + cond (is_like None other) woken 0) → IsCounted (woken_by need held) new
-counted-woken held need woken old mid new e counted down up other =
-    let sum = sum_woken need other held in
-    let n = ap (λ k. cond (is_like (Some need) other) k 0) e in
-    let m = ap (λ k. cond (is_like None other) k 0) e in
-    let a = down other in
-    let b = up other in
-    let d = counted other in
-    omega (arith, sum, n, m, a, b, d)
 
 -- ---- where none is meant
 
@@ -240,22 +170,3 @@ none_wakes need [] none = refl
 none_wakes need (h ∷ held) none =
     let parts = or_parts (waits_for need h) (list_any (waits_for need) held) none in
     ap (λ b. cond b (record { message = h.message; need = None }) h ∷ woken_by need held) parts.0 ∙ ap (λ hs. h ∷ hs) (none_wakes need held parts.1)
-
--- as many as wait for it are among those of its kind
-sum_le : (p q : Held → Bool) → ((h : Held) → q h ≡ true → p h ≡ true) → (held : List Held) → (n : ℕ) × (count_by q held + n ≡ count_by p held)
-sum_le p q implies [] = (0, refl)
-sum_le p q implies (h ∷ held) =
-    let rest = sum_le p q implies held in
-    let a = sum_by-cons (λ x. one_if (q x)) h held in
-    let b = sum_by-cons (λ x. one_if (p x)) h held in
-    let one = by (q h) (p h) (implies h) in
-    (rest.0 + one.0, let r = rest.1 in let o = one.1 in omega (arith, a, b, r, o))
-  where
-    by : (b c : Bool) → (b ≡ true → c ≡ true) → (n : ℕ) × (one_if b + n ≡ one_if c)
-    by true true e = (0, refl)
-    by true false e = absurd (let f : false ≡ true = e refl in cc)
-    by false true e = (1, refl)
-    by false false e = (0, refl)
-
-pub waits-le-like : (need : Need) (held : List Held) → (n : ℕ) × (count_by (waits_for need) held + n ≡ held_like (Some need) held)
-waits-le-like need held = sum_le (λ h. is_like h.need (Some need)) (waits_for need) (waits_like need) held

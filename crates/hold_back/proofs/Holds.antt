@@ -1,5 +1,5 @@
 -- Holds as they change: their messages stay, and their keys stay new.
-use Rattle.std.proofs.Common.{◌≡◌, ℕ, ◌+◌, ◌<◌, zero, suc, Bool, true, false, not, cond, ◌||◌, ◌&&◌, List, [], ◌∷◌, ◌++◌, None, Some, length}
+use Rattle.std.proofs.Common.{◌≡◌, ℕ, ◌+◌, ◌<◌, zero, suc, Bool, true, false, not, cond, ◌||◌, ◌&&◌, List, [], ◌∷◌, ◌++◌, None, Some, length, Option}
 use Rattle.std.proofs.Common.{remove, refl, sym, ap, subst, ◌∙◌, arith, length-append}
 use Rattle.std.specs.Prelude.{map, slice_set, find, option_map, unwrap_or, position, slice_get}
 use Rattle.std.specs.List.{list_any, position_from}
@@ -16,7 +16,7 @@ use Rattle.edit_message.specs.declared.message.Message.{Message}
 use Rattle.hold_back.specs.declared.held.Held.{Held}
 use Rattle.hold_back.specs.declared.need.Need.{Need}
 use Rattle.hold_back.specs.declared.hold.TheConstants.{MAX_HELD}
-use Rattle.hold_back.specs.Hold.{is_woken, waits_for, find_held, woken_if, woken_by, waiting_at, messages_of, keys_of, due_at, only_woken_due}
+use Rattle.hold_back.specs.Hold.{is_woken, waits_for, find_held, woken_if, woken_by, needing_at, woken_at, waiting_at, messages_of, keys_of, due_at, only_woken_due}
 use Rattle.hold_back.specs.Hold.{IsNewKey, IsHold}
 
 -- ---- messages
@@ -38,12 +38,18 @@ messages_set [] i h same = refl
 messages_set (x ∷ held) zero h same = ap (λ o. unwrap_or o h.message ∷ messages_of held) (sym same)
 messages_set (x ∷ held) (suc i) h same = ap (λ messages. x.message ∷ messages) (messages_set held i h same)
 
-pub messages_waiting : (i : ℕ) (need : Need) (held : List Held) → messages_of (waiting_at i need held) ≡ messages_of held
-messages_waiting i need held = elim (slice_get held i) as (λ x. slice_get held i ≡ x
-    → messages_of (elim x [ Some h ↦ slice_set held i (record { message = h.message; need = Some need }) | None ↦ held ]) ≡ messages_of held) [
-      | Some h ↦ λ there. messages_set held i (record { message = h.message; need = Some need }) (ap (option_map (λ x. x.message)) there)
+pub messages_needing : (i : ℕ) (need : Option Need) (held : List Held) → messages_of (needing_at i need held) ≡ messages_of held
+messages_needing i need held = elim (slice_get held i) as (λ x. slice_get held i ≡ x
+    → messages_of (elim x [ Some h ↦ slice_set held i (record { message = h.message; need = need }) | None ↦ held ]) ≡ messages_of held) [
+      | Some h ↦ λ there. messages_set held i (record { message = h.message; need = need }) (ap (option_map (λ x. x.message)) there)
       | None ↦ λ none. refl
     ] refl
+
+pub messages_waiting : (i : ℕ) (need : Need) (held : List Held) → messages_of (waiting_at i need held) ≡ messages_of held
+messages_waiting i need held = messages_needing i (Some need) held
+
+pub messages_woken_at : (i : ℕ) (held : List Held) → messages_of (woken_at i held) ≡ messages_of held
+messages_woken_at i held = messages_needing i None held
 
 -- ---- keys
 
@@ -114,11 +120,8 @@ same_messages held others same hold = record {
   distinct = subst (λ (keys : List Key). EachAfter IsNewKey keys) (sym (ap (map key_of) same)) hold.distinct;
 }
 
-pub IsHold-woken : (need : Need) (held : List Held) → IsHold held → IsHold (woken_by need held)
-IsHold-woken need held hold = same_messages held (woken_by need held) (messages_woken need held) hold
-
-pub IsHold-waiting : (held : List Held) (i : ℕ) (need : Need) → IsHold held → IsHold (waiting_at i need held)
-IsHold-waiting held i need hold = same_messages held (waiting_at i need held) (messages_waiting i need held) hold
+pub IsHold-needing : (held : List Held) (i : ℕ) (need : Option Need) → IsHold held → IsHold (needing_at i need held)
+IsHold-needing held i need hold = same_messages held (needing_at i need held) (messages_needing i need held) hold
 
 -- ---- the first that is due
 

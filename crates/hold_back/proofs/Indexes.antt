@@ -13,12 +13,12 @@ use Rattle.hold_back.specs.declared.hold.TheConstants.{MAX_HELD}
 use Rattle.hold_back.specs.declared.keys.HeldKeys.{HeldKeys}
 use Rattle.hold_back.specs.declared.need.Need.{Need}
 use Rattle.hold_back.specs.declared.need.Need.TheVariants.{Element, Front}
-use Rattle.hold_back.specs.Hold.{find_held, waits_for, woken_by, waiting_at, keys_of}
+use Rattle.hold_back.specs.Hold.{find_held, waits_for, woken_at, waiting_at, keys_of}
 use Rattle.hold_back.specs.Index.{keeps_key, is_like, in_census, IsIndexed}
-use Rattle.hold_back.proofs.Holds.{IsHold-keep, IsHold-remove, IsHold-woken, IsHold-waiting, messages_woken, messages_waiting}
-use Rattle.hold_back.proofs.Awaiting.{IsMore, IsLess, none_awaits-keep, none_awaits-remove, none_awaits-woken, none_awaits-waiting}
+use Rattle.hold_back.proofs.Holds.{IsHold-keep, IsHold-remove, IsHold-needing, messages_waiting, messages_woken_at}
+use Rattle.hold_back.proofs.Awaiting.{IsMore, IsLess, none_awaits-keep, none_awaits-remove, none_awaits-waiting, none_awaits-woken_at, none_awaits-met}
 use Rattle.hold_back.proofs.Indexed.{IsKeyed, none_found, keyed-push, keyed-back, keyed-remove}
-use Rattle.hold_back.proofs.Counted.{IsCounted, one_if, weight, sum_without, counted-push, counted-remove, counted-waiting, counted-woken, waits-le-like}
+use Rattle.hold_back.proofs.Counted.{IsCounted, one_if, weight, sum_without, counted-push, counted-remove, counted-needing}
 
 abbrev pub Entered : Key → HeldKeys → HeldKeys → Type 0
 Entered key old new = (k : Key) → keeps_key new k ≡ (key_eq key k || keeps_key old k)
@@ -66,23 +66,32 @@ IsIndexed-remove held i h key old new census fewer needs is there within same do
 same_keys : (held others : List Held) (kept : HeldKeys) → keys_of others ≡ keys_of held → IsKeyed held kept → IsKeyed others kept
 same_keys held others kept same keyed k = keyed k ∙ ap (list_any (λ l. key_eq l k)) (sym same)
 
-pub IsIndexed-woken : (held : List Held) (need : Need) (woken : ℕ) (kept : HeldKeys) (old mid new : Census) (old_needs needs : Awaited) → IsIndexed held kept old old_needs → woken ≡ count_by (waits_for need) held
-    → Fewer (Some need) woken old mid → More None woken mid new → IsLess need old_needs needs → IsIndexed (woken_by need held) kept new needs
-IsIndexed-woken held need woken kept old mid new old_needs needs is e down up less = record {
-  hold = IsHold-woken need held is.hold;
-  keyed = same_keys held (woken_by need held) kept (ap (map key_of) (messages_woken need held)) is.keyed;
-  counted = counted-woken held need woken old mid new e is.counted down up;
-  none_awaits = none_awaits-woken held need old_needs needs is.none_awaits less;
-}
-
 pub IsIndexed-waiting : (held : List Held) (i : ℕ) (need : Need) (left : Option Need) (kept : HeldKeys) (old mid new : Census) (old_needs needs : Awaited) → IsIndexed held kept old old_needs
     → option_map (λ h. h.need) (slice_get held i) ≡ Some left → Fewer left 1 old mid → More (Some need) 1 mid new → IsMore need old_needs needs
     → IsIndexed (waiting_at i need held) kept new needs
 IsIndexed-waiting held i need left kept old mid new old_needs needs is there down up wants = record {
-  hold = IsHold-waiting held i need is.hold;
+  hold = IsHold-needing held i (Some need) is.hold;
   keyed = same_keys held (waiting_at i need held) kept (ap (map key_of) (messages_waiting i need held)) is.keyed;
-  counted = counted-waiting held i need left old mid new there is.counted down up;
+  counted = counted-needing held i (Some need) left old mid new there is.counted down up;
   none_awaits = none_awaits-waiting held i need old_needs needs is.none_awaits wants;
+}
+
+pub IsIndexed-woken_at : (held : List Held) (i : ℕ) (left : Option Need) (kept : HeldKeys) (old mid new : Census) (needs : Awaited) → IsIndexed held kept old needs
+    → option_map (λ h. h.need) (slice_get held i) ≡ Some left → Fewer left 1 old mid → More None 1 mid new → IsIndexed (woken_at i held) kept new needs
+IsIndexed-woken_at held i left kept old mid new needs is there down up = record {
+  hold = IsHold-needing held i None is.hold;
+  keyed = same_keys held (woken_at i held) kept (ap (map key_of) (messages_woken_at i held)) is.keyed;
+  counted = counted-needing held i None left old mid new there is.counted down up;
+  none_awaits = none_awaits-woken_at held i needs is.none_awaits;
+}
+
+pub IsIndexed-met : (held : List Held) (need : Need) (kept : HeldKeys) (census : Census) (old_needs needs : Awaited) → IsIndexed held kept census old_needs → list_any (waits_for need) held ≡ false
+    → IsLess need old_needs needs → IsIndexed held kept census needs
+IsIndexed-met held need kept census old_needs needs is free less = record {
+  hold = is.hold;
+  keyed = is.keyed;
+  counted = is.counted;
+  none_awaits = none_awaits-met held need old_needs needs is.none_awaits free less;
 }
 
 -- ---- what the calls require
@@ -103,6 +112,11 @@ one_there held i h census there counted =
     let a = counted h.need in
     omega (arith, sum, own, a)
 
+-- what is read of the row is what was held
+pub need_held : (given held : List Held) (i : ℕ) (left : Option Need) → given ≡ held → option_map (λ h. h.need) (slice_get given i) ≡ Some left
+    → option_map (λ h. h.need) (slice_get held i) ≡ Some left
+need_held given held i left same there = subst (λ (hs : List Held). option_map (λ h. h.need) (slice_get hs i) ≡ Some left) same there
+
 pub one_waits : (held : List Held) (i : ℕ) (left : Option Need) (census : Census) → option_map (λ h. h.need) (slice_get held i) ≡ Some left → IsCounted held census
     → 1 ≤ in_census census left
 one_waits held i left census there counted = by (slice_get held i) refl there
@@ -119,23 +133,6 @@ few held census need counted =
     let le = count_by-le-length (λ (h : Held). is_like h.need need) held in
     let a = counted need in
     omega (arith, le, a)
-
-pub woken_fits : (held given : List Held) (need : Need) (census : Census) (woken : ℕ) → IsCounted held census → given ≡ held → woken ≡ count_by (waits_for need) given
-    → woken ≤ in_census census (Some need)
-woken_fits held given need census woken counted same e =
-    let le = (waits-le-like need held).1 in
-    let a = counted (Some need) in
-    let b = ap (count_by (waits_for need)) same in
-    omega (arith, le, a, b, e)
-
-pub room_for_woken : (held given : List Held) (need : Need) (old mid : Census) (woken : ℕ) → IsCounted held old → length held ≤ MAX_HELD → given ≡ held
-    → woken ≡ count_by (waits_for need) given → Fewer (Some need) woken old mid → in_census mid None + woken ≤ MAX_HELD + MAX_HELD
-room_for_woken held given need old mid woken counted most same e down =
-    let fits = woken_fits held given need old woken counted same e in
-    let a = few held old (Some need) counted in
-    let b = few held old None counted in
-    let d = down None in
-    omega (arith, fits, a, b, d, most)
 
 pub room_for_one : (held : List Held) (need left : Option Need) (old mid : Census) → IsCounted held old → length held ≤ MAX_HELD → Fewer left 1 old mid
     → in_census mid need + 1 ≤ MAX_HELD + 1

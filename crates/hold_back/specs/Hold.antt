@@ -37,12 +37,20 @@ woken_if need h = if waits_for need h then (record { message = h.message; need =
 abbrev pub woken_by : Need → List Held → List Held
 woken_by need held = map (woken_if need) held
 
--- the one at place i waits under the need
-abbrev pub waiting_at : ℕ → Need → List Held → List Held
-waiting_at i need held = elim (slice_get held i) [
-  | Some h ↦ slice_set held i (record { message = h.message; need = Some need })
+-- the one at place i waits under the need, or no more where there is none
+abbrev pub needing_at : ℕ → Option Need → List Held → List Held
+needing_at i need held = elim (slice_get held i) [
+  | Some h ↦ slice_set held i (record { message = h.message; need = need })
   | None ↦ held
 ]
+
+-- the one at place i waits no more
+abbrev pub woken_at : ℕ → List Held → List Held
+woken_at i held = needing_at i None held
+
+-- the one at place i waits under the need
+abbrev pub waiting_at : ℕ → Need → List Held → List Held
+waiting_at i need held = needing_at i (Some need) held
 
 -- the least place at or above `from` where one is woken
 abbrev pub woken_from : ℕ → List Held → Option ℕ

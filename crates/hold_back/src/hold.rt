@@ -1,13 +1,13 @@
 //! The hold.
-ghost use Rattle.std.specs.Prelude.{◌≡◌, ◌&&◌, ◌≤◌, ◌<◌, ◌++◌, List, [], ◌∷◌, None, Some, length, remove, slice_get, position, find};
+ghost use Rattle.std.specs.Prelude.{◌≡◌, ◌&&◌, ◌≤◌, ◌<◌, ◌++◌, List, [], ◌∷◌, None, Some, false, length, remove, slice_get, position, find};
 ghost use Rattle.std.specs.Prelude.{unwrap_or, option_map, IfOk, IfErr, OnOk, OnErr, IsTrue};
-ghost use Rattle.std.specs.List.{count_by};
+ghost use Rattle.std.specs.List.{list_any};
 ghost use Rattle.std.specs.Option.{option_copied};
 ghost use Rattle.hold_back.specs.declared.fault.HoldFault.TheVariants.{NoMemory as no_memory};
 ghost use Rattle.hold_back.specs.declared.held.Held.{Held};
 ghost use Rattle.element_name.specs.Growing.{EachAfter};
 ghost use Rattle.edit_message.specs.Message.{key_of, key_eq};
-ghost use Rattle.hold_back.specs.Hold.{find_held, keep_fault, woken_by, waiting_at, woken_from, waiting_from, due_at};
+ghost use Rattle.hold_back.specs.Hold.{find_held, keep_fault, woken_at, waiting_at, woken_from, waiting_from, due_at};
 ghost use Rattle.hold_back.specs.Hold.{only_woken_due, is_woken, waits_for, IsNewKey, keys_of};
 ghost use Rattle.hold_back.specs.Index.{IsIndexed};
 
@@ -130,22 +130,23 @@ impl HoldBack {
         }
     }
 
-    /// Wakes the messages that wait under the need. Takes no memory. Where none waits under it this takes time logarithmic
-    /// in the number of held messages; else time in that number.
-    pub fn arrived(&mut self, need: Need)
-        ensures { self.new ≡ woken_by need self.old }
+    /// Wakes the message at a place. Takes constant time, and no memory.
+    pub fn wake(&mut self, i: u32)
+        requires { i < length self.old }
+        ensures { self.new ≡ woken_at i self.old }
     {
-        let waits = Some(need);
-        if self.census.of(&waits) == 0 {
-            return;
-        }
-        if !self.awaited.may(&need) {
-            return;
-        }
-        let woken = count_waiting(&self.held, &need);
-        wake(&mut self.held, &need);
-        self.census.sub(&waits, woken);
-        self.census.add(&None, woken);
+        let left = need_at(&self.held, i as usize);
+        set_woken(&mut self.held, i as usize);
+        self.census.sub(&left, 1);
+        self.census.add(&None, 1);
+    }
+
+    /// Lets go of a need that is met, under which no message waits any more. Takes time logarithmic in the number of held
+    /// messages, and no memory.
+    pub fn met(&mut self, need: Need)
+        requires { list_any (waits_for need) self.old ≡ false }
+        ensures { self.new ≡ self.old }
+    {
         self.awaited.leave(&need);
     }
 
@@ -275,28 +276,19 @@ fn set_need(held: &mut Vec<Parcel>, i: usize, need: &Need)
     held[i].wait(*need);
 }
 
+fn set_woken(held: &mut Vec<Parcel>, i: usize)
+    requires { i < length held.old.items }
+    ensures { held.new.items ≡ woken_at i held.old.items }
+{
+    held[i].hear();
+}
+
 fn take_out(held: &mut Vec<Parcel>, i: usize) -> Held
     requires { i < length held.old.items }
     ensures taken { slice_get held.old.items i ≡ Some result }
     ensures rest { held.new.items ≡ remove held.old.items i }
 {
     held.remove(i).into_held()
-}
-
-// Wakes those that wait under the need.
-fn wake(held: &mut Vec<Parcel>, need: &Need)
-    ensures { held.new.items ≡ woken_by need.now held.old.items }
-{
-    for h in held.iter_mut() {
-        h.hear(*need);
-    }
-}
-
-fn count_waiting(held: &[Parcel], need: &Need) -> u32
-    requires { length held.now ≤ MAX_HELD }
-    ensures { result ≡ count_by (waits_for need.now) held.now }
-{
-    held.iter().filter(|h| h.waits_for(*need)).count() as u32
 }
 
 fn first_woken(held: &[Parcel]) -> Option<usize>

@@ -1,7 +1,7 @@
 //! Held messages behind pointers.
-ghost use Rattle.std.specs.Prelude.{◌≡◌, IfOk};
+ghost use Rattle.std.specs.Prelude.{◌≡◌, IfOk, None};
 ghost use Rattle.edit_message.specs.Message.{key_of, key_eq};
-ghost use Rattle.hold_back.specs.Hold.{is_woken, waits_for, woken_if};
+ghost use Rattle.hold_back.specs.Hold.{is_woken, waits_for};
 
 use crate::held::Held;
 use crate::need::Need;
@@ -73,13 +73,11 @@ impl Parcel {
         self.inside.need
     }
 
-    // Woken, if it waits for this.
-    pub(crate) fn hear(&mut self, need: Need)
-        ensures { self.new ≡ woken_if need self.old }
+    // Woken.
+    pub(crate) fn hear(&mut self)
+        ensures { self.new ≡ record { message = self.old.message; need = None } }
     {
-        if self.waits_for(need) {
-            self.inside.need = None;
-        }
+        self.inside.need = None;
     }
 
     pub(crate) fn wait(&mut self, need: Need)

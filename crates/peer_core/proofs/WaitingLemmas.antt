@@ -2,3 +2,4 @@
 pub mod Rightly
 pub mod OneMore
 pub mod Woken
+pub mod Heard
