@@ -261,10 +261,6 @@ class History:
         op = self.op()
         self.say(f"outlook admin {op_words(op)}", self.host.outlook(op, TOLD_USERS))
 
-    def would_answer(self) -> None:
-        op = self.op()
-        self.say(f"would admin {op_words(op)}", self.host.would_answer(op))
-
     def site(self) -> None:
         link = self.link()
         self.say(f"site {link.site} {link.number}", self.host.site(link))
@@ -287,7 +283,7 @@ class History:
         weights = {
             self.person: 2, self.any_device: 3, self.change_secret: 1, self.leave: 1, self.admit: 10, self.close: 2,
             self.offer: 26, self.order: 12, self.odd: 1, self.own_step: 8, self.save: 9,
-            self.give: 14, self.tell: 5, self.outlook: 4, self.would_answer: 1, self.site: 3, self.text: 2,
+            self.give: 14, self.tell: 5, self.outlook: 5, self.site: 3, self.text: 2,
         }
         return list(weights), list(weights.values())
 

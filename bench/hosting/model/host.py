@@ -173,9 +173,6 @@ class Host:
 
     # ---- questions
 
-    def would_answer(self, op: Op) -> str:
-        return answer(self.peer, Administer(op)).words
-
     def outlook(self, op: Op, users: int) -> str:
         """The requests that an operation would undo, how many of each of the first users, and the answer."""
         would = answer(self.peer, Administer(op))

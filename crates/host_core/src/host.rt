@@ -170,14 +170,6 @@ impl<K: Keeper> Host<K> {
         self.make(Some(link), step)
     }
 
-    /// What the host's peer would answer to an operation now. Nothing changes. Takes the time and memory of the whole
-    /// journal.
-    pub fn would_answer(&self, alloc: Global, op: &AdminOp) -> Result<Answer, NoMemory>
-        ensures { IfOk result (λ answer. answer ≡ answer_of (host_peer self.now.register) (Step.Administer op.now)) }
-    {
-        Ok(self.outlook(alloc, op)?.answer)
-    }
-
     /// What the host's peer would answer to an operation now, and which requests that would undo, so how many of whom.
     /// Nothing changes. Takes the time and memory of the whole journal.
     pub fn outlook(&self, alloc: Global, op: &AdminOp) -> Result<Outlook, NoMemory>

@@ -1,5 +1,5 @@
 //! What an operation would do.
-ghost use Rattle.std.specs.Prelude.{◌≡◌, ◌==◌, ◌++◌, filter_map, length, count_by, IfOk, OnOk};
+ghost use Rattle.std.specs.Prelude.{◌≡◌, ◌++◌, filter_map, length, IfOk, OnOk};
 ghost use Rattle.std.specs.Option.{option_to_list};
 ghost use Rattle.edit_message.specs.Message.{key_of};
 ghost use Rattle.request_state.specs.State.{is_tentative, is_invalid};
@@ -21,18 +21,6 @@ use std::alloc::Global;
 pub struct Outlook {
     pub answer: Answer,
     pub undone: Vec<Name>,
-}
-
-impl Outlook {
-    /// How many requests of a user would be undone. Passes over the names.
-    pub fn undone_of(&self, user: u16) -> usize
-        ensures { result ≡ count_by (λ name. name.site == user) self.now.undone.items }
-    {
-        self.undone
-            .iter()
-            .filter(|name| name.site() == user)
-            .count()
-    }
 }
 
 // The messages of a peer's journal.
