@@ -8,18 +8,18 @@ abbrev pub HasNoEnd : ℕ → List ℕ → Type 0
 HasNoEnd count bytes = (k : ℕ) → k < count → slice_index bytes k ≢ LINE_END
 
 -- behind so many bytes stands a line end, or nothing where the input has ended
-abbrev pub EndsAt : Bool → List ℕ → ℕ → Type 0
-EndsAt ended rest size = (slice_index rest size ≡ LINE_END) ⊎ ((ended ≡ true) × (size ≡ length rest))
+abbrev pub LineEndsAt : Bool → List ℕ → ℕ → Type 0
+LineEndsAt ended rest size = (slice_index rest size ≡ LINE_END) ⊎ ((ended ≡ true) × (size ≡ length rest))
 
 -- bytes that weren't taken begin with a line of so many: it has no more than a line may have, and is whole
 pub record IsNextLine (ended : Bool) (rest : List ℕ) (size : ℕ) : Type 0 where
   pub within : size ≤ length rest
   pub short : size ≤ MAX_ROW
   pub one : HasNoEnd size rest
-  pub ends : EndsAt ended rest size
+  pub ends : LineEndsAt ended rest size
 
 -- no line ends within as many bytes as a line may have, and there are more
-pub record IsTooLong (rest : List ℕ) : Type 0 where
+pub record HasTooLongLine (rest : List ℕ) : Type 0 where
   pub more : MAX_ROW < length rest
   pub one : HasNoEnd MAX_ROW rest
 

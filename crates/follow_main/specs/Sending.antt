@@ -16,11 +16,11 @@ is_taken Waits = true
 is_taken Gone = false
 
 -- a message stands whole behind what waited in a socket, of which some has gone
-abbrev pub IsSent : {S : Type 0} → Content → Socket S → Socket S → Type 0
-IsSent content old new = (gone : List ℕ) × Leaves (write_step old.conn content) new.conn old.output (gone ++ new.output)
+abbrev pub StandsWhole : {S : Type 0} → Content → Socket S → Socket S → Type 0
+StandsWhole content old new = (gone : List ℕ) × Leaves (write_step old.conn content) new.conn old.output (gone ++ new.output)
 
 -- what a follower passes is sent on a socket as one message: the frames of the device's own among it, whole and in order
 pub record SendsPassed {S : Type 0} (old new : List FollowEvent) (before after : Socket S) : Type 0 where
   pub frames : List ℕ
   pub passed : PassesFrames old new frames
-  pub sent : IsSent (binary frames) before after
+  pub sent : StandsWhole (binary frames) before after

@@ -1,6 +1,6 @@
 //! Addresses of documents.
 ghost use Rattle.std.specs.Prelude.{◌≡◌, ◌<◌, length, take, IfSome};
-ghost use Rattle.follow_main.specs.Addresses.{in_front, behind, IsPlace, IsKey, IsAddress};
+ghost use Rattle.follow_main.specs.Addresses.{before_byte, after_byte, IsPlace, IsKey, IsAddress};
 
 /// What stands behind the `#` of an address.
 #[derive(Clone, Copy)]
@@ -77,8 +77,8 @@ fn path_of(path: &str) -> Option<&str>
 
 // A text up to the first of some letter, and what stands behind that; nothing where it isn't there.
 fn parted(text: &str, letter: char) -> (&str, &str)
-    ensures front { letter < 128 → result.0.now ≡ in_front letter text.now }
-    ensures back { letter < 128 → result.1.now ≡ behind letter text.now }
+    ensures front { letter < 128 → result.0.now ≡ before_byte letter text.now }
+    ensures back { letter < 128 → result.1.now ≡ after_byte letter text.now }
 {
     match text.split_once(letter) {
         Some((front, back)) => (front, back),

@@ -1,6 +1,6 @@
 //! The lines of the standard input.
 ghost use Rattle.std.specs.Prelude.{◌≡◌, ◌≤◌, ◌+◌, ℕ, [], true, length, drop, take, min, IfSome, IfNone};
-ghost use Rattle.follow_main.specs.Lines.{EndsAt, HasNoEnd, IsNextLine, HasNoLine, IsTooLong};
+ghost use Rattle.follow_main.specs.Lines.{LineEndsAt, HasNoEnd, IsNextLine, HasNoLine, HasTooLongLine};
 ghost use Rattle.follow_main.specs.declared.input.NextLine.{NextLine};
 
 use follow_talk::MAX_ROW;
@@ -40,7 +40,7 @@ pub enum NextLine {
 fn next_size(ended: bool, rest: &[u8]) -> Option<usize>
     ensures within { IfSome result (λ size. size ≤ length rest.now) }
     ensures one { IfSome result (λ size. HasNoEnd size rest.now) }
-    ensures ends { IfSome result (λ size. EndsAt ended rest.now size) }
+    ensures ends { IfSome result (λ size. LineEndsAt ended rest.now size) }
     ensures none { IfNone result (HasNoEnd (length rest.now) rest.now) }
     ensures all { IfNone result (ended ≡ true → rest.now ≡ []) }
 {
@@ -54,7 +54,7 @@ fn next_size(ended: bool, rest: &[u8]) -> Option<usize>
 // The next line of bytes that weren't taken.
 fn next_of(ended: bool, rest: &[u8]) -> NextLine
     ensures line { (size : ℕ) → result ≡ NextLine.Line size → IsNextLine ended rest.now size }
-    ensures long { result ≡ NextLine.TooLong → IsTooLong rest.now }
+    ensures long { result ≡ NextLine.TooLong → HasTooLongLine rest.now }
     ensures none { result ≡ NextLine.None → HasNoLine ended rest.now }
 {
     match next_size(ended, rest) {
@@ -110,7 +110,7 @@ impl Input {
     /// The next line. The last one may lack its line end.
     pub fn next_line(&self) -> NextLine
         ensures line { (size : ℕ) → result ≡ NextLine.Line size → IsNextLine self.now.ended (drop self.now.at self.now.held.items) size }
-        ensures long { result ≡ NextLine.TooLong → IsTooLong (drop self.now.at self.now.held.items) }
+        ensures long { result ≡ NextLine.TooLong → HasTooLongLine (drop self.now.at self.now.held.items) }
         ensures none { result ≡ NextLine.None → HasNoLine self.now.ended (drop self.now.at self.now.held.items) }
     {
         let rest = self.rest();

@@ -1,15 +1,11 @@
 //! Links that came so far.
-ghost use Rattle.std.specs.Prelude.{◌≡◌, true, IfOk, IfSome};
-ghost use Rattle.follow_talk.specs.Sending.{PassesFrames};
-ghost use Rattle.follow_main.specs.Ends.{is_final};
-ghost use Rattle.follow_main.specs.Sending.{is_taken, SendsPassed};
+ghost use Rattle.std.specs.Prelude.{◌≡◌};
 
 use crate::address::Key;
 use crate::device::Device;
 use crate::dial::{Greeted, Reached, begin, dial, greet, reach};
 use crate::edge::Edge;
-use crate::renewed::RENEWED;
-use crate::socket::{Came, Sent, Socket, flush, next_message, send_frames, send_text};
+use crate::socket::{Came, Sent, Socket, next_message, send_text};
 use crate::stage::{Linked, Stage};
 use crate::told::{or_status, status_of};
 use follow_talk::{HostText, Stop, Welcome, read_host_text};
@@ -27,26 +23,10 @@ const SILENCE: u64 = 70_000;
 // How many messages are read in a turn.
 const MOST_READ: u32 = 256;
 
-// How many messages are sent in a turn.
-const MOST_SENT: u32 = 64;
-
-// About how many bytes a message has that is sent.
-const MESSAGE: usize = 32_768;
-
 // The shortest and the longest pause before a link is tried again, in milliseconds.
 const SHORT_PAUSE: u64 = 250;
 
 const LONG_PAUSE: u64 = 30_000;
-
-// The close of a link to a document that isn't there, or can't be opened.
-const NO_DOCUMENT: u16 = 4014;
-
-// The closes that aren't mended by linking again.
-fn is_final(code: u16) -> bool
-    ensures { result ≡ is_final code }
-{
-    matches!(code, 4000..=4006 | 4013 | 4015 | 4016 | RENEWED)
-}
 
 // Why a turn ends otherwise than by going on.
 #[derive(Clone, Copy, Debug, PartialEq, Eq)]
@@ -268,51 +248,6 @@ impl<'a> Edge<'a> {
         }
     }
 
-    // Says that a host closed a link.
-    fn tell_close(&mut self, code: u16, words: &str) -> Result<(), Stop> {
-        let line = format!(in self.alloc; "closed {code} {words}")?;
-        let said = self.say(line.as_str());
-        drop(line);
-        said?;
-        if code == RENEWED {
-            return self.tell_renewed();
-        }
-        Ok(())
-    }
-
-    // Whether the device was let in to its document once.
-    fn knows_document(&self) -> bool {
-        match &self.device {
-            Some(device) => device.knows_document(),
-            None => false,
-        }
-    }
-
-    // Whether a close ends the run. A document that was there may come back; an address that never led to one is wrong.
-    fn ends_by(&self, code: u16) -> bool
-        ensures { is_final code ≡ true → result ≡ true }
-    {
-        is_final(code) || (code == NO_DOCUMENT && !self.knows_document())
-    }
-
-    // Tells of a close, and says what it makes of the turn.
-    fn closed(&mut self, code: u16, words: &str) -> Turned {
-        self.is_missing = code == NO_DOCUMENT;
-        match self.tell_close(code, words) {
-            Ok(()) if self.ends_by(code) => Turned::Ends(Status::LinkFault),
-            Ok(()) => Turned::Gone,
-            Err(stop) => Turned::from(stop),
-        }
-    }
-
-    // The host has no document of this name: as if it had closed a link to it, once.
-    fn missing(&mut self) -> Turned {
-        if self.is_missing {
-            return Turned::Gone;
-        }
-        self.closed(NO_DOCUMENT, "no such document")
-    }
-
     // Takes frames, one after another.
     fn take_frames(&mut self, bytes: &[u8]) -> Result<(), Turned> {
         let Some(talk) = &mut self.talk else {
@@ -439,13 +374,13 @@ impl<'a> Edge<'a> {
     }
 
     // Puts a stage in the place of the one that was taken out.
-    fn put_stage(&mut self, stage: Stage) {
+    pub(crate) fn put_stage(&mut self, stage: Stage) {
         let none = mem::replace(&mut self.stage, stage);
         drop(none);
     }
 
     // A link that stood, or was begun, is gone, or the run ends.
-    fn turned(&mut self, turned: Turned, was_linked: bool) -> Result<(), Status> {
+    pub(crate) fn turned(&mut self, turned: Turned, was_linked: bool) -> Result<(), Status> {
         if let Turned::Ends(status) = turned {
             return Err(status);
         }
@@ -467,85 +402,6 @@ impl<'a> Edge<'a> {
                 Ok(())
             }
             Err(turned) => self.turned(turned, was_linked),
-        }
-    }
-
-    // The frames of the next requests that are to be sent; none without a peer.
-    fn next_frames(&mut self) -> Result<Vec<u8>, Stop>
-        ensures { IfOk result (λ frames. IfSome self.old.talk (λ t. IfSome self.new.talk (λ u. PassesFrames t.follower.outbox u.follower.outbox frames.items))) }
-    {
-        match &mut self.talk {
-            Some(talk) => talk.frames(MESSAGE),
-            None => Ok(Vec::new(self.alloc)),
-        }
-    }
-
-    // Sends the next requests on a socket. None where there are none.
-    fn send_next(&mut self, socket: &mut Socket) -> Result<Option<Sent>, Turned>
-        ensures { IfOk result (λ sent. IfSome sent (λ taken. is_taken taken ≡ true
-            → IfSome self.old.talk (λ t. IfSome self.new.talk (λ u. SendsPassed t.follower.outbox u.follower.outbox socket.old socket.new)))) }
-    {
-        let frames = self.next_frames()?;
-        if frames.is_empty() {
-            return Ok(None);
-        }
-        Ok(Some(send_frames(self.alloc, socket, &frames)))
-    }
-
-    // Sends requests on a link, as long as its socket takes them.
-    fn send_some(&mut self, linked: &mut Linked) -> Result<(), Turned> {
-        for _ in 0..MOST_SENT {
-            match self.send_next(&mut linked.socket)? {
-                None => return Ok(()),
-                Some(Sent::All) => {}
-                Some(Sent::Waits) => {
-                    linked.is_blocked = true;
-                    return Ok(());
-                }
-                Some(Sent::Gone) => return Err(Turned::Gone),
-            }
-        }
-        self.again = true;
-        Ok(())
-    }
-
-    // Sends what a link lacks.
-    fn push_linked(&mut self, linked: &mut Linked) -> Result<(), Turned> {
-        if linked.is_blocked {
-            match flush(&mut linked.socket) {
-                Sent::All => linked.is_blocked = false,
-                Sent::Waits => return Ok(()),
-                Sent::Gone => return Err(Turned::Gone),
-            }
-        }
-        if linked.writes {
-            self.send_some(linked)?;
-        }
-        Ok(())
-    }
-
-    // Sends on a link what it lacks.
-    fn push_to(&mut self, mut linked: Linked) -> Result<(), Status> {
-        match self.push_linked(&mut linked) {
-            Ok(()) => {
-                self.put_stage(Stage::Linked(linked));
-                Ok(())
-            }
-            Err(turned) => {
-                drop(linked);
-                self.turned(turned, true)
-            }
-        }
-    }
-
-    /// Sends what is saved and wasn't sent.
-    pub(crate) fn push(&mut self) -> Result<(), Status> {
-        match mem::replace(&mut self.stage, Stage::Apart) {
-            Stage::Linked(linked) => self.push_to(linked),
-            other => {
-                self.put_stage(other);
-                Ok(())
-            }
         }
     }
 }

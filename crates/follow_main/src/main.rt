@@ -5,6 +5,7 @@
 #![tactic(auto)]
 
 mod address;
+mod closing;
 mod device;
 mod dial;
 mod edge;
@@ -13,6 +14,7 @@ mod input;
 mod link;
 mod opening;
 mod output;
+mod pushing;
 mod renewed;
 mod setting;
 mod socket;

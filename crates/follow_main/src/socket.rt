@@ -2,7 +2,7 @@
 ghost use Rattle.std.specs.Prelude.{◌≡◌, true};
 ghost use Rattle.tungstenite.specs.Content as content;
 ghost use Rattle.tungstenite.specs.Failure.{IsIo};
-ghost use Rattle.follow_main.specs.Sending.{is_taken, IsSent};
+ghost use Rattle.follow_main.specs.Sending.{is_taken, StandsWhole};
 
 use mio::net::TcpStream;
 use std::alloc::Global;
@@ -75,7 +75,7 @@ fn after_error(error: &Error) -> Sent
 
 /// Sends a text.
 pub(crate) fn send_text(alloc: Global, socket: &mut Socket, text: &str) -> Sent
-    ensures { is_taken result ≡ true → IsSent (content.text text.now) socket.old socket.new }
+    ensures { is_taken result ≡ true → StandsWhole (content.text text.now) socket.old socket.new }
 {
     let Ok(message) = Message::text(alloc, text) else {
         return Sent::Gone;
@@ -88,7 +88,7 @@ pub(crate) fn send_text(alloc: Global, socket: &mut Socket, text: &str) -> Sent
 
 /// Sends frames.
 pub(crate) fn send_frames(alloc: Global, socket: &mut Socket, frames: &[u8]) -> Sent
-    ensures { is_taken result ≡ true → IsSent (content.binary frames.now) socket.old socket.new }
+    ensures { is_taken result ≡ true → StandsWhole (content.binary frames.now) socket.old socket.new }
 {
     let Ok(message) = Message::binary(alloc, frames) else {
         return Sent::Gone;
