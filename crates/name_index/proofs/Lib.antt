@@ -4,3 +4,5 @@ pub mod Changes
 pub mod Results
 pub mod Flats
 pub mod Keys
+pub mod Rows
+pub mod Numbers

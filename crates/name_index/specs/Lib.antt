@@ -1,2 +1,5 @@
 pub mod Chunks
 pub mod Packed
+pub mod Rows
+pub mod RowLends
+pub mod Lends

@@ -10,5 +10,5 @@ fn little_memory(rt: HostRuntime) {
     assert_eq!(rt; size_of::<PackedRequest>(), 56);
     assert_eq!(rt; size_of::<PackedMessage>(), 64);
     assert_eq!(rt; size_of::<Kept>(), 72);
-    assert_eq!(rt; size_of::<Cell>(), 8);
+    assert_eq!(rt; size_of::<Cell>(), 56);
 }
