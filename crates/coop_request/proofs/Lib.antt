@@ -1,3 +1,3 @@
 pub mod PieceRow
 pub mod Histories
-pub mod ShortRows
+pub mod PaddedRows

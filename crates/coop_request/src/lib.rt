@@ -10,6 +10,7 @@ mod packed_piece;
 mod packed_request;
 mod piece;
 mod request;
+mod row;
 
 pub use edit::{Edit, Right};
 pub use packed_piece::{PackedPiece, SHORT_PIECE};

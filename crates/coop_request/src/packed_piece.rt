@@ -1,9 +1,10 @@
 //! Packed pieces.
 ghost use Rattle.std.specs.Prelude.{◌≡◌, ◌≤◌, length, IfOk, IsOk};
-ghost use Rattle.element_name.specs.Rows.{row_from, row_items};
+ghost use Rattle.element_name.specs.Rows.{row_items};
 ghost use Rattle.coop_request.specs.ShortRow.{HoldsShort};
 
 use crate::piece::Piece;
+use crate::row::padded;
 use element_name::NoMemory;
 use std::alloc::Global;
 use std::marker::Model;
@@ -35,18 +36,6 @@ impl Model for PackedPiece {
     ghost invariant = { λ p. HoldsPacked p.bytes };
 }
 
-// The bytes, and zeros up to 15.
-fn short_row(bytes: &[u8]) -> [u8; 15]
-    requires { length bytes.now ≤ 15 }
-    ensures { result ≡ row_from 15 bytes.now }
-{
-    let mut row = [0; 15];
-    for (i, byte) in bytes.iter().enumerate() {
-        row[i] = *byte;
-    }
-    row
-}
-
 impl PackedPiece {
     /// A piece, packed. A short one takes no memory.
     pub fn of(alloc: Global, piece: Piece) -> Result<PackedPiece, NoMemory>
@@ -61,7 +50,7 @@ impl PackedPiece {
         }
         Ok(PackedPiece {
             bytes: Bytes::Short {
-                row: short_row(bytes),
+                row: padded(bytes),
                 len: bytes.len() as u8,
             },
         })

@@ -1,11 +1,11 @@
 //! Pieces of text.
-ghost use Rattle.std.specs.Prelude.{◌≡◌, length, ◌≤◌, IsTrue};
+ghost use Rattle.std.specs.Prelude.{◌≡◌, length, IsTrue};
 ghost use Rattle.std.specs.Str.{is_utf8};
 ghost use Rattle.std.specs.Char.{encode_utf8};
 ghost use Rattle.element_name.specs.Cases.{when};
-ghost use Rattle.element_name.specs.Rows.{row_from};
 ghost use Rattle.coop_request.specs.Piece.{is_piece};
 
+use crate::row::padded;
 use std::fmt;
 use std::marker::Model;
 
@@ -47,18 +47,6 @@ pub fn is_text(bytes: &[u8]) -> bool
     }
 }
 
-// The bytes, and zeros up to 255.
-fn row_of(bytes: &[u8]) -> [u8; 255]
-    requires { length bytes.now ≤ 255 }
-    ensures { result ≡ row_from 255 bytes.now }
-{
-    let mut row = [0; 255];
-    for (i, byte) in bytes.iter().enumerate() {
-        row[i] = *byte;
-    }
-    row
-}
-
 impl Piece {
     /// The piece of these bytes; none where there are no bytes, more than [`MAX_PIECE`], or they aren't UTF-8.
     pub fn checked(bytes: &[u8]) -> Option<Piece>
@@ -76,7 +64,7 @@ impl Piece {
         ensures { result ≡ bytes.now }
     {
         Piece {
-            row: row_of(bytes),
+            row: padded(bytes),
             len: bytes.len() as u8,
         }
     }
