@@ -23,11 +23,19 @@ impl<T> GhostList<T> {
     pub fn new() -> GhostList<T>
         ensures { result.items ≡ [] }
     {
-        GhostList { of: PhantomData }
+        GhostList::made()
     }
 
     /// The list that the caller's proof makes of this one and of a value.
     pub fn changed<U>(&self, _by: &U) -> GhostList<T>
+        ghost list: { List T }
+        ensures { result.items ≡ list }
+    {
+        GhostList::made()
+    }
+
+    // The list that the caller's proof names.
+    fn made() -> GhostList<T>
         ghost list: { List T }
         ensures { result.items ≡ list }
     {

@@ -1,4 +1,4 @@
--- `new` makes the empty struct, with the items that its clause names. Assumes `Logic`.
+-- `made` makes the empty struct, with the items that the caller's proof picks. Assumes `Logic`.
 use Rattle.std.proofs.Common.{[], ◌∷◌, refl}
 use seplogic.Ra.Ura.{Ura}
 use mir.Syntax.{Fn, Args, a_type}
@@ -27,10 +27,10 @@ use denote.Triple.Table.{entered}
 use denote.Triple.Walked.{says, Stays, walk_of, ends_at, walk_Meets}
 use Rattle.ghost_list.proofs.Walks.{one, mark_made}
 use Rattle.ghost_list.specs.contracts.ghost_list.GhostList as GhostList
-use Rattle.ghost_list.specs.contracts.ghost_list.GhostList.new as F
-use Rattle.ghost_list.specs.contracts.ghost_list.GhostList.new.Key.{name as #self}
-use Rattle.ghost_list.proofs.ghost_list.GhostList.new.Statement as stated
-use Rattle.ghost_list.proofs.ghost_list.GhostList.new.Code as code
+use Rattle.ghost_list.specs.contracts.ghost_list.GhostList.made as F
+use Rattle.ghost_list.specs.contracts.ghost_list.GhostList.made.Key.{name as #self}
+use Rattle.ghost_list.proofs.ghost_list.GhostList.made.Statement as stated
+use Rattle.ghost_list.proofs.ghost_list.GhostList.made.Code as code
 
 module _ (T : RattleType) where
   abbrev args : Args
@@ -62,7 +62,7 @@ module _ (T : RattleType) where
       walks =
           let a = z.0.3 in
           let vss = z.0.4 in
-          let made : (GhostList.the_row (param 0 T)).Denot = record { of = record {}; items = [] } in
+          let made : (GhostList.the_row (param 0 T)).Denot = record { of = record {}; items = z.1 } in
           qed 𝓛 ((raw toks ⊛ ‵ (owns (types_at ended.signature.params z.0.0) a vss)) ∷ raw ((held z.0.0 a).requires z.1) ∷ []) ∵
           keep ! (0 ∷ []) $ split ! $ keep ! (0 ∷ []) $
           enter ! C Λ function [] Post $ alloc_all ! (λ l. pass_all ! refl tt $
@@ -76,9 +76,9 @@ module _ (T : RattleType) where
     meets : (𝓣 : Tables 𝓤 H) → Meets 𝓛 ended.signature (WpFn 𝓤 H 𝓣.C 𝓣.Λ function) (closing 𝓛 ended held)
     meets 𝓣 = walk_Meets 𝓛 ended stayed tt held (WpFn 𝓤 H 𝓣.C 𝓣.Λ function) (WpFn-mono 𝓤 H 𝓛.laws 𝓣 function) (walks 𝓣.C 𝓣.Λ)
 
-pub new_spec : {M : Type 1} → stated.statement M
+pub made_spec : {M : Type 1} → stated.statement M
 unfolding tables_of
-new_spec 𝓤 𝓛 𝓜 𝓡 wired T L =
+made_spec 𝓤 𝓛 𝓜 𝓡 wired T L =
     let 𝓣 : Tables 𝓤 𝓛.H = tables_of 𝓤 𝓛.H 𝓜 (tables 𝓤 𝓛.H 𝓜 𝓡 𝓡.env) in
     entered 𝓤 𝓛.H (triple_of 𝓛 (ended T).signature (closing 𝓛 (ended T) (held T 𝓛 𝓜.mem 𝓡.returns))) 𝓣.C 𝓣.Λ (#self (args T)) (function T)
     (code.unfolded 𝓤 𝓛.H 𝓜 𝓡 wired (T, tt)) (meets T 𝓛 𝓜.mem 𝓡.returns 𝓣)
