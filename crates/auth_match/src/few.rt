@@ -3,8 +3,8 @@ ghost use Rattle.std.specs.Prelude.{◌≡◌, true, find};
 ghost use Rattle.std.specs.List.{list_any};
 ghost use Rattle.std.specs.Option.{option_copied};
 ghost use Rattle.policy_book.specs.Policy.{is_user, is_member};
-ghost use Rattle.auth_match.specs.Coverage.{IsJudged, names_with, judged_name};
-ghost use Rattle.auth_match.specs.Verdict.{has_user, object_covers, matches};
+ghost use Rattle.auth_match.specs.Coverage.{IsJudged};
+ghost use Rattle.auth_match.specs.Verdict.{has_user, object_covers_judged, matches_access};
 
 use crate::coverage::covers_judged;
 use crate::right::HasRight;
@@ -42,7 +42,7 @@ fn speaks_of(policy: &Policy, user: u16, set: &UserSet) -> bool
 // Whether the object covers the judged element.
 fn covers_by<P: Places>(places: &P, policy: &Policy, judged: &Judged, object: u16) -> bool
     requires { IsJudged (P.names places.now) judged.now }
-    ensures { result ≡ object_covers (names_with (P.names places.now) judged.now) policy.now (judged_name judged.now) object }
+    ensures { result ≡ object_covers_judged (P.names places.now) policy.now judged.now object }
 {
     match policy.extent(object) {
         Some(extent) => covers_judged(places, extent, *judged),
@@ -53,8 +53,7 @@ fn covers_by<P: Places>(places: &P, policy: &Policy, judged: &Judged, object: u1
 // Whether one of the objects covers the judged element.
 fn any_covers_by<P: Places>(places: &P, policy: &Policy, judged: &Judged, objects: &[u16]) -> bool
     requires { IsJudged (P.names places.now) judged.now }
-    ensures { result ≡ list_any (object_covers (names_with (P.names places.now) judged.now) policy.now (judged_name judged.now))
-        objects.now }
+    ensures { result ≡ list_any (object_covers_judged (P.names places.now) policy.now judged.now) objects.now }
 {
     for object in objects {
         if covers_by(places, policy, judged, *object) {
@@ -68,8 +67,7 @@ fn any_covers_by<P: Places>(places: &P, policy: &Policy, judged: &Judged, object
 fn matches_alone<P: Places>(places: &P, policy: &Policy, access: &Access, auth: &Auth) -> bool
     requires user { is_user policy.now access.now.user ≡ true }
     requires judged { IsJudged (P.names places.now) access.now.judged }
-    ensures { result ≡ matches (names_with (P.names places.now) access.now.judged)
-        policy.now access.now.user access.now.right (judged_name access.now.judged) auth.now }
+    ensures { result ≡ matches_access (P.names places.now) policy.now access.now auth.now }
 {
     auth.rights.has(access.right)
         && speaks_of(policy, access.user, &auth.users)
@@ -85,8 +83,7 @@ pub(crate) fn first_of_few<'a, P: Places>(
 ) -> Option<&'a NumberedAuth>
     requires user { is_user policy.now access.now.user ≡ true }
     requires judged { IsJudged (P.names places.now) access.now.judged }
-    ensures { option_copied result ≡ find (λ a. matches (names_with (P.names places.now) access.now.judged)
-        policy.now access.now.user access.now.right (judged_name access.now.judged) a.auth) auths.now }
+    ensures { option_copied result ≡ find (λ a. matches_access (P.names places.now) policy.now access.now a.auth) auths.now }
 {
     for a in auths {
         if matches_alone(places, policy, access, a.auth.get()) {
