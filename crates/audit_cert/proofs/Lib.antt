@@ -1,4 +1,5 @@
 pub mod GrantRuns
+pub mod GrantWalks
 pub mod Rematches
 pub mod RematchTables
 pub mod NextMessages

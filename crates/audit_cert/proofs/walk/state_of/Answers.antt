@@ -1,14 +1,12 @@
-use Rattle.std.proofs.Common.{◌≡◌, ℕ, ◌+◌, ◌<◌, ◌≤◌, sym, ap, ◌∙◌, arith, length}
+use Rattle.std.proofs.Common.{◌≡◌, ◌<◌, sym, ap, ◌∙◌, arith}
 use Rattle.coop_request.specs.Request.{user_of}
 use Rattle.policy_book.specs.Policy.{Policy}
 use Rattle.auth_match.specs.Requests.{request_verdict}
 use Rattle.admin_log.specs.Log.{validated_at}
-use Rattle.check_remote.specs.State.{verdict_at, denial_by, denial_at, state_by}
-use Rattle.check_remote.proofs.States.{administrator_law}
 use Rattle.admin_log.specs.VersionTable.{is_noted}
-use Rattle.audit_cert.proofs.Rematches.{verdict_between}
-use Rattle.check_remote.proofs.Walks.{first_behind}
-use Rattle.audit_cert.proofs.WalkedStates.{no_denial, same_decides, denied_here}
+use Rattle.check_remote.specs.State.{state_by}
+use Rattle.check_remote.proofs.States.{administrator_law}
+use Rattle.audit_cert.proofs.WalkedStates.{passed_to_next, decides_last, denied_here}
 use Rattle.audit_cert.proofs.walk.state_of.Goals as goal
 
 pub returns-then-user-eq0 : goal.returns-then-user-eq0
@@ -26,36 +24,25 @@ returns-in-Denied g c =
 
 pub loop-next-preserved : goal.loop-next-preserved
 loop-next-preserved g c =
-    let names = g.P.Places.names c.args.judging.now.places.now in
-    let log = c.args.judging.now.log.now in
-    let q = c.args.request in
-    let table = c.args.judging.now.table.now in
-    let now = c.loop-next in
-    let kept = now.invariant in
-    let end = c.range_end-end.result in
-    let within : now.next ≤ length log + 1 = omega (arith, kept.within, c.range_end-end.ensures.within) in
+    let judging = c.args.judging.now in
+    let names = g.P.Places.names judging.places.now in
+    let kept = c.loop-next.invariant in
     record {
       before = omega (arith, c.next-next-in-loop-next.ensures.from);
       within = c.next-next-in-loop-next.ensures.end;
       policy = c.in_ok-advance.ensures.ok;
-      verdict = c.request_verdict-verdict-in-loop-next.ensures ∙ ap (λ (p : Policy). request_verdict names p q) c.in_ok-advance.ensures.ok;
-      none = λ v low high. ap (is_noted table v) (sym c.user-in-loop-next.ensures) ∙ c.next-next-in-loop-next.ensures.none v low high;
-      left = kept.left ∙ first_behind (denial_at names log q) now.at now.next end (omega (arith, kept.before)) kept.within (λ v low high.
-          ap (denial_by v) (verdict_between names log q table c.requires.table now.at now.next within kept.none v low high ∙ sym kept.verdict)
-          ∙ no_denial v now.verdict c.in_default.not-Denied);
+      verdict = c.request_verdict-verdict-in-loop-next.ensures ∙ ap (λ (p : Policy). request_verdict names p c.args.request) c.in_ok-advance.ensures.ok;
+      none = λ v low high. ap (is_noted judging.table.now v) (sym c.user-in-loop-next.ensures) ∙ c.next-next-in-loop-next.ensures.none v low high;
+      left = kept.left
+          ∙ passed_to_next names judging.log.now c.args.request judging.table.now c.loop-next.at c.loop-next.next c.range_end-end.result c.loop-next.verdict c.requires.table c.range_end-end.ensures.within
+          kept.before kept.within kept.none kept.verdict c.in_default.not-Denied;
     }
 
 pub returns : goal.returns
 returns g c =
-    let names = g.P.Places.names c.args.judging.now.places.now in
-    let log = c.args.judging.now.log.now in
-    let q = c.args.request in
-    let now = c.loop-next in
-    let kept = now.invariant in
-    let end = c.range_end-end.result in
-    let within : now.next ≤ length log + 1 = omega (arith, kept.within, c.range_end-end.ensures.within) in
-    let lt : now.at < end = omega (arith, kept.before, kept.within) in
-    let same : (v : ℕ) → now.at ≤ v → v < end → verdict_at names log q v ≡ now.verdict =
-    λ v low high.
-    verdict_between names log q c.args.judging.now.table.now c.requires.table now.at now.next within kept.none v low (omega (arith, high, c.loop-next-test.false)) ∙ sym kept.verdict in
-    c.state_by-2.ensures ∙ ap (λ d. state_by d (validated_at log q.id)) (same_decides names log q now.at end now.verdict lt same ∙ sym kept.left)
+    let judging = c.args.judging.now in
+    let kept = c.loop-next.invariant in
+    c.state_by-2.ensures
+    ∙ ap (λ d. state_by d (validated_at judging.log.now c.args.request.id))
+    (decides_last (g.P.Places.names judging.places.now) judging.log.now c.args.request judging.table.now c.loop-next.at c.loop-next.next c.range_end-end.result c.loop-next.verdict c.requires.table
+    c.range_end-end.ensures.within kept.before kept.within kept.none kept.verdict (omega (arith, c.loop-next-test.false)) ∙ sym kept.left)
