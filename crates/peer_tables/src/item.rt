@@ -5,14 +5,15 @@ ghost use Rattle.edit_message.specs.Same.{message_eq};
 ghost use Rattle.peer_tables.specs.Items.{message_by};
 
 use admin_log::AdminLog;
-use coop_request::Request;
+use coop_request::PackedRequest;
 use edit_message::{Key, Message};
 use element_name::NoMemory;
 use policy_book::Entry;
 use request_state::StateTable;
 use std::marker::Model;
 
-/// A message of a peer's journal, seen as the message: a request is unpacked, and an entry is borrowed from the log.
+/// A message of a peer's journal, seen as the message. It takes two words: its request is borrowed from the states, its
+/// entry from the log.
 #[derive(Drop)]
 pub struct JournalItem<'a> {
     part: Part<'a>,
@@ -20,7 +21,7 @@ pub struct JournalItem<'a> {
 
 #[derive(Drop)]
 enum Part<'a> {
-    Request(Request),
+    Request(&'a PackedRequest),
     Entry(&'a Entry),
 }
 
@@ -40,7 +41,7 @@ impl<'a> JournalItem<'a> {
         ensures { result ≡ key_of self.now }
     {
         match &self.part {
-            Part::Request(request) => Key::Coop(request.id()),
+            Part::Request(request) => Key::Coop(request.request().id()),
             Part::Entry(entry) => Key::Admin(entry.version()),
         }
     }
@@ -51,7 +52,7 @@ impl<'a> JournalItem<'a> {
         ensures test { result ≡ message_eq self.now other.now }
     {
         match (&self.part, other) {
-            (Part::Request(request), _) => Message::Coop(*request).same(other),
+            (Part::Request(request), _) => Message::Coop(request.request()).same(other),
             (Part::Entry(a), Message::Admin(b)) => a.same(b),
             (Part::Entry(_), Message::Coop(_)) => false,
         }
@@ -62,15 +63,15 @@ impl<'a> JournalItem<'a> {
         ensures { IfOk result (λ c. c ≡ self.now) }
     {
         match &self.part {
-            Part::Request(request) => Ok(Message::Coop(*request)),
+            Part::Request(request) => Ok(Message::Coop(request.request())),
             Part::Entry(entry) => Ok(Message::Admin(entry.copied()?)),
         }
     }
 }
 
 // The item of a request.
-fn of_request<'a>(request: Request) -> JournalItem<'a>
-    ensures { result ≡ Message.Coop request }
+fn of_request(request: &PackedRequest) -> JournalItem<'_>
+    ensures { result ≡ Message.Coop request.now }
 {
     JournalItem {
         part: Part::Request(request),
@@ -95,7 +96,7 @@ pub(crate) fn item_of<'a>(
     ensures { result ≡ message_by states.now log.now key }
 {
     match key {
-        Key::Coop(id) => Some(of_request(states.request(id)?)),
+        Key::Coop(id) => Some(of_request(states.packed_request(id)?)),
         Key::Admin(version) => Some(of_entry(log.entry(version)?)),
     }
 }
