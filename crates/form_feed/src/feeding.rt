@@ -1,5 +1,5 @@
 //! The form that feeds a stream to an intake.
-ghost use Rattle.std.specs.Prelude.{◌≡◌, ◌≢◌, ℕ, ◌+◌, ◌++◌, List, [], true, length, OnOk, IfOk};
+ghost use Rattle.std.specs.Prelude.{◌≡◌, ℕ, ◌+◌, List, [], length};
 ghost use Rattle.line_engine.specs.Engine.{Ran, Reads, StatusCause};
 ghost use Rattle.line_engine.specs.Form.{Rests};
 ghost use Rattle.form_feed.specs.Stream.{stream_output, stream_part, stream_after};

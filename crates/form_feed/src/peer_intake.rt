@@ -1,5 +1,5 @@
 //! A peer as the intake that answers each frame.
-ghost use Rattle.std.specs.Prelude.{◌≡◌, ◌≢◌, ℕ, ◌+◌, ◌++◌, List, OnOk, ⊤};
+ghost use Rattle.std.specs.Prelude.{◌≡◌, ℕ, List, ⊤};
 ghost use Rattle.line_engine.specs.Engine.{Ran, Reads, StatusCause};
 ghost use Rattle.report_text.specs.Closing.{closing_lines};
 ghost use Rattle.form_feed.specs.Turn.{frame_turn};

@@ -1,9 +1,8 @@
 //! What a peer answers to a frame.
-ghost use Rattle.std.specs.Prelude.{◌≡◌, ◌++◌, not, None, OnOk, IfOk};
+ghost use Rattle.std.specs.Prelude.{◌≡◌, ◌++◌, not, OnOk, IfOk};
 ghost use Rattle.peer_step.specs.Answers.{is_quiet};
-ghost use Rattle.peer_core.specs.Answers.{answer_of, answer_settle};
+ghost use Rattle.peer_core.specs.Answers.{answer_settle};
 ghost use Rattle.peer_core.specs.After.{peer_after};
-ghost use Rattle.line_spelling.specs.Answers.{answer_line};
 ghost use Rattle.form_feed.specs.Turn.{settle_line, all_settle_steps, answer_lines, frame_turn};
 
 use edit_frame::Frame;
@@ -12,18 +11,7 @@ use element_name::NoMemory;
 use line_write::put_answer_line;
 use peer_core::Peer;
 use peer_step::{Answer, Step};
-use report_text::{end_line, turn_line};
-
-// Makes a step, and appends the line of its answer.
-fn step_line(peer: &mut Peer, step: Step, out: &mut Vec<u8>) -> Result<(), NoMemory>
-    ensures line { OnOk result (out.new.items ≡ out.old.items ++ answer_line None (answer_of peer.old step)) }
-    ensures peer { OnOk result (peer.new ≡ peer_after peer.old step) }
-{
-    let answer = peer.step(step)?;
-    let told = put_answer_line(out, None, &answer);
-    drop(answer);
-    told
-}
+use report_text::{answer_line_of, end_line, turn_line};
 
 // Appends the line of a settle step's answer but for Quiet, and says whether it is another one.
 fn put_settled(answer: &Answer, out: &mut Vec<u8>) -> Result<bool, NoMemory>
@@ -70,7 +58,7 @@ pub(crate) fn answer_frame(peer: &mut Peer, frame: Frame, out: &mut Vec<u8>) -> 
 {
     match frame {
         Frame::Item(message) => {
-            step_line(peer, Step::Receive(message), out)?;
+            answer_line_of(peer, Step::Receive(message), out)?;
             settle(peer, out)
         }
         Frame::Turn => turn_line(out),

@@ -19,7 +19,7 @@ use Rattle.report_run.specs.Report.{report}
 use Rattle.screen_read.specs.Pages.{PageText}
 use Rattle.screen_read.specs.Screen.{ArePagesOf}
 use Rattle.form_watch.specs.Run.{watch_run}
-use Rattle.form_watch.specs.Reads.{page_line, read_line, NeverFalls, AreReads}
+use Rattle.form_watch.specs.Reads.{page_line, page_line_after, NeverFalls, AreReads}
 use Rattle.form_watch.specs.Workers.{told_page, AreReadPages}
 use Rattle.form_watch.specs.Watch.{done_with, watch_text, end_output, watch_end, WroteWatch, Watches}
 
@@ -32,10 +32,10 @@ within_run : (site : ℕ) (run : List Call) (ps : List PageText) → ArePagesOf 
 within_run site run [] of = All-nil (λ (n : ℕ). n ≤ length run)
 within_run site run (p ∷ ps) of = All-cons (λ (n : ℕ). n ≤ length run) p.steps (steps_in ps) of.0.0 (within_run site run ps of.1)
 
-lines_are : (site : ℕ) (run : List Call) (ps : List PageText) → ArePagesOf site run ps → flat_map page_line ps ≡ flat_map (read_line site run) (steps_in ps)
+lines_are : (site : ℕ) (run : List Call) (ps : List PageText) → ArePagesOf site run ps → flat_map page_line ps ≡ flat_map (page_line_after site run) (steps_in ps)
 lines_are site run [] of = refl
 lines_are site run (p ∷ ps) of =
-    ap (λ (x : PageText). page_line x ++ flat_map page_line ps) of.0.1 ∙ ap (λ (l : List ℕ). read_line site run p.steps ++ l) (lines_are site run ps of.1)
+    ap (λ (x : PageText). page_line x ++ flat_map page_line ps) of.0.1 ∙ ap (λ (l : List ℕ). page_line_after site run p.steps ++ l) (lines_are site run ps of.1)
 
 -- a watch that was run
 pub watched_wrote : (site reads : ℕ) (steps : List Step) (run : List Call) (pages : List PageText) (newest : PageText) (a b : Option (List ℕ)) (s : Status) → run ≡ watch_run steps → AreReadPages site reads run pages newest
@@ -44,7 +44,7 @@ watched_wrote site reads steps run pages newest a b s is are (w, says) =
     let bounded : List PageText = map (told_page newest) pages in
     let seen : List ℕ = steps_in bounded in
     let text : report site run ++ flat_map page_line bounded ≡ watch_text site steps seen
-    = ap (λ (l : List ℕ). report site run ++ l) (lines_are site run bounded are.of_run) ∙ ap (λ (r : List Call). report site r ++ flat_map (read_line site r) seen) is in
+    = ap (λ (l : List ℕ). report site run ++ l) (lines_are site run bounded are.of_run) ∙ ap (λ (r : List Call). report site r ++ flat_map (page_line_after site r) seen) is in
     let reads_are : AreReads reads run seen = record {
       many = length-map bounded (λ (p : PageText). p.steps) ∙ length-map pages (told_page newest) ∙ are.many;
       rising = are.rising;

@@ -13,8 +13,8 @@ abbrev pub page_line : PageText → List ℕ
 page_line p = line_of (spaced (codes "read" ∷ decimal p.steps ∷ shown_words (concat p.text)))
 
 -- the line of a read that saw so many first steps of a run of a site's peer: their number, and the text after them
-abbrev pub read_line : ℕ → List Call → ℕ → List ℕ
-read_line site run n = page_line (page_after site (take n run))
+abbrev pub page_line_after : ℕ → List Call → ℕ → List ℕ
+page_line_after site run n = page_line (page_after site (take n run))
 
 -- no number is less than the one before it
 abbrev pub NeverFalls : List ℕ → Type 0

@@ -10,7 +10,7 @@ use Rattle.line_input.specs.declared.reading.InputEnd.TheVariants.{Whole, BadLin
 use Rattle.report_run.specs.Report.{report}
 use Rattle.form_watch.specs.declared.limits.TheConstants.{MAX_LINES}
 use Rattle.form_watch.specs.Run.{watch_run}
-use Rattle.form_watch.specs.Reads.{read_line, AreReads}
+use Rattle.form_watch.specs.Reads.{page_line_after, AreReads}
 
 -- all of these bytes, with Done
 abbrev pub done_with : List ℕ → Output
@@ -18,7 +18,7 @@ done_with bytes = record { written = bytes; status = status.Done }
 
 -- the report of the run, and then the line of each read, by how many steps it saw
 abbrev pub watch_text : ℕ → List Step → List ℕ → List ℕ
-watch_text site steps seen = report site (watch_run steps) ++ flat_map (read_line site (watch_run steps)) seen
+watch_text site steps seen = report site (watch_run steps) ++ flat_map (page_line_after site (watch_run steps)) seen
 
 -- what is written of an input that ended so, by what is written of a whole one
 abbrev pub end_output : List ℕ → InputEnd → Output

@@ -1,15 +1,14 @@
 //! The lines of a report.
-ghost use Rattle.std.specs.Prelude.{◌≡◌, ◌++◌, None, OnOk, decimal};
-ghost use Rattle.peer_core.specs.Answers.{answer_of};
+ghost use Rattle.std.specs.Prelude.{◌≡◌, ◌++◌, OnOk, decimal};
 ghost use Rattle.peer_core.specs.After.{peer_after};
-ghost use Rattle.line_spelling.specs.Answers.{answer_line};
 ghost use Rattle.report_run.specs.Report.{run_line, asked_text, call_line};
 
 use element_name::NoMemory;
 use itoa::Buffer;
-use line_write::{put, put_answer_line, put_number_word, step_text};
+use line_write::{put, put_number_word, step_text};
 use peer_core::Peer;
 use peer_step::Step;
+use report_text::answer_line_of;
 use std::alloc::Global;
 
 /// Appends the line that says how many steps a run has.
@@ -40,17 +39,6 @@ fn put_asked(alloc: Global, caller: u32, step: &Step, out: &mut Vec<u8>) -> Resu
     put(out, b" => ")
 }
 
-// Makes a step, and appends the line of its answer.
-fn put_answer(peer: &mut Peer, step: Step, out: &mut Vec<u8>) -> Result<(), NoMemory>
-    ensures line { OnOk result (out.new.items ≡ out.old.items ++ answer_line None (answer_of peer.old step)) }
-    ensures peer { OnOk result (peer.new ≡ peer_after peer.old step) }
-{
-    let answer = peer.step(step)?;
-    let told = put_answer_line(out, None, &answer);
-    drop(answer);
-    told
-}
-
 /// Makes a step of a run, and appends its line.
 pub(crate) fn put_call(
     alloc: Global,
@@ -63,7 +51,7 @@ pub(crate) fn put_call(
     ensures peer { OnOk result (peer.new ≡ peer_after peer.old step) }
 {
     match put_asked(alloc, caller, &step, out) {
-        Ok(()) => put_answer(peer, step, out),
+        Ok(()) => answer_line_of(peer, step, out),
         Err(NoMemory) => {
             drop(step);
             Err(NoMemory)
