@@ -26,7 +26,7 @@ pub record Gathering {F : Type 0} (m : Meaning F) (start now : F) (sink_old sink
   pub appends : Appends sink_old sink_new offered
   pub all : answers ≡ offered ++ gathered
 
-module _ {F : Type 0} (m : Meaning F) (start now : F) (sink_old sink_mid : Option (List ℕ)) (taken gathered : List ℕ)
+module _ {F : Type 0} {m : Meaning F} {start now : F} {sink_old sink_mid : Option (List ℕ)} {taken gathered : List ℕ}
     (so_far : Gathering m start now sink_old sink_mid taken gathered) where
   -- a sink that fails has taken the beginning of what would be written
   breaks : (last : F) (sink_new : Option (List ℕ)) (status : Status) (left more : List ℕ) → IsSinkFail status

@@ -7,6 +7,7 @@
 #![tactic(auto)]
 
 mod fail;
+mod item;
 pub mod laws;
 mod message;
 mod numbers;

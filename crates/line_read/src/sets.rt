@@ -1,38 +1,13 @@
 //! Lists of numbers and names, users, rights and signs, as words.
-ghost use Rattle.std.specs.Prelude.{◌≡◌, map};
-ghost use Rattle.line_read.specs.Words.{bytes_of, each_some};
-ghost use Rattle.line_read.specs.ReadsAs.{ReadsAs, ReadsItems};
-ghost use Rattle.line_read.specs.Numbers.{read_short, read_name};
+ghost use Rattle.std.specs.Prelude.{◌≡◌};
+ghost use Rattle.line_read.specs.ReadsAs.{ReadsAs};
 ghost use Rattle.line_read.specs.Sets.{read_numbers, read_names, read_users, read_rights, read_sign};
 
-use crate::numbers::{read_name, read_short};
+use crate::item::read_each;
 use crate::words::parts;
-use element_name::Name;
 use line_spelling::{COMMA, GROUP_SIGN, LineFail};
 use policy_book::{NameList, NumList, Rights, UserSet};
 use std::alloc::Global;
-
-fn read_each_short(alloc: Global, words: &[&[u8]]) -> Result<Vec<u16>, LineFail>
-    ensures { ReadsItems result (each_some (map read_short (bytes_of words.now))) }
-{
-    let mut numbers = Vec::with_capacity(alloc, words.len())?;
-    for word in words {
-        let number = read_short(word).ok_or(LineFail::Bad)?;
-        numbers.push(number)?;
-    }
-    Ok(numbers)
-}
-
-fn read_each_name(alloc: Global, words: &[&[u8]]) -> Result<Vec<Name>, LineFail>
-    ensures { ReadsItems result (each_some (map read_name (bytes_of words.now))) }
-{
-    let mut names = Vec::with_capacity(alloc, words.len())?;
-    for word in words {
-        let name = read_name(word).ok_or(LineFail::Bad)?;
-        names.push(name)?;
-    }
-    Ok(names)
-}
 
 /// Numbers joined by `,`.
 #[tactic(auto, unfolding(crate::specs::Sets::read_numbers))]
@@ -40,7 +15,7 @@ pub(crate) fn read_numbers(alloc: Global, word: &[u8]) -> Result<NumList, LineFa
     ensures { ReadsAs result (read_numbers word.now) }
 {
     let words = parts(alloc, COMMA, word)?;
-    let numbers = read_each_short(alloc, &words)?;
+    let numbers = read_each(alloc, &words)?;
     NumList::checked(numbers).ok_or(LineFail::Bad)
 }
 
@@ -50,7 +25,7 @@ pub(crate) fn read_names(alloc: Global, word: &[u8]) -> Result<NameList, LineFai
     ensures { ReadsAs result (read_names word.now) }
 {
     let words = parts(alloc, COMMA, word)?;
-    let names = read_each_name(alloc, &words)?;
+    let names = read_each(alloc, &words)?;
     NameList::checked(names).ok_or(LineFail::Bad)
 }
 
