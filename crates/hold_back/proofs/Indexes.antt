@@ -117,9 +117,10 @@ pub need_held : (given held : List Held) (i : ℕ) (left : Option Need) → give
     → option_map (λ h. h.need) (slice_get held i) ≡ Some left
 need_held given held i left same there = subst (λ (hs : List Held). option_map (λ h. h.need) (slice_get hs i) ≡ Some left) same there
 
-pub one_waits : (held : List Held) (i : ℕ) (left : Option Need) (census : Census) → option_map (λ h. h.need) (slice_get held i) ≡ Some left → IsCounted held census
-    → 1 ≤ in_census census left
-one_waits held i left census there counted = by (slice_get held i) refl there
+-- and the census counts it
+pub one_waits : (given held : List Held) (i : ℕ) (left : Option Need) (census : Census) → given ≡ held → option_map (λ h. h.need) (slice_get given i) ≡ Some left
+    → IsCounted held census → 1 ≤ in_census census left
+one_waits given held i left census same there counted = by (slice_get held i) refl (need_held given held i left same there)
   where
     by : (x : Option Held) → slice_get held i ≡ x → option_map (λ h. h.need) x ≡ Some left → 1 ≤ in_census census left
     by None e none = absurd (cc)

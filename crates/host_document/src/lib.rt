@@ -8,6 +8,7 @@
 mod document;
 mod endings;
 mod fault;
+pub mod laws;
 mod opened;
 mod renewal;
 mod row;

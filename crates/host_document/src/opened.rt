@@ -40,7 +40,6 @@ const FIRST_RULE: &[u8] = b"admin addauth 0 + all idu 0";
 
 /// A document that is open: the host of its text, its rules, and how many persons and devices the host was told of.
 /// Contracts see what has happened at the host, the newest first.
-#[derive(Drop)]
 pub(crate) struct Opened<'a> {
     host: Host<StoreKeeper<FileDisk<'a>>>,
     rules: Rules,
@@ -64,6 +63,24 @@ impl<'a> Model for Opened<'a> {
     ghost view = { λ o. o.host.register };
 
     ghost invariant = { λ o. IsAbreast o.has_changed o.sealer o.host.register };
+}
+
+// By hand, so that it goes by one call.
+impl Drop for Opened<'_> {
+    fn drop(self) {
+        let Opened {
+            host,
+            rules,
+            sealer,
+            sealed: _,
+            has_changed: _,
+            next_person: _,
+            next_site: _,
+        } = self;
+        drop(host);
+        drop(rules);
+        drop(sealer);
+    }
 }
 
 // The host of the document of this identity, whose steps stand in a file.

@@ -13,7 +13,7 @@ use std::net::{Ipv4Addr, Net, SocketAddrV4, TcpListener, TcpStream};
 use std::random::RandomSource;
 use std::time::{Clock, Duration};
 use tungstenite::handshake::{client, server};
-use tungstenite::{Error, RandomKeys, Role, WebSocket};
+use tungstenite::{ClientHandshake, Error, MidHandshake, RandomKeys, Role, WebSocket};
 
 /// A door to the programs of this machine: a WebSocket over TCP, on 127.0.0.1 alone.
 ///
@@ -43,6 +43,9 @@ impl<R> Model for TcpDoor<R> {
 /// A link that a [`TcpDoor`] gives.
 pub type TcpLink<R> = WsLink<HastyStream<R>, RandomKeys<R>>;
 
+// The socket of such a link.
+type TcpSocket<R> = WebSocket<HastyStream<R>, RandomKeys<R>>;
+
 // How many programs in a row may connect and ask for no link before that counts as a failure.
 const MAX_STRAYS: u32 = 64;
 
@@ -52,10 +55,49 @@ const PATIENCE: u64 = 10;
 // How many random bytes one that asks for a link sends, for the other end to answer by.
 const NONCE: usize = 16;
 
+// A handshake of a link that is asked for.
+type Asking<R> = MidHandshake<ClientHandshake<HastyStream<R>, RandomKeys<R>>>;
+
 // What is read of a program that connected, or that was connected to, until it has asked or answered.
 fn hasty_stream<R: Clock + Drop>(rt: R, stream: TcpStream) -> io::Result<HastyStream<R>> {
     let _ = stream.set_nodelay(true);
     HastyStream::new(rt, stream, Duration::from_secs(PATIENCE))
+}
+
+// The stream of a program that connected, if it asks for a link in time.
+fn asked<R: Clock + Drop + Copy>(
+    alloc: Global,
+    hasty: HastyStream<R>,
+) -> Result<HastyStream<R>, Error> {
+    match server::start(alloc, hasty, LocalPages { alloc }, Some(limits())).handshake() {
+        Ok(socket) => Ok(socket.into_inner()),
+        Err(why) => {
+            drop(why);
+            Err(Error::HandshakeIncomplete)
+        }
+    }
+}
+
+// The link of a stream over which one was asked for. Only a client masks what it sends, so one type serves both ends.
+fn serving<R: RandomSource + Clock + Drop + Copy>(
+    rt: R,
+    alloc: Global,
+    mut stream: HastyStream<R>,
+) -> Result<TcpLink<R>, Error>
+    ensures { IfOk result (λ link. link ≡ new_link) }
+{
+    match stream.take_time() {
+        Ok(()) => {
+            let keys = RandomKeys::new(rt);
+            let limits = Some(limits());
+            let socket = WebSocket::from_raw_socket(alloc, stream, keys, Role::Server, limits);
+            Ok(WsLink::new(alloc, socket))
+        }
+        Err(error) => {
+            drop(stream);
+            Err(Error::Io(error))
+        }
+    }
 }
 
 // The link of a program that connected, if it asks for one in time.
@@ -67,23 +109,8 @@ fn greeted<R: RandomSource + Clock + Drop + Copy>(
     ensures { IfOk result (λ link. link ≡ new_link) }
 {
     let hasty = hasty_stream(rt, stream)?;
-    let config = limits();
-    match server::start(alloc, hasty, LocalPages { alloc }, Some(config)).handshake() {
-        Ok(socket) => {
-            // Only a client masks what it sends, so one type serves both ends.
-            let mut stream = socket.into_inner();
-            stream.take_time()?;
-            let socket = WebSocket::from_raw_socket(
-                alloc,
-                stream,
-                RandomKeys::new(rt),
-                Role::Server,
-                Some(config),
-            );
-            Ok(WsLink::new(alloc, socket))
-        }
-        Err(_) => Err(Error::HandshakeIncomplete),
-    }
+    let stream = asked(alloc, hasty)?;
+    serving(rt, alloc, stream)
 }
 
 // The link of the next program that asks for one. A program that connects and doesn't ask in time is let go.
@@ -105,6 +132,43 @@ fn accepted<R: RandomSource + Clock + Drop + Copy>(
     Err(Failed)
 }
 
+// Asks for a link.
+fn ask<R: RandomSource + Clock + Drop + Copy>(
+    rt: R,
+    alloc: Global,
+    stream: TcpStream,
+) -> Result<Asking<R>, Error> {
+    let mut nonce = [0; NONCE];
+    rt.fill_bytes(&mut nonce)?;
+    let hasty = hasty_stream(rt, stream)?;
+    match client::request_of(alloc, "ws://127.0.0.1/") {
+        Ok(request) => {
+            let keys = RandomKeys::new(rt);
+            client::start(alloc, nonce, keys, request, hasty, Some(limits()))
+        }
+        Err(error) => {
+            drop(hasty);
+            Err(error)
+        }
+    }
+}
+
+// The socket of a program that was asked for a link, if it answers in time.
+fn answered<R: RandomSource + Clock + Drop + Copy>(
+    asking: Asking<R>,
+) -> Result<TcpSocket<R>, Error> {
+    match asking.handshake() {
+        Ok((socket, answer)) => {
+            drop(answer);
+            Ok(socket)
+        }
+        Err(why) => {
+            drop(why);
+            Err(Error::HandshakeIncomplete)
+        }
+    }
+}
+
 // The link of a program that this one connected to, if it answers in time.
 fn connected<R: RandomSource + Clock + Drop + Copy>(
     rt: R,
@@ -113,18 +177,14 @@ fn connected<R: RandomSource + Clock + Drop + Copy>(
 ) -> Result<TcpLink<R>, Error>
     ensures { IfOk result (λ link. link ≡ new_link) }
 {
-    let hasty = hasty_stream(rt, stream)?;
-    let request = client::request_of(alloc, "ws://127.0.0.1/")?;
-    let mut nonce = [0; NONCE];
-    rt.fill_bytes(&mut nonce)?;
-    let keys = RandomKeys::new(rt);
-    let handshake = client::start(alloc, nonce, keys, request, hasty, Some(limits()))?;
-    match handshake.handshake() {
-        Ok((mut socket, _)) => {
-            socket.get_mut().take_time()?;
-            Ok(WsLink::new(alloc, socket))
+    let asking = ask(rt, alloc, stream)?;
+    let mut socket = answered(asking)?;
+    match socket.get_mut().take_time() {
+        Ok(()) => Ok(WsLink::new(alloc, socket)),
+        Err(error) => {
+            drop(socket);
+            Err(Error::Io(error))
         }
-        Err(_) => Err(Error::HandshakeIncomplete),
     }
 }
 

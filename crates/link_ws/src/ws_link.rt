@@ -47,37 +47,91 @@ pub(crate) fn limits() -> WebSocketConfig {
         .max_frame_size(Some(MAX_MESSAGE))
 }
 
+// What a link makes of what a socket gave.
+#[derive(Drop)]
+enum Came {
+    /// A message of the link.
+    Message(Vec<u8>),
+    /// Nothing for the link, so that more is read.
+    Nothing,
+    /// A close, whose answer is to leave.
+    Close,
+    /// The other end has closed, and knows that this one saw it.
+    Closed,
+    NoMemory,
+    Failed,
+}
+
+// A binary message of these bytes.
+fn came_bytes(alloc: Global, bytes: &[u8]) -> Came {
+    match Vec::from_slice(alloc, bytes) {
+        Ok(message) => Came::Message(message),
+        Err(_) => Came::NoMemory,
+    }
+}
+
+// What an error of a socket is to a link.
+fn came_error(error: &Error) -> Came {
+    match error {
+        Error::ConnectionClosed => Came::Closed,
+        Error::OutOfMemory => Came::NoMemory,
+        Error::Io(error) if error.kind() == ErrorKind::Interrupted => Came::Nothing,
+        _ => Came::Failed,
+    }
+}
+
+// What a message of a socket, or its error, is to a link.
+fn came_of(alloc: Global, read: &Result<Message, Error>) -> Came {
+    match read {
+        Ok(Message::Binary(bytes)) => came_bytes(alloc, bytes.as_slice()),
+        Ok(Message::Ping(_)) => Came::Nothing,
+        Ok(Message::Pong(_)) => Came::Nothing,
+        Ok(Message::Text(_)) => Came::Failed,
+        Ok(Message::Close(_)) => Came::Close,
+        Err(error) => came_error(error),
+    }
+}
+
+// Reads what comes next on a socket.
+fn read_next<S: Read + Write + Drop, K: MaskKeys + Drop>(
+    socket: &mut WebSocket<S, K>,
+    alloc: Global,
+) -> Came {
+    let read = socket.read();
+    let came = came_of(alloc, &read);
+    drop(read);
+    came
+}
+
 // The next binary message, or none where the other end has closed. Pings are answered on the way.
 fn next_binary<S: Read + Write + Drop, K: MaskKeys + Drop>(
     socket: &mut WebSocket<S, K>,
     alloc: Global,
 ) -> Result<Option<Vec<u8>>, OutFail> {
     for _ in 0..u64::MAX {
-        match socket.read() {
-            Ok(Message::Binary(bytes)) => {
-                return match Vec::from_slice(alloc, bytes.as_slice()) {
-                    Ok(message) => Ok(Some(message)),
-                    Err(_) => Err(OutFail::NoMemory),
-                };
-            }
-            Ok(Message::Ping(_) | Message::Pong(_)) => {}
-            Ok(Message::Text(_)) => return Err(OutFail::Failed),
-            Ok(Message::Close(_)) => {
+        match read_next(socket, alloc) {
+            Came::Message(message) => return Ok(Some(message)),
+            Came::Nothing => {}
+            Came::Close => {
                 // The answer to the close leaves now, if it can.
-                let _ = socket.flush();
+                drop(socket.flush());
                 return Ok(None);
             }
-            Err(Error::ConnectionClosed) => return Ok(None),
-            Err(Error::OutOfMemory) => return Err(OutFail::NoMemory),
-            Err(Error::Io(error)) => {
-                if error.kind() != ErrorKind::Interrupted {
-                    return Err(OutFail::Failed);
-                }
-            }
-            Err(_) => return Err(OutFail::Failed),
+            Came::Closed => return Ok(None),
+            Came::NoMemory => return Err(OutFail::NoMemory),
+            Came::Failed => return Err(OutFail::Failed),
         }
     }
     Err(OutFail::Failed)
+}
+
+// What a link tells of what a socket made of a message.
+fn sent_as(sent: &Result<(), Error>) -> Result<(), OutFail> {
+    match sent {
+        Ok(()) => Ok(()),
+        Err(Error::OutOfMemory) => Err(OutFail::NoMemory),
+        Err(_) => Err(OutFail::Failed),
+    }
 }
 
 // Sends a binary message.
@@ -89,11 +143,10 @@ fn send_binary<S: Read + Write + Drop, K: MaskKeys + Drop>(
     let Ok(message) = Message::binary(alloc, message) else {
         return Err(OutFail::NoMemory);
     };
-    match socket.send(message) {
-        Ok(()) => Ok(()),
-        Err(Error::OutOfMemory) => Err(OutFail::NoMemory),
-        Err(_) => Err(OutFail::Failed),
-    }
+    let sent = socket.send(message);
+    let told = sent_as(&sent);
+    drop(sent);
+    told
 }
 
 // Tells the other end that nothing more comes, if that can be told. A close is the one thing that may still be sent over
@@ -103,7 +156,7 @@ fn send_close<S: Read + Write + Drop, K: MaskKeys + Drop>(
     code: CloseCode,
 ) {
     let reason = Utf8Bytes::new();
-    let _ = socket.close(Some(CloseFrame { code, reason }));
+    drop(socket.close(Some(CloseFrame { code, reason })));
 }
 
 impl<S: Read + Write + Drop, K: MaskKeys + Drop> WsLink<S, K> {

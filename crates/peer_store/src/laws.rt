@@ -7,6 +7,8 @@ ghost use Rattle.peer_store.specs.Body.{IsBody};
 ghost use Rattle.peer_store.specs.Steps.{replay_of, changes, is_look};
 ghost use Rattle.peer_store.specs.Store.{StandsFor, HasMessages, IsNoStoreFrom};
 
+use crate::limits::MAX_GATE;
+
 /// No bytes are the bodies of two steps.
 pub fn one_step()
     ensures { (version : ℕ) (bytes : List ℕ) (first second : Step) → IsBody version first bytes → IsBody version second bytes → first ≡ second }
@@ -43,4 +45,9 @@ pub fn no_store()
 /// saved once is there for good.
 pub fn messages_stay()
     ensures { (site : ℕ) (steps more : List Step) (file : List ℕ) → StandsFor site (steps ++ more) file → HasMessages site (replay_of site steps).journal file }
+{}
+
+/// The place behind which no step is put, by its number.
+pub fn limits()
+    ensures { MAX_GATE ≡ 1073741000 }
 {}

@@ -4,8 +4,7 @@ use Rattle.hold_back.proofs.hold.HoldBack.wake.Goals as goal
 
 pub sub-requires : goal.sub-requires
 sub-requires c =
-    let there = need_held _ c.self.inside.held.items c.args.i c.need_at-left.result c.deref.ensures.value c.need_at-left.ensures in
-    one_waits c.self.inside.held.items c.args.i c.need_at-left.result c.self.inside.census there c.self.invariant.counted
+    one_waits _ c.self.inside.held.items c.args.i c.need_at-left.result c.self.inside.census c.deref.ensures.value c.need_at-left.ensures c.self.invariant.counted
 
 pub add-requires : goal.add-requires
 add-requires c =
