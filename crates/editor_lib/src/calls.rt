@@ -1,6 +1,6 @@
 //! The calls. `editor_open` and `editor_restore` want an empty slot, and each other one a slot that has a desk: no call tests
 //! that.
-ghost use Rattle.std.specs.Prelude.{◌≡◌, Some, None, IsSomeAnd, length};
+ghost use Rattle.std.specs.Prelude.{◌≡◌, Some, None, IsSomeAnd, OnErr, OnOk, length};
 ghost use Rattle.std.specs.Fn.{FnOnceReturnsAtMut};
 ghost use Rattle.line_read.specs.Step.{step_line};
 ghost use Rattle.editor_lib.specs.Code.{GivesCode};
@@ -14,7 +14,26 @@ use crate::desk::Desk;
 use crate::journal::JournalFail;
 use crate::slot::DeskSlot;
 use crate::told::ToldPart;
+use element_name::NoMemory;
 use std::alloc::Global;
+
+// Puts a desk in an empty slot.
+fn put_desk(alloc: Global, slot: &mut DeskSlot, desk: Desk) -> Result<(), NoMemory>
+    requires { slot.old.value ≡ None }
+    ensures ok { OnOk result (slot.new.value ≡ Some desk) }
+    ensures unchanged { OnErr result (slot.new.value ≡ None) }
+{
+    match Box::new(alloc, desk) {
+        Ok(boxed) => {
+            *slot = DeskSlot::of(boxed);
+            Ok(())
+        }
+        Err(failed) => {
+            drop(failed);
+            Err(NoMemory)
+        }
+    }
+}
 
 /// Opens the desk of a fresh peer of a site in an empty slot. Gives the number of a code: 0, or 2 and the slot stays empty.
 #[unsafe(no_mangle)]
@@ -25,15 +44,9 @@ pub extern "C" fn editor_open(alloc: Global, slot: &mut DeskSlot, site: u16) -> 
     let Ok(desk) = Desk::new(alloc, site) else {
         return number(Code::NoMemory);
     };
-    match Box::new(alloc, desk) {
-        Ok(boxed) => {
-            *slot = DeskSlot::of(boxed);
-            number(Code::Done)
-        }
-        Err(failed) => {
-            drop(failed);
-            number(Code::NoMemory)
-        }
+    match put_desk(alloc, slot, desk) {
+        Ok(()) => number(Code::Done),
+        Err(NoMemory) => number(Code::NoMemory),
     }
 }
 
@@ -55,15 +68,9 @@ pub extern "C" fn editor_restore(
         Err(JournalFail::Bad) => return number(Code::Bad),
         Err(JournalFail::NoMemory) => return number(Code::NoMemory),
     };
-    match Box::new(alloc, desk) {
-        Ok(boxed) => {
-            *slot = DeskSlot::of(boxed);
-            number(Code::Done)
-        }
-        Err(failed) => {
-            drop(failed);
-            number(Code::NoMemory)
-        }
+    match put_desk(alloc, slot, desk) {
+        Ok(()) => number(Code::Done),
+        Err(NoMemory) => number(Code::NoMemory),
     }
 }
 
