@@ -17,3 +17,8 @@ IsFor StoreFull told = told ≡ None
 IsFor DiskFault told = told ≡ None
 IsFor NoMemory told = told ≡ None
 IsFor refusal told = told ≡ Some refusal
+
+-- where no keeper is asked: a refusal is the one that is told; or none is, and memory is wanting
+abbrev pub IsForOrWantsMemory : Refusal → Option Refusal → Type 0
+IsForOrWantsMemory NoMemory told = told ≡ None
+IsForOrWantsMemory refusal told = told ≡ Some refusal

@@ -10,7 +10,7 @@ ghost use Rattle.host_core.specs.declared.event.HostEvent.{HostEvent};
 ghost use Rattle.host_core.specs.Past.{host_peer, saved_journal, device_of, links_opened, open_link};
 ghost use Rattle.host_core.specs.Questions.{names_undone, SaysUndone};
 ghost use Rattle.host_core.specs.Refusals.{person_refusal, device_refusal, hello_refusal, ask_refusal, no_link, own_refusal};
-ghost use Rattle.host_core.specs.Outside.{IsFor};
+ghost use Rattle.host_core.specs.Outside.{IsFor, IsForOrWantsMemory};
 ghost use Rattle.host_core.specs.Happens.{MayHappen, IsAllSaved, IsPast};
 
 use crate::event::{Device, Hello, LinkId};
@@ -83,7 +83,7 @@ impl<K: Keeper> Host<K> {
     pub fn make_device(&mut self, device: Device) -> Result<u16, Refusal>
         ensures made { IfOk result (λ site. self.new.register ≡ HostEvent.DeviceMade site device ∷ self.old.register) }
         ensures refused { IfSome (device_refusal self.old.register device.person) (λ refusal. result ≡ Err refusal) }
-        ensures cause { IfErr result (λ refusal. IsFor refusal (device_refusal self.old.register device.person)) }
+        ensures cause { IfErr result (λ refusal. IsForOrWantsMemory refusal (device_refusal self.old.register device.person)) }
         ensures unchanged { OnErr result (self.new.register ≡ self.old.register) }
         ensures keeper { self.new.keeper ≡ self.old.keeper }
     {
@@ -115,7 +115,7 @@ impl<K: Keeper> Host<K> {
         ensures opened { OnOk result (self.new.register ≡ HostEvent.LinkOpened hello.now ∷ self.old.register) }
         ensures link { IfOk result (λ link. link ≡ record { site = hello.now.site; number = links_opened self.old.register }) }
         ensures refused { IfSome (hello_refusal self.old.register hello.now) (λ refusal. result ≡ Err refusal) }
-        ensures cause { IfErr result (λ refusal. IsFor refusal (hello_refusal self.old.register hello.now)) }
+        ensures cause { IfErr result (λ refusal. IsForOrWantsMemory refusal (hello_refusal self.old.register hello.now)) }
         ensures unchanged { OnErr result (self.new.register ≡ self.old.register) }
         ensures keeper { self.new.keeper ≡ self.old.keeper }
     {
@@ -198,7 +198,7 @@ impl<K: Keeper> Host<K> {
     pub fn save(&mut self) -> Result<(), Refusal>
         ensures saved { OnOk result (self.new.register ≡ HostEvent.Saved ∷ self.old.register) }
         ensures kept { OnOk result (K.keeps self.new.keeper (host_peer self.old.register).journal) }
-        ensures outside { IfErr result (λ refusal. IsFor refusal None) }
+        ensures failed { IfErr result (λ refusal. refusal ≡ Refusal.DiskFault) }
         ensures unchanged { OnErr result (self.new.register ≡ self.old.register) }
     {
         self.keeper.save()?;
@@ -233,7 +233,7 @@ impl<K: Keeper> Host<K> {
         ensures kept { IfOk result (λ found. IfSome found (λ m. ∥ ((J : List Message) × K.keeps self.new.keeper J × Contains J m) ∥₁)) }
         ensures none { IfOk result (λ found. IsNone found → IfSome (open_link self.old.register link) (λ x. length (saved_journal self.old.register) ≤ x.mark)) }
         ensures none_changed { IfOk result (λ found. IsNone found → self.new ≡ self.old) }
-        ensures cause { IfErr result (λ refusal. IsFor refusal (no_link self.old.register link)) }
+        ensures cause { IfErr result (λ refusal. IsForOrWantsMemory refusal (no_link self.old.register link)) }
         ensures unchanged { OnErr result (self.new ≡ self.old) }
     {
         let Some(known) = self.register.open_link(link) else {

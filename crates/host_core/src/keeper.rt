@@ -1,5 +1,5 @@
 //! What keeps the host's peer.
-ghost use Rattle.std.specs.Prelude.{◌≡◌, ℕ, List, OnOk, OnErr, IfOk};
+ghost use Rattle.std.specs.Prelude.{◌≡◌, ℕ, List, OnOk, OnErr, IfOk, IfErr};
 ghost use Rattle.edit_message.specs.declared.message.Message.{Message};
 ghost use Rattle.peer_core.specs.Answers.{answer_of};
 ghost use Rattle.peer_core.specs.After.{peer_after};
@@ -39,9 +39,10 @@ pub trait Keeper: Drop {
         ensures unchanged { OnErr result (peer self.new ≡ peer self.old) }
         ensures kept { (J : List Message) → keeps self.old J → keeps self.new J };
 
-    /// Saves all steps that were made.
+    /// Saves all steps that were made. Memory and room were found when they were, so it gives up for the disk alone.
     fn save(&mut self) -> Result<(), KeepFail>
         ensures peer { peer self.new ≡ peer self.old }
         ensures saved { OnOk result (keeps self.new (peer self.new).journal) }
+        ensures failed { IfErr result (λ fail. fail ≡ KeepFail.Failed) }
         ensures kept { (J : List Message) → keeps self.old J → keeps self.new J };
 }

@@ -1,8 +1,11 @@
 //! Laws of what happens at hosts. They hold of each host at every moment, since what has happened at it is a past. Each
 //! has a sample, a small past on which its premises hold.
+ghost use Rattle.std.specs.Prelude.{◌≡◌};
 ghost use Rattle.host_core.specs.Samples.{SampleHappens, SampleGiven, SampleDoor, SampleClosed};
 ghost use Rattle.host_core.specs.Samples.{AuthenticSample, OrderedSample, SavedSample, NoForkSample, InOrderSample, ClosedSample, DeviceClosedSample, ShareSample, PageSample};
 ghost use Rattle.host_core.specs.Laws.{AuthenticLaw, OrderedLaw, SavedLaw, BeginningLaw, WholeSavedLaw, ToldLaw, NoForkLaw, InOrderLaw, AllGivenLaw, ClosedLaw, DeviceClosedLaw, HeldLaw, ClockLaw, ReserveLaw, ShareLaw, GoesOnLaw, ReplayLaw, PageLaw};
+
+use crate::limits::{LINK_REQUESTS, MAX_DENIED, MAX_OPENED, MAX_PEOPLE, MAX_SITES};
 
 /// Each request that the host has was there at the start, or is of the host's own site, or came on a link, open then,
 /// that had shown the secret of the request's site. Each entry was there at the start, or was issued for an owner.
@@ -77,4 +80,13 @@ pub fn sample_past()
     ensures given { SampleGiven }
     ensures door { SampleDoor }
     ensures closed { SampleClosed }
+{}
+
+/// The limits in numbers.
+pub fn limits()
+    ensures people { MAX_PEOPLE ≡ 65536 }
+    ensures sites { MAX_SITES ≡ 65535 }
+    ensures opened { MAX_OPENED ≡ 4611686018427387904 }
+    ensures link_requests { LINK_REQUESTS ≡ 126976 }
+    ensures denied { MAX_DENIED ≡ 1000 }
 {}

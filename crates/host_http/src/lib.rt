@@ -7,6 +7,7 @@
 mod answer;
 mod credential;
 mod head;
+pub mod laws;
 mod limits;
 mod origins;
 mod pages;

@@ -6,6 +6,7 @@
 
 mod counts;
 mod happening;
+pub mod laws;
 mod limits;
 mod socket;
 mod stream;

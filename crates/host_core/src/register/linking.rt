@@ -4,7 +4,7 @@ ghost use Rattle.std.specs.Ordering.{nat_cmp};
 ghost use Rattle.std.specs.BTreeMap.{get};
 ghost use Rattle.host_core.specs.Past.{device_of, links_opened, open_link};
 ghost use Rattle.host_core.specs.Refusals.{has_secret, hello_refusal};
-ghost use Rattle.host_core.specs.Outside.{IsFor};
+ghost use Rattle.host_core.specs.Outside.{IsForOrWantsMemory};
 
 use super::Register;
 use crate::digest::same_bytes;
@@ -65,7 +65,7 @@ impl Register {
         ensures opened { OnOk result (self.new ≡ HostEvent.LinkOpened hello.now ∷ self.old) }
         ensures link { IfOk result (λ link. link ≡ record { site = hello.now.site; number = links_opened self.old }) }
         ensures refused { IfSome (hello_refusal self.old hello.now) (λ refusal. result ≡ Err refusal) }
-        ensures cause { IfErr result (λ refusal. IsFor refusal (hello_refusal self.old hello.now)) }
+        ensures cause { IfErr result (λ refusal. IsForOrWantsMemory refusal (hello_refusal self.old hello.now)) }
         ensures unchanged { OnErr result (self.new ≡ self.old) }
     {
         let role = self.role_for(hello)?;

@@ -2,7 +2,7 @@
 ghost use Rattle.std.specs.Prelude.{◌≡◌, ◌∷◌, None, OnOk, OnErr, IfOk, IfErr, IfSome, Some};
 ghost use Rattle.host_core.specs.Past.{device_of};
 ghost use Rattle.host_core.specs.Refusals.{person_refusal, device_refusal};
-ghost use Rattle.host_core.specs.Outside.{IsFor};
+ghost use Rattle.host_core.specs.Outside.{IsForOrWantsMemory};
 
 use super::Register;
 use crate::event::{Device, HostEvent};
@@ -41,7 +41,7 @@ impl Register {
     pub fn make_device(&mut self, device: Device) -> Result<u16, Refusal>
         ensures made { IfOk result (λ site. self.new ≡ HostEvent.DeviceMade site device ∷ self.old) }
         ensures refused { IfSome (device_refusal self.old device.person) (λ refusal. result ≡ Err refusal) }
-        ensures cause { IfErr result (λ refusal. IsFor refusal (device_refusal self.old device.person)) }
+        ensures cause { IfErr result (λ refusal. IsForOrWantsMemory refusal (device_refusal self.old device.person)) }
         ensures unchanged { OnErr result (self.new ≡ self.old) }
     {
         if let Some(refusal) = self.device_refusal(device.person) {
