@@ -11,7 +11,7 @@ import { fileURLToPath } from 'node:url';
 import { Browser, CONTROL, pause } from './devtools.mjs';
 import { Host, until } from './running_host.mjs';
 
-const USUAL_SECONDS = 110; // for all of it
+const USUAL_SECONDS = 230; // for all of it
 const HELD_MS = 700; // by then what was typed is an edit
 const DESK = { width: 1180, height: 760 };
 const SMALL = { width: 640, height: 480 };
@@ -21,6 +21,8 @@ const START = 'Plan for the spring fair\nThe budget is 900 euros.\nWho brings wh
 const BEAS = 'Bea: tables and tea. ';
 const TURNING = '\u202eaeB'; // a name that would turn what stands behind it
 const HEBREW = 'דנה <i>';
+const SAFARI = 'Mozilla/5.0 (Macintosh; Intel Mac OS X 10_15_7) AppleWebKit/605.1.15 (KHTML, like Gecko) Version/16.1 Safari/605.1.15';
+const NARROW = 'WebAssembly.validate = () => false'; // as in a browser that knows no memory of 64 bits
 const LEAST_FINGER = 43; // pixels
 const LEAST_SHIFT = 0.001; // of a layout, as browsers count it
 const TUTORIAL = fileURLToPath(new URL('../docs/TUTORIAL.md', import.meta.url));
@@ -41,13 +43,16 @@ function option(name) {
 
 // A person's page.
 class Sheet {
-  static async open(world, address, size = DESK, known = null) {
+  // `before` is a script that runs before those of the page.
+  static async open(world, address, size = DESK, known = null, before = '') {
     const profile = known ?? (await world.browser.profile());
     await world.browser.call('Browser.grantPermissions', { permissions: ['clipboardReadWrite', 'clipboardSanitizedWrite'], browserContextId: profile });
     const sheet = new Sheet();
     sheet.world = world;
     sheet.profile = profile;
-    sheet.page = await world.browser.page(address, profile, size);
+    sheet.page = await world.browser.page(before ? 'about:blank' : address, profile, size);
+    if (before) await sheet.page.before(before);
+    if (before) await sheet.page.go(address);
     await sheet.isSaved();
     return sheet;
   }
@@ -122,6 +127,11 @@ class Sheet {
     noted(await this.value(`{ const it = ${sought}, word = it.textContent; it.click(), word }`));
   }
 
+  // Chooses what is called so in the list of a selector.
+  choose(selector, text) {
+    return this.value(`{ const list = document.querySelector(${JSON.stringify(selector)}); list.value = [...list.options].find((it) => it.textContent === ${JSON.stringify(text)}).value, list.dispatchEvent(new Event('change')); null }`);
+  }
+
   async fill(id, text) {
     await this.value(`document.getElementById(${JSON.stringify(id)}).select(), null`);
     await this.page.insert(text);
@@ -138,9 +148,14 @@ class Sheet {
   }
 
   // Loads the page anew; it is another one then, however long that takes.
-  async reload() {
+  reload() {
+    return this.anew(() => this.page.reload());
+  }
+
+  // Waits until an action has had the page loaded anew.
+  async anew(action) {
     await this.value('globalThis.isOld = true, null');
-    await this.page.reload();
+    await action();
     await this.holds('another page is there', '!globalThis.isOld');
   }
 
@@ -202,19 +217,57 @@ const tries = {
     await ada.says('invited-label', /^Give this address to Bea Okafor, and to nobody else$/);
     const address = await ada.value(`document.getElementById('invited-address').value`);
     assert.match(address, /^http:\/\/localhost:[0-9]+\/#[0-9a-f]{32}$/);
-    world.bea = await Sheet.open(world, address);
+    world.bea = await Sheet.open(world, address, DESK, null, NARROW);
     world.address = address;
     await ada.says('people', /Bea Okafor · here now/);
     await ada.value(`document.getElementById('invited').hidden = true, null`);
   },
 
-  // Who opens somebody else's invitation goes on as before, and is told what is lost by using it.
+  // What a browser lacks is told with what to do in it, and neither the host nor the rest of the page is asked for.
+  async a_browser_that_lacks_something(world) {
+    const page = await world.browser.page('about:blank', await world.browser.profile(), DESK);
+    const sheet = Object.assign(new Sheet(), { world, page });
+    await page.call('Emulation.setUserAgentOverride', { userAgent: SAFARI });
+    await page.before('delete CSS.highlights');
+    await page.go(world.address);
+    await sheet.says('opening-words', /^This browser cannot show the page: it cannot colour words by who wrote them \(highlights\)\. It is Safari 16, and from version 18 on it can: .* an invitation in the address can still be used\.$/);
+    assert.equal(await sheet.said('standing'), 'Not open');
+    assert.equal(await sheet.value('location.href'), world.address);
+    assert.deepEqual(await sheet.value(`performance.getEntriesByType('resource').map(({ name }) => name.split('/').at(-1)).filter((it) => /mjs$/.test(it) && it !== 'main.mjs').sort()`), ['needs.mjs', 'start.mjs']);
+    await sheet.picture('lacking', async () => {});
+    await sheet.close();
+    const keys = await world.ada.value(`page.sync.line.orders.ask('keys')`); // Bea is the second person
+    assert.equal(keys.filter((it) => /^device .* 2 open$/.test(it)).length, 1);
+  },
+
+  // A part of the page that doesn't come at once is asked for again; where it never comes that is told.
+  async a_part_that_does_not_come(world) {
+    const page = await world.browser.page('about:blank', await world.browser.profile(), DESK);
+    const sheet = Object.assign(new Sheet(), { world, page });
+    let failing = 1;
+    world.browser.listeners.push(({ method, params, sessionId }) => {
+      if (sessionId !== page.session || method !== 'Fetch.requestPaused') return;
+      const { requestId } = params;
+      page.call(...(failing-- > 0 ? ['Fetch.failRequest', { requestId, errorReason: 'ConnectionReset' }] : ['Fetch.continueRequest', { requestId }])).catch(() => {});
+    });
+    await page.call('Fetch.enable', { patterns: [{ urlPattern: '*/places.mjs' }] });
+    await page.go(world.address.split('#')[0]);
+    await sheet.says('opening-words', /^Open the address of your invitation\./);
+    assert.equal(await sheet.value('sessionStorage.length'), 0);
+    failing = 9;
+    await page.reload();
+    await sheet.says('opening-words', /^The page could not be loaded whole\./);
+    assert.equal(failing, 9 - 4);
+    await sheet.close();
+  },
+
+  // Who opens somebody else's invitation goes on as before, and is told what using it does.
   async an_invitation_of_somebody_else(world) {
     const { ada, bea, address } = world;
     await ada.close();
     world.ada = await Sheet.open(world, address.replace('/#', '/d/fair/#'), DESK, ada.profile);
     await world.ada.holds('the invitation is offered', `!document.getElementById('invited-here').hidden`);
-    await world.ada.says('invited-words', /^You are Ada Lund in this browser\. .* without a new invitation, from another owner or from whoever runs the server\.$/);
+    await world.ada.says('invited-words', /^You are Ada Lund in this browser\. .* you can go back under “Who this browser was”\.$/);
     await world.ada.says('leave-invitation', /^Go on as Ada Lund$/);
     await world.ada.click('#leave-invitation');
     await world.ada.says('people', /Ada Lund · you/);
@@ -312,6 +365,70 @@ const tries = {
     await ada.goTo(before.length, `${before}Meet at seven `.length);
     await ada.page.key('Backspace');
     await bea.shows(before);
+  },
+
+  // What others write in a line in which a word is composed comes in, though that ends the composition, and nothing of either is lost.
+  async composing_in_a_line_that_changes(world) {
+    const { ada, bea } = world;
+    const before = START + BEAS;
+    await bea.end();
+    await bea.page.call('Input.imeSetComposition', { text: 'ni', selectionStart: 2, selectionEnd: 2 });
+    await ada.end();
+    await ada.page.type('Jam. ');
+    for (const it of [ada, bea]) await until('both are there', async () => [`${before}Jam. ni`, `${before}niJam. `].includes(await it.text()));
+    assert.equal(await bea.value('page.editor.isComposing'), false);
+    await bea.isSaved();
+    await ada.goTo(before.length, before.length + 7);
+    await ada.page.key('Backspace');
+    await bea.shows(before);
+  },
+
+  // Enter goes on to the next place, and writes nothing; what was found is selected where the form is closed.
+  async looking_for_words(world) {
+    const { ada } = world;
+    const before = START + BEAS;
+    await ada.click('#find-open');
+    await ada.page.insert('THE');
+    await ada.says('find-count', /^1 of 2 places$/);
+    for (const count of [1, 2, 1]) {
+      await ada.page.key('Enter');
+      await ada.says('find-count', new RegExp(`^${count} of 2 places$`));
+      assert.equal(await ada.value('document.activeElement.id'), 'find-words');
+    }
+    await ada.click('#find button[value=previous]');
+    await ada.says('find-count', /^2 of 2 places$/);
+    assert.equal(await ada.value('String(page.finder.range)'), 'The');
+    await ada.value(`document.getElementById('find-words').focus(), null`);
+    await ada.page.key('Escape');
+    assert.deepEqual(await ada.value('[String(getSelection()), document.activeElement.id, page.finder.range.collapsed]'), ['The', 'text', true]);
+    await ada.shows(before);
+  },
+
+  // A text is as high as its lines are, though what is far off isn't laid out, and what is looked for there comes to be seen.
+  async a_long_text(world) {
+    const { ada, bea } = world;
+    const before = START + BEAS;
+    const lines = Array.from({ length: 300 }, (_, i) => `Line ${i} of many.\n`).join('');
+    await ada.end();
+    await ada.page.insert(lines);
+    for (const it of [ada, bea]) await it.shows(before + lines);
+    await bea.reload();
+    await bea.isSaved();
+    const [height, line] = await bea.value(`[document.getElementById('text').scrollHeight, page.surface.rectOf(0).height]`);
+    assert.ok(Math.abs(height / (304 * 32) - 1) < 0.02, `${height} ${line}`);
+    await bea.click('#find-open');
+    await bea.page.insert('line 290 ');
+    await bea.page.key('Enter');
+    const isSeen = `(({ top, bottom }) => top > 60 && bottom < innerHeight)(page.finder.range.getBoundingClientRect())`;
+    await bea.holds('what was found is seen', isSeen);
+    await bea.page.key('Escape');
+    await bea.page.type('Here');
+    for (const it of [ada, bea]) await it.shows(before + lines.replace('Line 290 ', 'Here'));
+    await bea.end();
+    await bea.holds('the end is seen', '(({ bottom }) => bottom > 0 && bottom <= innerHeight)(page.surface.rectOf(page.surface.end))');
+    await ada.goTo(before.length, before.length + lines.length);
+    await ada.page.key('Backspace');
+    for (const it of [ada, bea]) await it.shows(before);
   },
 
   async markup_and_turning_signs(world) {
@@ -471,9 +588,7 @@ const tries = {
     await newer.end();
     await newer.page.type(' pages. ');
     await newer.isSaved();
-    await bea.value('globalThis.isOld = true, null');
-    await bea.click('#opening-acts button');
-    await bea.holds('another page is there', '!globalThis.isOld');
+    await bea.anew(() => bea.click('#opening-acts button'));
     await bea.isSaved();
     for (const it of [bea, ada]) await it.shows(`${world.text}Two pages. `);
     await newer.says('opening-words', /^You opened this document in another page/);
@@ -680,21 +795,58 @@ const tries = {
     const boxOf = (name) => `[...document.querySelectorAll('#protect-whom label')].find((it) => it.textContent.includes(${JSON.stringify(name)})).querySelector('input')`;
     await ada.value(`${boxOf('Cy Brandt')}.click(), null`);
     await ada.click('#make-group');
-    assert.equal(await ada.question(), 'Make a group of Ada Lund and Cy Brandt? | No edit would be undone.');
-    await ada.click('#question-yes');
-    await ada.says('groups', /^The group of Ada Lund and Cy Brandt\./);
-    for (const it of ['Ada Lund', 'Cy Brandt', 'The group of']) await ada.value(`${boxOf(it)}.click(), null`);
+    await ada.says('wording-title', /^What is the group of Ada Lund and Cy Brandt called\?$/);
+    await ada.fill('wording-words', 'Cooks');
+    await ada.click('#wording-yes');
+    await ada.says('groups', /^The group “Cooks”: Ada Lund and Cy Brandt\./);
+    for (const it of ['Ada Lund', 'Cy Brandt', 'The group “']) await ada.value(`${boxOf(it)}.click(), null`);
     await ada.goTo(3);
     await ada.click('#protect');
-    assert.match(await ada.question(), /^Let nobody but the group of Ada Lund and Cy Brandt write in the paragraph “Plan for the spring fair”\? \| 2 edits of Bea Okafor would be undone/); // a word, and its undoing
+    assert.match(await ada.question(), /^Let nobody but the group “Cooks” write in the paragraph “Plan for the spring fair”\? \| 2 edits of Bea Okafor would be undone/); // a word, and its undoing
     await ada.click('#question-yes');
-    await cy.says('rules', /The group of Ada Lund and Cy Brandt may write in the paragraph “Plan for the spring fair”\./);
+    await cy.says('rules', /The group “Cooks” may write in the paragraph “Plan for the spring fair”\./);
     await cy.says('people', /Cy Brandt · youMay write, but in the paragraph “The budget is 900 euros\.” only read\./);
     await ada.picture('group');
-    await ada.value(`{ const list = document.querySelector('#groups select'); list.value = [...list.options].find((it) => it.textContent === 'Cy Brandt').value, list.dispatchEvent(new Event('change')); null }`);
-    assert.match(await ada.question(), /^Take Cy Brandt out of the group of Ada Lund and Cy Brandt\? \|/);
+    await ada.choose('#groups select', 'Cy Brandt');
+    assert.match(await ada.question(), /^Take Cy Brandt out of the group “Cooks”\? \|/);
     await ada.click('#question-yes');
     await cy.holds('it is locked', `document.querySelectorAll('.locked').length === 2`);
+  },
+
+  // All pages know what a group is called. A name is nobody's, and no person's is like one; a group of before groups had names is given one.
+  async a_group_is_called(world) {
+    const { ada, cy } = world;
+    const named = async (/** @type {string} */ title, name) => {
+      await ada.says('wording-title', new RegExp(`^What is ${title} called\\?$`));
+      await ada.fill('wording-words', name);
+      await ada.click('#wording-yes');
+    };
+    await ada.choose('#groups select', 'Give it another name…');
+    await named('the group “Cooks”', 'Bakers');
+    for (const it of [ada, cy]) {
+      await it.says('groups', /^The group “Bakers”: Ada Lund\./);
+      await it.says('rules', /The group “Bakers” may write in the paragraph “Plan for the spring fair”\./);
+      assert.doesNotMatch(await it.said('people'), /Bakers|Cooks/);
+    }
+    const version = await ada.value('page.copy.policy.version');
+    await ada.value(`page.rules.make(['addgroup 65535', 'addmember 65535 1', 'addauth 0 + @65535 idu 0']), null`);
+    await cy.says('rules', /^The group of Ada Lund may write everywhere\./);
+    await ada.choose('#groups li:last-child select', 'Give it a name…');
+    await named('the group of Ada Lund', 'Bakers');
+    await ada.says('status', /^There is a group “Bakers” in this document already\./);
+    await ada.choose('#groups li:last-child select', 'Give it a name…');
+    await named('the group of Ada Lund', 'Tasters');
+    await cy.says('rules', /^The group “Tasters” may write everywhere\./);
+    await ada.says('groups', /The group “Tasters”: Ada Lund\./);
+    assert.equal(await ada.value('page.copy.policy.version'), version + 8);
+    await ada.fill('new-name', 'Tea (group)');
+    await ada.click('#new-person button');
+    await ada.says('status', /^A name that ends with “\(group\)” is one of a group\./);
+    await ada.value(`document.getElementById('new-name').value = '', null`);
+    await ada.press('rules', 'Remove rule 1');
+    await ada.question();
+    await ada.click('#question-yes');
+    await cy.says('rules', /^(?!.*Tasters)/);
   },
 
   // Neither the head nor the place of the text moved since the page was opened, whoever came, went, wrote or was told something.
@@ -775,6 +927,40 @@ const tries = {
     await dee.reload();
     await dee.isSaved();
     await dee.shows(world.text);
+    world.dee = dee;
+  },
+
+  // A browser that becomes somebody else's by an invitation goes back to who it was, and sends what waited there; it forgets on demand. The
+  // invitation is opened in the page that is there, of which only the address changes.
+  async a_browser_goes_back(world) {
+    const { ada, dee } = world;
+    const waiting = ' This waits.';
+    await ada.fill('new-name', 'Eli Noor');
+    await ada.click('#new-person button');
+    await ada.says('invited-label', /Eli Noor/);
+    const address = await ada.value(`document.getElementById('invited-address').value`);
+    await dee.anew(() => dee.value(`location.hash = ${JSON.stringify(address)}.split('#')[1], null`));
+    await dee.isSaved();
+    await dee.says('invited-words', /^You are Dee Roth in this browser\./);
+    await dee.offline();
+    await dee.end();
+    await dee.page.type(waiting);
+    await dee.anew(() => dee.click('#use-invitation'));
+    await dee.isSaved();
+    await dee.says('people', /Eli Noor · you/);
+    await dee.shows(world.text);
+    await dee.says('former-part', /Go back to being Dee Roth/);
+    await dee.value(`document.getElementById('former-part').scrollIntoView({ block: 'center' }), null`);
+    await dee.picture('former');
+    await dee.anew(() => dee.press('formers', 'Go back to being Dee Roth'));
+    await dee.isSaved();
+    await dee.says('people', /Dee Roth · you/);
+    world.text += waiting;
+    for (const it of [ada, dee]) await it.shows(world.text);
+    await dee.press('formers', 'Forget Eli Noor');
+    await dee.holds('nobody is left', `document.getElementById('former-part').hidden`);
+    assert.match(dee.page.asked.at(-1).replace(/[\u2068\u2069]/g, ''), /^Forget that this browser was Eli Noor\?/);
+    assert.equal(await dee.value(`localStorage.getItem('roastcliff former devices /')`), '[]');
     await dee.close();
   },
 

@@ -1,8 +1,8 @@
 // As examples/library/two_peers.c, by the module: the same lines give the same answers, and at the end each peer comes back. With a
 // number N it writes N made lines. With `replay` and a file it writes the lines there as a script of `replay`, but for those that are
-// no steps, and then the answers that are due to it.
+// no steps, and then the answers that are due to it. With `narrow` the module's memory has 32 bits, as for browsers that know no other.
 //
-//   node --experimental-wasm-memory64 .ci/page_steps.mjs [replay SCRIPT] < LINES          node .ci/page_steps.mjs N
+//   node --experimental-wasm-memory64 .ci/page_steps.mjs [narrow | replay SCRIPT] < LINES          node .ci/page_steps.mjs N
 import { readFileSync, writeFileSync } from 'node:fs';
 import { DONE, Module, Peer } from '../web/peer.mjs';
 
@@ -106,14 +106,15 @@ const written = (lines) => [...lines, ''].join('\n');
 
 async function main() {
   const [mode, file] = process.argv.slice(2);
-  if (mode && mode !== 'replay') {
+  if (mode && mode !== 'replay' && mode !== 'narrow') {
     process.stdout.write(written(madeLines(Number(mode))));
     return;
   }
-  const module = await Module.load(readFileSync(new URL('../web/editor.wasm', import.meta.url)));
+  const made = readFileSync(new URL('../web/editor.wasm', import.meta.url));
+  const module = await Module.load(made, mode === 'narrow' ? false : undefined);
   const lines = readFileSync(0, 'utf8').split('\n').slice(0, -1);
   const peers = [0, 1].map((site) => new Peer(module, site));
-  if (!mode) {
+  if (mode !== 'replay') {
     process.stdout.write(written(answered(lines, peers)));
     return;
   }

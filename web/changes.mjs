@@ -14,12 +14,22 @@ const CHANGES = {
   addobj: ([number], policy) => ended(`Rules may be about ${object(Number(number), policy)}`),
   delobj: ([number], policy) => ended(`Rules are not about ${object(Number(number), policy)} any more`),
   addgroup: ([number], policy) => `There may be rules for ${group(Number(number), policy)}.`,
-  delgroup: ([number]) => `There is no ${group(Number(number))} in the rules any more.`,
+  delgroup: ([number]) => (isPersons(number) ? `There is no ${group(Number(number))} in the rules any more.` : `${groupGone(Number(number))} is taken away.`),
   addmember: ([number, user], policy) => `The rules for ${group(Number(number), policy)} hold for ${person(Number(user))} too.`,
   delmember: ([number, user], policy) => `The rules for ${group(Number(number), policy)} do not hold for ${isOwn(number, user) ? 'one of the devices' : person(Number(user))} any more.`,
   delauth: ([place]) => `Rule ${Number(place) + 1} of the list is gone.`,
   validate: ([name]) => `An edit of ${person(Number(name.split('.')[1]))} is confirmed.`,
 };
+
+/**
+ * Whether a group is a person's own.
+ *
+ * @param {string} number
+ */
+const isPersons = (number) => directory.nameOf(Number(number)) !== null && directory.groupName(Number(number)) === null;
+
+/** @param {number} number of a group that is gone, and so its members */
+const groupGone = (number) => (directory.groupName(number) === null && directory.people.size ? 'A group' : capital(group(number)));
 
 /** @param {string} user */
 const isDevice = (user) => directory.personOf(Number(user)) !== null;
@@ -41,7 +51,7 @@ const isOwn = (number, user) => directory.personOf(Number(user)) === Number(numb
 function rowOf({ op: [kind, first, second] }) {
   if (kind === 'validate') return 'confirmed';
   if (kind === 'adduser') return isDevice(first) ? `person ${directory.personOf(Number(first))}` : '';
-  if (kind === 'addgroup' && directory.people.size) return directory.nameOf(Number(first)) === null ? `group ${first}` : `person ${first}`;
+  if (kind === 'addgroup' && directory.people.size) return `${isPersons(first) ? 'person' : 'group'} ${first}`;
   if (kind === 'addmember' && isDevice(second)) return isOwn(first, second) ? `person ${first}` : `group ${first}`;
   return '';
 }
@@ -74,7 +84,8 @@ function groupChange(number, entries, isNew, policy) {
   const members = directory.personsOf(entries.filter(({ op }) => op[0] === 'addmember').map(({ op }) => Number(op[2])));
   const named = listed(members.map((it) => group(it)));
   if (!isNew) return `The rules for ${group(number, policy)} hold for ${named} too.`;
-  return members.length ? `A group is made of ${named}.` : 'A group is made.';
+  const made = directory.groupName(number) === null ? 'A group' : capital(group(number));
+  return members.length ? `${made} is made of ${named}.` : `${made} is made.`;
 }
 
 /**

@@ -50,6 +50,7 @@ test('groups', () => {
     [6, 'The rules for the group of Ada, Bea and Cy hold for Cy too.'],
     [7, 'A group is made.'],
   ]);
+  assert.deepEqual(known(() => told(['delgroup 65535', 'delgroup 2'])), [[1, 'A group is taken away.'], [2, 'There is no Bea in the rules any more.']]);
   assert.deepEqual(told(['addgroup 7', 'addmember 7 1']), [[1, 'There may be rules for group 7.'], [2, 'The rules for group 7 hold for user 1 too.']]);
 });
 

@@ -3,6 +3,32 @@
 
 /** @typedef {import('./protocol.mjs').Person} Person */
 
+// The host keeps names of persons alone. So a group's name is that of a person whom nobody is, with these words behind it, and the group has
+// that person's number.
+const GROUP = ' (group)';
+
+// So long a name may be, and so long one of a group.
+export const MOST_NAME = 40;
+export const MOST_GROUP_NAME = MOST_NAME - GROUP.length;
+
+/**
+ * The name under which the host keeps that of a group.
+ *
+ * @param {string} name
+ */
+export function keptGroupName(name) {
+  return `${name}${GROUP}`;
+}
+
+/**
+ * The name of a group that a name is kept for; null where it is a person's.
+ *
+ * @param {string} name
+ */
+export function groupNameIn(name) {
+  return name.endsWith(GROUP) ? name.slice(0, -GROUP.length) : null;
+}
+
 export class Directory {
   constructor() {
     /** @type {Map<number, Person>} by their numbers */
@@ -70,6 +96,30 @@ export class Directory {
   /** @param {number} person */
   nameOf(person) {
     return this.people.get(person)?.name ?? null;
+  }
+
+  /**
+   * The name of a group; null where a number is somebody's, or the group has none.
+   *
+   * @param {number} number
+   */
+  groupName(number) {
+    const name = groupNameIn(this.nameOf(number) ?? '');
+    return name !== null && !this.hasCome(number) ? name : null;
+  }
+
+  /**
+   * The number that is kept with the name of a group; null where there is none.
+   *
+   * @param {string} name
+   */
+  groupCalled(name) {
+    return [...this.people.keys()].find((it) => this.groupName(it) === name) ?? null;
+  }
+
+  // The persons who are somebody, by their numbers.
+  get persons() {
+    return [...this.people.values()].filter(({ person }) => this.groupName(person) === null).sort((a, b) => a.person - b.person);
   }
 
   /**

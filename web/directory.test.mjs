@@ -1,6 +1,6 @@
 import assert from 'node:assert/strict';
 import test from 'node:test';
-import { Directory } from './directory.mjs';
+import { Directory, groupNameIn, keptGroupName, MOST_GROUP_NAME, MOST_NAME } from './directory.mjs';
 
 test('who is known', () => {
   const known = new Directory();
@@ -18,4 +18,17 @@ test('who is known', () => {
   assert.deepEqual([1, 2, 3].map((it) => known.isRemoved(it)), [false, true, false]);
   known.take({ kind: 'people', ...told });
   assert.equal(known.version, 1);
+});
+
+// Somebody who is called as a group is, and has come, is somebody.
+test('names of groups', () => {
+  assert.equal(groupNameIn(keptGroupName('Cooks')), 'Cooks');
+  assert.equal(groupNameIn('Cooks'), null);
+  assert.equal(keptGroupName('x'.repeat(MOST_GROUP_NAME)).length, MOST_NAME);
+  const known = new Directory();
+  const people = ['Ada', 'Cooks (group)', 'Bea (group)'].map((name, i) => ({ person: i + 1, role: /** @type {const} */ ('reader'), name }));
+  known.take({ kind: 'people', people, devices: [{ site: 1, person: 3, isOpen: false }] });
+  assert.deepEqual([1, 2, 3, 4].map((it) => known.groupName(it)), [null, 'Cooks', null, null]);
+  assert.deepEqual(known.persons.map(({ person }) => person), [1, 3]);
+  assert.deepEqual([known.groupCalled('Cooks'), known.groupCalled('Bea')], [2, null]);
 });

@@ -1,21 +1,25 @@
-// Groups of people, whom rules name together: who is in one, and what an owner changes about it. A group has devices, as the rules know them. A device
-// that comes later is put into the groups of its person by an owner's page, as the host puts it into the person's own.
-import { directory } from './directory.mjs';
+// Groups of people, whom rules name together: who is in one, what it is called, and what an owner changes about it. A group has devices, as the
+// rules know them. A device that comes later is put into the groups of its person by an owner's page, as the host puts it into the person's own.
+// A group's number is that with which the host keeps its name; one of before groups had names has a number from the greatest down.
+import { directory, keptGroupName, MOST_GROUP_NAME } from './directory.mjs';
 import { hide, item, of, say, staying } from './elements.mjs';
 import { NotDone } from './orders.mjs';
+import { askWords, order } from './question.mjs';
 import * as words from './words.mjs';
 
-const LAST = 65535; // groups are numbered from here down, and persons from 1 up
 const GONE = 'gone';
+const CALLED = 'called';
 
 /**
- * The numbers of a policy's groups that are nobody's own.
+ * The numbers of a policy's groups that are nobody's own: those with names first.
  *
  * @param {import('./policy.mjs').Policy} policy
  */
 export function groupsOf(policy) {
   if (!directory.people.size) return [];
-  return [...policy.groups.keys()].filter((it) => !directory.people.has(it)).sort((a, b) => b - a);
+  const hasName = (/** @type {number} */ it) => directory.groupName(it) !== null;
+  const numbers = [...policy.groups.keys()].sort((a, b) => a - b);
+  return [...numbers.filter(hasName), ...numbers.filter((it) => !directory.people.has(it)).reverse()];
 }
 
 /**
@@ -38,6 +42,23 @@ function devicesOf(policy, person) {
 export function joining(policy, number, persons) {
   const members = policy.groups.get(number) ?? new Set();
   return persons.flatMap((it) => devicesOf(policy, it)).filter((it) => !members.has(it)).map((it) => `addmember ${number} ${it}`);
+}
+
+/**
+ * The operations by which a group gets another number, in each rule that names it. At no version in between anybody has less than before.
+ *
+ * @param {import('./policy.mjs').Policy} policy
+ * @param {number} from
+ * @param {number} to
+ */
+export function moving(policy, from, to) {
+  const members = [...(policy.groups.get(from) ?? [])].map((it) => `addmember ${to} ${it}`);
+  const rules = policy.authorizations.flatMap(({ allows, users: { kind, numbers }, rights, objects }, place) => {
+    if (kind !== 'groups' || !numbers.includes(from)) return [];
+    const named = [...numbers.filter((it) => it !== from), to].sort((a, b) => a - b);
+    return [`addauth ${place} ${allows ? '+' : '-'} @${named.join(',')} ${rights} ${objects.join(',')}`, `delauth ${place + 1}`];
+  });
+  return [`addgroup ${to}`, ...members, ...rules, `delgroup ${from}`];
 }
 
 export class Groups {
@@ -72,7 +93,7 @@ export class Groups {
    * @param {boolean} isOwner
    */
   item(number, isOwner) {
-    return item(`${words.capital(words.group(number, this.policy))}.`, ...(isOwner ? [' ', this.changes(number)] : []));
+    return item(words.groupTold(number, this.policy), ...(isOwner ? [' ', this.changes(number)] : []));
   }
 
   /**
@@ -82,15 +103,17 @@ export class Groups {
    */
   changes(number) {
     const persons = this.personsOf(number);
-    const others = [...directory.people.keys()].filter((it) => !persons.includes(it) && devicesOf(this.policy, it).length);
+    const others = directory.persons.map(({ person }) => person).filter((it) => !persons.includes(it) && devicesOf(this.policy, it).length);
     const option = (/** @type {number} */ person) => new Option(directory.nameOf(person) ?? '', String(person));
     const list = document.createElement('select');
     list.setAttribute('aria-label', `Change ${words.group(number, this.policy)}`);
-    list.append(new Option('Change…', ''), choices('Put in', others.map(option)), choices('Take out', persons.map(option)), new Option('Take the group away', GONE));
+    const naming = new Option(directory.groupName(number) === null ? 'Give it a name…' : 'Give it another name…', CALLED);
+    list.append(new Option('Change…', ''), choices('Put in', others.map(option)), choices('Take out', persons.map(option)), naming, new Option('Take the group away', GONE));
     list.addEventListener('change', () => {
       const chosen = list.value;
       list.value = '';
       if (chosen === GONE) this.remove(number);
+      else if (chosen === CALLED) this.call(number);
       else this.turn(number, Number(chosen));
     });
     return list;
@@ -99,12 +122,56 @@ export class Groups {
   // ---- what an owner changes
 
   /** @param {number[]} persons */
-  make(persons) {
-    let number = LAST;
-    while (this.policy.groups.has(number)) number--;
+  async make(persons) {
     const here = persons.filter((it) => devicesOf(this.policy, it).length);
     if (here.length < 2) return say('status', words.FEW_FOR_A_GROUP);
-    return this.rules.change(words.makingGroup(here, persons.filter((it) => !here.includes(it))), 'Make it', [`addgroup ${number}`, ...joining(this.policy, number, here)]);
+    const title = words.makingGroup(here, persons.filter((it) => !here.includes(it)));
+    await this.underName(title, 'Make it', (number) => [`addgroup ${number}`, ...joining(this.policy, number, here)]);
+  }
+
+  /**
+   * Gives a group a name, or another one.
+   *
+   * @param {number} number
+   */
+  async call(number) {
+    const name = directory.groupName(number);
+    const title = `What is ${words.group(number, this.policy)} called?`;
+    if (name === null) return this.underName(title, 'Call it so', (to) => moving(this.policy, number, to));
+    const other = await this.askName(title, name, 'Call it so');
+    if (other && other !== name) await order(this.rules.orders, `rename ${number} ${keptGroupName(other)}`);
+  }
+
+  /**
+   * Asks for a name that no group here has; gives it, or ''.
+   *
+   * @param {string} title
+   * @param {string} name that it has, or ''
+   * @param {string} yes
+   */
+  async askName(title, name, yes) {
+    const given = await askWords(this.rules.orders, title, name, yes, MOST_GROUP_NAME);
+    const known = directory.groupCalled(given);
+    if (known === null || !this.policy.groups.has(known) || given === name) return given;
+    say('status', words.groupThere(given));
+    return '';
+  }
+
+  /**
+   * Asks for a name, and has the operations made by which a group gets the number that is kept with it. Where that is new no rule can be about it,
+   * so nothing is undone; where the name was another group's, which is gone here, it is asked about as any change.
+   *
+   * @param {string} title
+   * @param {string} yes
+   * @param {(number: number) => string[]} operations
+   */
+  async underName(title, yes, operations) {
+    const name = await this.askName(title, '', yes);
+    if (!name) return;
+    const known = directory.groupCalled(name);
+    if (known !== null) return this.rules.change(title, yes, operations(known));
+    const [made] = (await order(this.rules.orders, `person reader ${keptGroupName(name)}`)) ?? [];
+    if (made) await this.rules.make(operations(Number(made.split(' ')[1])));
   }
 
   /**

@@ -14,8 +14,10 @@ export class House {
    * @param {string} base
    * @param {string} address of its link
    * @param {import('./device.mjs').Device} device
+   * @param {import('./former.mjs').Formers} formers shows who this browser was
    */
-  constructor(base, address, device) {
+  constructor(base, address, device, formers) {
+    this.formers = formers;
     this.line = new Line(address, {
       hello: () => helloText(device),
       welcomed: () => {},
@@ -49,6 +51,7 @@ export class House {
 
   show() {
     this.people.show();
+    this.formers.show();
     this.documents.show(this.people.isOwner);
     hide('keys-part', !this.people.isOwner);
   }

@@ -1,13 +1,15 @@
-// Opens the page: that of a document, or that of the house of documents. Whose it is the browser's device says, which an invitation makes.
+// Opens the page, in a browser that can show it: that of a document, or that of the house of documents. Whose it is the browser's device says,
+// which an invitation makes.
 import { Copy } from './copy.mjs';
 import { deviceAt, join, keepDevice } from './device.mjs';
 import { directory } from './directory.mjs';
 import { hide, of, say } from './elements.mjs';
+import { become, Formers, waysBack } from './former.mjs';
 import { askDocument, wholeDocument } from './first.mjs';
 import { Held, hold } from './holding.mjs';
 import { House } from './house.mjs';
 import { Kept } from './left.mjs';
-import { lacking } from './needs.mjs';
+import { browserOf } from './needs.mjs';
 import { damaged, NotOpen, tellNotOpen } from './opening.mjs';
 import { Page } from './page.mjs';
 import { Module, NoJournal, NoMemory } from './peer.mjs';
@@ -26,7 +28,6 @@ const ELSEWHERE = 'roastcliff elsewhere'; // by which a page that is loaded agai
 
 const UNINVITED = 'Open the address of your invitation. An owner of the documents gives it to you.';
 const FRAMED = 'This page is shown within another one, which could have you press what you do not see. Open it by itself.';
-const INSECURE = 'Open this page from localhost or over https: elsewhere it cannot keep what you write, nor tell whether you have another page.';
 const GOES_ON = 'You opened this document in another page of this browser, and it goes on there. All that you wrote here is kept.';
 const OPEN_ALREADY = 'Another page of this browser has this document open, and does not let it go. Go on there, or close it first.';
 const NONE_HERE = 'This team has no document of this name.';
@@ -49,6 +50,13 @@ async function load() {
 
 // ---- whose page it is
 
+// Keeps all that this page has, as it is about to begin anew; gives whether that was done.
+async function leave() {
+  /** @type {Page | undefined} */
+  const page = Reflect.get(globalThis, 'page');
+  return page ? page.leave() : true;
+}
+
 /**
  * This browser's device at a house, made of an invitation where it has none.
  *
@@ -57,28 +65,35 @@ async function load() {
  */
 async function deviceFor({ base, document, secret }) {
   const known = deviceAt(base);
-  const use = async (/** @type {string} */ secret) => {
-    const device = await join(linkAddress(location, base, document), secret);
-    keepDevice(base, device);
-    return device;
-  };
   if (!secret && !known) throw new NotOpen(UNINVITED);
-  if (!known) return use(secret ?? '');
-  if (secret) offerInvitation(() => use(secret));
-  return known;
+  const made = () => join(linkAddress(location, base, document), secret ?? '');
+  if (known) {
+    if (secret) offerInvitation(async () => become(base, await made(), leave));
+    return known;
+  }
+  const device = await made();
+  keepDevice(base, device);
+  return device;
 }
 
 /**
- * A browser that takes part already goes on as before. An invitation would make it somebody else's device, or another one of its person, and
- * what it was is gone then: that is told first.
+ * A browser that takes part already goes on as before. An invitation would make it somebody else's device, or another one of its person: that is
+ * told first.
  *
  * @param {() => Promise<unknown>} use
  */
 function offerInvitation(use) {
   hide('invited-here', false);
   of('leave-invitation').addEventListener('click', () => hide('invited-here', true));
-  of('use-invitation').addEventListener('click', () => use().then(() => location.reload(), tell));
+  of('use-invitation').addEventListener('click', () => use().catch(tell));
 }
+
+/**
+ * Tells why the page isn't open. A browser that can't open it as who it is may be again who it was.
+ *
+ * @param {Error} error
+ */
+const notOpen = (error) => tellNotOpen(error, waysBack(placeOf(location).base));
 
 // ---- a document
 
@@ -207,6 +222,7 @@ async function openDocument(spot, device) {
     seek: () => seek(spot, device, had.identity),
     renewed: (left) => openRenewed(spot, device, had.identity, left),
     kept: leftOf(spot),
+    formers: new Formers(spot.base, leave),
   };
   const page = new Page(copy, had.store, await had.store.marks(), at, ways);
   Object.assign(globalThis, { page }); // for who tries it by a script
@@ -217,9 +233,7 @@ const again = () => ({ word: 'Go on here', act: () => location.reload() });
 
 // This page gives the document to a newer one: it keeps all that it has, and begins anew as one that knows of the other.
 async function letGo() {
-  /** @type {Page | undefined} */
-  const page = Reflect.get(globalThis, 'page');
-  if (page && !(await page.leave())) return;
+  if (!(await leave())) return;
   sessionStorage.setItem(ELSEWHERE, 'yes');
   location.reload();
 }
@@ -235,7 +249,7 @@ async function openAlone(spot, device) {
   sessionStorage.removeItem(ELSEWHERE);
   if (isElsewhere) throw new NotOpen(GOES_ON, [again()]);
   try {
-    await hold(`roastcliff document ${keyOf(spot)}`, () => openDocument(spot, device).catch(tellNotOpen), letGo);
+    await hold(`roastcliff document ${keyOf(spot)}`, () => openDocument(spot, device).catch(notOpen), letGo);
   } catch (error) {
     throw error instanceof Held ? new NotOpen(OPEN_ALREADY, [again()]) : error;
   }
@@ -267,17 +281,21 @@ function goesToLocalhost() {
  * @param {boolean} isNew
  */
 function openHouse(base, device, isNew) {
-  const house = new House(base, linkAddress(location, base, null), device);
+  const house = new House(base, linkAddress(location, base, null), device, new Formers(base, leave));
   Object.assign(globalThis, { house });
   if (isNew) house.documents.goToOnly();
+}
+
+// What is built as Safari is sets the caret elsewhere where a line isn't laid out yet, so there all lines are.
+function laysAll() {
+  const { kind } = browserOf(navigator);
+  document.documentElement.classList.toggle('lays-all', kind === 'safari' || kind === 'touch');
 }
 
 async function start() {
   if (top !== self) throw new NotOpen(FRAMED);
   if (goesAlone() || goesToLocalhost()) return;
-  if (!navigator.locks) throw new NotOpen(INSECURE);
-  const missing = lacking();
-  if (missing) throw new NotOpen(missing);
+  laysAll();
   const place = placeOf(location);
   const { base, document: name } = place;
   if (location.hash) history.replaceState(null, '', location.pathname);
@@ -292,6 +310,8 @@ async function start() {
   await openAlone({ base, document: name }, device);
 }
 
+// An invitation that is opened where the page is already changes the end of its address alone.
+addEventListener('hashchange', () => location.reload());
 addEventListener('error', (event) => tell(event.error ?? new Error(event.message)));
 addEventListener('unhandledrejection', ({ reason }) => tell(reason instanceof Error ? reason : new Error(String(reason))));
-start().catch(tellNotOpen);
+start().catch(notOpen);

@@ -14,7 +14,9 @@ interface Selection {
   modify(alter: string, direction: string, granularity: string): void;
 }
 
-interface Highlight extends Set<AbstractRange> {}
+interface Highlight extends Set<AbstractRange> {
+  priority: number;
+}
 
 declare const Highlight: { new (...ranges: AbstractRange[]): Highlight };
 

@@ -13,13 +13,16 @@ export class NotOpen extends Error {
   }
 }
 
-/** @param {Error} error */
-export function tellNotOpen(error) {
+/**
+ * @param {Error} error
+ * @param {{ word: string, act: () => void }[]} [ways] what else may be done where the error tells of nothing
+ */
+export function tellNotOpen(error, ways = []) {
   say('standing', 'Not open');
   of('standing').dataset.kind = 'bad';
   hide('opening', false);
   say('opening-words', error.message);
-  const acts = error instanceof NotOpen ? error.acts : [];
+  const acts = error instanceof NotOpen ? error.acts : ways;
   of('opening-acts').replaceChildren(...acts.map(({ word, act }) => button(word, word, act)));
 }
 

@@ -42,20 +42,21 @@ export class Page {
   /**
    * `seek` looks where the document is, as it isn't here any more; it gives what there is to say of it, and whether it is gone for good.
    * `renewed` is given what this page wrote and the host didn't take before the document was renewed; it keeps that, and has the page
-   * open the new one. `kept` has what was kept so of earlier ones.
+   * open the new one. `kept` has what was kept so of earlier ones. `formers` shows who this browser was.
    *
    * @param {import('./copy.mjs').Copy} copy
    * @param {import('./store.mjs').Store} store
    * @param {import('./store.mjs').Marks} marks
    * @param {At} at
    * @param {{ seek: () => Promise<{ words: string, isOver: boolean }>, renewed: (left: import('./left.mjs').Left[]) => Promise<void>,
-   *   kept: import('./left.mjs').Kept }} ways
+   *   kept: import('./left.mjs').Kept, formers: import('./former.mjs').Formers }} ways
    */
-  constructor(copy, store, marks, at, { seek, renewed, kept }) {
+  constructor(copy, store, marks, at, { seek, renewed, kept, formers }) {
     this.copy = copy;
     this.at = at;
     this.seek = seek;
     this.renewed = renewed;
+    this.formers = formers;
     this.undone = copy.undone.count; // so many edits were undone when it was said last
     this.saidUntil = 0; // what the status says stays until then
     this.hasRefused = false;
@@ -154,6 +155,7 @@ export class Page {
     localStorage.setItem(`roastcliff people ${this.at.key}`, JSON.stringify(directory.kept));
     this.editor.show();
     this.changed();
+    this.formers.show();
     if (this.people.isOwner) this.keys.ask();
   }
 

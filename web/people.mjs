@@ -1,11 +1,10 @@
 // The people of a house: who is here, who may do what, and what an owner does about it.
 import { colourOfPerson } from './colours.mjs';
-import { directory } from './directory.mjs';
+import { directory, groupNameIn } from './directory.mjs';
 import { button, hide, made, of, say, staying } from './elements.mjs';
 import { Leaving } from './leaving.mjs';
-import { NotDone } from './orders.mjs';
-import { ask, askWords } from './question.mjs';
-import { byRole, invited, notDone, powersTold, replacing, role as roleWords, whereabouts } from './told.mjs';
+import { ask, askWords, order } from './question.mjs';
+import { byRole, invited, LIKE_A_GROUP, powersTold, replacing, role as roleWords, whereabouts } from './told.mjs';
 import * as words from './words.mjs';
 
 /** @typedef {import('./protocol.mjs').Person} Person */
@@ -75,7 +74,7 @@ export class People {
     this.said = said;
     hide('new-person', !isOwner);
     this.tellSelf();
-    const people = [...directory.people.values()].sort((a, b) => a.person - b.person);
+    const people = directory.persons;
     of('here').replaceChildren(...people.filter(({ person }) => present.has(person)).map(hereItem));
     staying('people', () => of('people').replaceChildren(...people.map((it) => this.item(it, this.stateOf(it, present)))));
   }
@@ -85,7 +84,7 @@ export class People {
     const self = directory.people.get(this.own ?? 0);
     if (!self) return;
     const name = words.isolated(self.name);
-    say('invited-words', replacing(name, this.isOwner));
+    say('invited-words', replacing(name));
     say('leave-invitation', `Go on as ${name}`);
   }
 
@@ -158,14 +157,8 @@ export class People {
    *
    * @param {string} line
    */
-  async order(line) {
-    try {
-      return await this.orders.ask(line);
-    } catch (error) {
-      if (!(error instanceof NotDone)) throw error;
-      say('status', notDone(error.words));
-      return null;
-    }
+  order(line) {
+    return order(this.orders, line);
   }
 
   /**
@@ -174,6 +167,7 @@ export class People {
    */
   async inviteNew(name, role) {
     if (!name) return;
+    if (groupNameIn(name) !== null) return say('status', LIKE_A_GROUP);
     const made = await this.order(`person ${role} ${name}`);
     if (!made) return;
     of('new-name', HTMLInputElement).value = '';
@@ -202,6 +196,7 @@ export class People {
   /** @param {Person} it */
   async rename(it) {
     const name = await askWords(this.orders, `Name of ${words.isolated(it.name)}`, it.name, 'Rename');
+    if (groupNameIn(name) !== null) return say('status', LIKE_A_GROUP);
     if (name && name !== it.name) await this.order(`rename ${it.person} ${name}`);
   }
 

@@ -19,7 +19,7 @@ export class Protection {
       event.preventDefault();
       protect(this.chosen);
     });
-    of('make-group').addEventListener('click', () => group(this.chosen.filter((it) => directory.people.has(it))));
+    of('make-group').addEventListener('click', () => group(this.chosen.filter((it) => directory.persons.some(({ person }) => person === it))));
   }
 
   // The numbers of the persons and groups that are chosen.
@@ -45,7 +45,7 @@ export class Protection {
 
   // All who write may be chosen, and groups.
   numbers() {
-    const people = [...directory.people.values()].filter(({ role }) => role !== 'reader').map(({ person }) => person);
+    const people = directory.persons.filter(({ role }) => role !== 'reader').map(({ person }) => person);
     return [...people, ...groupsOf(this.policy)];
   }
 }

@@ -1,7 +1,8 @@
 // The page's questions in front of an order: whether rules are to change, and what something is to be called. Where there is no link nothing
 // can be ordered, so that is told, and nothing asked.
+import { MOST_NAME } from './directory.mjs';
 import { hide, of, say } from './elements.mjs';
-import { OFFLINE } from './orders.mjs';
+import { NotDone, OFFLINE } from './orders.mjs';
 import { notDone } from './told.mjs';
 
 /**
@@ -12,6 +13,22 @@ import { notDone } from './told.mjs';
 function canOrder({ isLinked }) {
   if (!isLinked) say('status', notDone(OFFLINE));
   return isLinked;
+}
+
+/**
+ * Orders something, and says why where it wasn't done. Gives the lines of the answer, or null.
+ *
+ * @param {import('./orders.mjs').Orders} orders
+ * @param {string} line
+ */
+export async function order(orders, line) {
+  try {
+    return await orders.ask(line);
+  } catch (error) {
+    if (!(error instanceof NotDone)) throw error;
+    say('status', notDone(error.words));
+    return null;
+  }
 }
 
 /**
@@ -52,13 +69,15 @@ export async function ask(orders, { title, undone, more = '', yes, keep = null }
  * @param {string} title
  * @param {string} words that stand there
  * @param {string} yes
+ * @param {number} [most] so many letters there may be
  */
-export async function askWords(orders, title, words, yes) {
+export async function askWords(orders, title, words, yes, most = MOST_NAME) {
   if (!canOrder(orders)) return '';
   say('wording-yes', yes);
   const label = document.querySelector('#wording-title label');
   if (label) label.textContent = title;
   const input = of('wording-words', HTMLInputElement);
+  input.maxLength = most;
   input.value = words;
   input.select();
   return (await shown('wording')) === 'yes' ? input.value.trim() : '';

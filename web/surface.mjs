@@ -12,6 +12,7 @@ import { countWhile, laidOut, renewed } from './layout.mjs';
 
 const MOST_OF_SHELF = 64; // lines; of more it is parted
 const SHELF = 'shelf';
+const LINE_EMS = 1.6; // how high a line is
 
 /**
  * The highlight of a name.
@@ -96,7 +97,7 @@ export class Surface {
   replace(from, to, laid) {
     const { lines } = this;
     const made = laid.map((it) => this.make(it));
-    const shelf = (lines[from] ?? lines[from - 1])?.node.parentElement ?? this.newShelf(null);
+    const shelf = /** @type {HTMLElement} */ ((lines[from] ?? lines[from - 1])?.node.parentElement ?? this.newShelf(null));
     const before = lines[from]?.node ?? null;
     for (const { node } of made) shelf.insertBefore(node, before);
     lines.slice(from, to).forEach(remove);
@@ -116,13 +117,15 @@ export class Surface {
   /**
    * Parts a shelf of too many lines, from its end on.
    *
-   * @param {Element} shelf
+   * @param {HTMLElement} shelf
    */
   part(shelf) {
     while (shelf.childElementCount > MOST_OF_SHELF) {
       const next = this.newShelf(shelf);
       for (let i = 0; i < MOST_OF_SHELF / 2 && shelf.lastChild; i++) next.prepend(shelf.lastChild);
+      measure(next);
     }
+    measure(shelf);
   }
 
   /**
@@ -279,6 +282,18 @@ function lengthUpTo(line, node, offset) {
     if (isText(it)) length += it.length;
   }
   return length;
+}
+
+/**
+ * Says how high a shelf is about, where a browser didn't lay it out yet.
+ *
+ * @param {HTMLElement} shelf
+ */
+function measure(shelf) {
+  const count = String(shelf.childElementCount);
+  if (shelf.dataset.lines === count) return;
+  shelf.dataset.lines = count;
+  shelf.style.setProperty('contain-intrinsic-height', `auto ${LINE_EMS * shelf.childElementCount}em`);
 }
 
 // A shelf without lines goes too.

@@ -1,6 +1,6 @@
 // What is told of the host and of what it was asked for, in words.
 import { OFFLINE } from './orders.mjs';
-import { capital, counted, edits, fault } from './words.mjs';
+import { capital, counted, edits, fault, isolated } from './words.mjs';
 
 /**
  * Where a page stands with its host.
@@ -52,6 +52,8 @@ export function notDone(words) {
   if (kind === 'bad') return 'The server did not take it. A name has 1 to 40 letters, no space at an end, and no sign that turns other letters round.';
   return Object.hasOwn(REFUSALS, words) ? REFUSALS[words] : `The server did not do it: “${words}”.`;
 }
+
+export const LIKE_A_GROUP = 'A name that ends with “(group)” is one of a group. Choose another one.';
 
 const ROLES = { owner: 'Owner', writer: 'Writer', reader: 'Reader' };
 const BY_ROLE = {
@@ -109,12 +111,28 @@ export function invited(name, mayWrite) {
  * What using an invitation changes in a browser by which somebody takes part already.
  *
  * @param {string} name of who does
- * @param {boolean} isOwner whether that person is an owner
  */
-export function replacing(name, isOwner) {
+export function replacing(name) {
   const who = `You are ${name} in this browser. If you use the invitation that you opened, you are whom it was made for here from then on`;
-  const back = `and cannot come back as ${name} without a new invitation`;
-  return isOwner ? `${who}, ${back}, from another owner or from whoever runs the server.` : `${who}, ${back}.`;
+  return `${who}. This browser keeps that it was ${name}, and you can go back under “Who this browser was”.`;
+}
+
+/**
+ * What a button does by which a browser is again who it was.
+ *
+ * @param {string} name of who that is, or '' where it isn't known
+ */
+export function formerTold(name) {
+  return name ? `Go back to being ${isolated(name)}` : 'Go back to who it was before';
+}
+
+/**
+ * Whether a browser is to forget who it was, as a question.
+ *
+ * @param {string} name
+ */
+export function forgetting(name) {
+  return `Forget that this browser was ${name}? It cannot go back then without a new invitation, and edits that wait here are not sent any more.`;
 }
 
 /** @type {Record<string, string>} */

@@ -1,6 +1,6 @@
 import assert from 'node:assert/strict';
 import test from 'node:test';
-import { byRole, documentName, documentState, found, invited, notDone, notOpened, powersTold, replacing, standing, whereabouts } from './told.mjs';
+import { byRole, documentName, documentState, forgetting, formerTold, found, invited, notDone, notOpened, powersTold, replacing, standing, whereabouts } from './told.mjs';
 
 test('where a page stands', () => {
   const linked = { isWelcome: true, isCaughtUp: true, unsaved: 0, isHeldBack: false, words: '', isOver: false };
@@ -32,8 +32,9 @@ test('people', () => {
   assert.equal(powersTold(byRole('writer'), 'away'), 'A writer, where a document’s rules allow it.');
   assert.match(powersTold('may write', 'removed'), /^Cannot come in without a new invitation\. With one: may write\.$/);
   assert.equal(invited('Cy', true), 'There is an invitation for Cy. Its address is below the list of people.');
-  assert.match(replacing('Cy', false), /^You are Cy in this browser\. .* and cannot come back as Cy without a new invitation\.$/);
-  assert.match(replacing('Cy', true), /without a new invitation, from another owner or from whoever runs the server\.$/);
+  assert.match(replacing('Cy'), /^You are Cy in this browser\. .* This browser keeps that it was Cy, and you can go back under “Who this browser was”\.$/);
+  assert.deepEqual([formerTold('Cy'), formerTold('')], ['Go back to being \u2068Cy\u2069', 'Go back to who it was before']);
+  assert.match(forgetting('Cy'), /^Forget that this browser was Cy\? It cannot go back then without a new invitation, /);
   assert.match(invited('Cy', false), /let Cy only read here, until you press “Allow writing”\.$/);
 });
 

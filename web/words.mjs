@@ -9,6 +9,8 @@ import { MOST_TO_CONFIRM } from './policy.mjs';
  * @typedef {import('./lines.mjs').Denial} Denial
  */
 
+const NUMBERS = new Intl.NumberFormat('en'); // made once, since that takes longer than a key's other words
+
 const FAULTS = {
   [Fault.UserThere]: 'this person is here already',
   [Fault.NoUser]: 'there is no such person',
@@ -62,23 +64,26 @@ export function cited(letters) {
 // ---- people
 
 /**
- * Who a group of the rules is: a person of the house, where it knows one, or those who are in it by a policy.
+ * Who a group of the rules is: one with a name, a person of the house, where it knows one, or those who are in it by a policy.
  *
  * @param {number} number
  * @param {Policy | null} [policy]
  */
 export function group(number, policy = null) {
+  const called = directory.groupName(number);
+  if (called !== null) return `the group ${cited(called)}`;
   const name = directory.nameOf(number);
   if (name !== null) return isolated(name);
   const persons = directory.personsOf(policy?.groups.get(number) ?? []);
-  return persons.length ? `the group of ${named(persons)}` : `group ${number}`;
+  if (persons.length) return `the group of ${named(persons)}`;
+  return isTeam() ? 'a group without members' : `group ${number}`;
 }
 
 // Whether the people of a team are known: its server is the administrator then, a user a device, and nobody needs the numbers of parts.
 const isTeam = () => directory.people.size > 0;
 
 /** @param {number[]} numbers */
-const named = (numbers) => listed(numbers.map((it) => group(it)));
+export const named = (numbers) => listed(numbers.map((it) => group(it)));
 
 /**
  * Who a user of the rules is: the person whose device it is, where the house knows him.
@@ -186,7 +191,7 @@ export function refusal(answer, policy) {
   if (denial) return `You may not do this here. ${reason(denial, policy)}`;
   if (answer === 'history full') return `This text has had ${counted(MOST_REQUESTS, 'edit')}, and takes no more.`;
   if (answer === 'clock end') return 'This text takes no more edits.';
-  if (answer === 'log full') return `The rules were changed ${MOST_VERSIONS.toLocaleString('en')} times, and no more may be.`;
+  if (answer === 'log full') return `The rules were changed ${NUMBERS.format(MOST_VERSIONS)} times, and no more may be.`;
   if (answer === 'not administrator') return 'Only the administrator changes the rules.';
   if (answer === 'nothing tentative') return 'Nothing waits to be confirmed.';
   const [first, number] = answer.split(' ');
@@ -199,15 +204,33 @@ export function refusal(answer, policy) {
 
 export const FEW_FOR_A_GROUP = 'Choose two people or more who have opened this document: a group is made of their devices.';
 
+/** @param {string} name */
+export function groupThere(name) {
+  return `There is a group ${cited(name)} in this document already. Change that one, or choose another name.`;
+}
+
 /**
- * Whether a group is to be made, as a question.
+ * What a group that is made is to be called, as a question.
  *
  * @param {number[]} persons
  * @param {number[]} others who were chosen too, and have no device here yet
  */
 export function makingGroup(persons, others) {
   const more = others.length ? ` ${named(others)} can be put in later, after the first visit.` : '';
-  return `Make a group of ${named(persons)}?${more}`;
+  return `What is the group of ${named(persons)} called?${more}`;
+}
+
+/**
+ * A group with those who are in it, in a list of groups.
+ *
+ * @param {number} number
+ * @param {Policy} policy
+ */
+export function groupTold(number, policy) {
+  const name = capital(group(number, policy));
+  if (directory.groupName(number) === null) return `${name}.`;
+  const persons = directory.personsOf(policy.groups.get(number) ?? []);
+  return persons.length ? `${name}: ${named(persons)}.` : `${name} has no members.`;
 }
 
 // ---- what was undone
@@ -217,7 +240,7 @@ export function makingGroup(persons, others) {
  * @param {string} one
  */
 export function counted(count, one) {
-  return `${count.toLocaleString('en')} ${one}${count === 1 ? '' : 's'}`;
+  return `${NUMBERS.format(count)} ${one}${count === 1 ? '' : 's'}`;
 }
 
 const EDITS = {
@@ -356,7 +379,7 @@ export function powers(allows, policy) {
 
 // ---- how much is used
 
-const [SOME, ALL] = [MOST_TO_CONFIRM, MOST_VERSIONS].map((it) => it.toLocaleString('en'));
+const [SOME, ALL] = [MOST_TO_CONFIRM, MOST_VERSIONS].map((it) => NUMBERS.format(it));
 const COST = `Each letter that is confirmed takes a version of the rules. There are ${ALL}; after ${SOME} they are left for rules.`;
 const RESERVED = `${SOME} of the ${ALL} versions of the rules are used, and the others are left for rules. So only “Confirm the next edit” confirms any more.`;
 
@@ -376,7 +399,7 @@ export function confirming(isReserved) {
  * @param {number} version of the rules
  */
 export function room(count, version) {
-  const [a, b, c, d] = [count, MOST_REQUESTS, version, MOST_VERSIONS].map((it) => it.toLocaleString('en'));
+  const [a, b, c, d] = [count, MOST_REQUESTS, version, MOST_VERSIONS].map((it) => NUMBERS.format(it));
   return `This text has had ${a} of the ${b} edits that it may have, and its rules ${c} of ${d} changes.`;
 }
 
@@ -388,7 +411,7 @@ const DUE_VERSIONS = 12_000;
 export const RENEW_IT = 'It is time to renew this document: a new one takes its place, with the same text and the same rules, and room for as many edits again.';
 export const ASK_TO_RENEW = 'This document is getting full. Ask an owner to renew it.';
 export const RENEWING = 'Nothing would be undone. A new document takes its place, with the same text, people and rules.';
-export const RENEWING_MORE = 'What stands there is confirmed by it: no rule can undo it any more. Who wrote what is not known in the new one, and rules about what somebody wrote lose their place. The old one stays in the host’s folder, with its certificate.';
+export const RENEWING_MORE = 'What stands there is confirmed by it: no rule can undo it any more. Who wrote what is not known in the new one, and rules about what somebody wrote lose their place. The old one stays in the server’s folder, with its certificate.';
 
 /**
  * Whether a document is to be renewed, by how many edits it has had and how often its rules were changed.

@@ -26,7 +26,7 @@ async function load() {
   try {
     return await Module.load(await response.arrayBuffer());
   } catch (error) {
-    throw new Error(`This browser cannot run the editor: it needs WebAssembly with a memory of 64 bits. (${error.message})`);
+    throw new Error(`This browser cannot run the editor: it needs WebAssembly. (${error.message})`);
   }
 }
 
