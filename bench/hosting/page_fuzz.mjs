@@ -1,6 +1,6 @@
 // Two or three people press keys at random in one document at a running host, each now and then without a link or with the page loaded anew,
-// while the owner takes rights away and gives them back, and protects paragraphs. In the end all pages show the same, each what its peer has, and
-// the host has that too. Outside the suite.
+// while the owner takes rights away and gives them back, and protects paragraphs. The module of all but the owner has a memory of 32 bits. In
+// the end all pages show the same, each what its peer has, and the host has that too. Outside the suite.
 //
 //   node bench/hosting/page_fuzz.mjs CHROMIUM HOST [--seeds FIRST-LAST] [--rounds N] [--side-by-side N] [--ended FILE]
 //
@@ -18,6 +18,7 @@ const ORDER_IN = 6; // rounds
 const RESTART_IN = 60;
 const NAMES = ['Bea', 'Cy'];
 const PATIENCE_MS = 240000; // beside other work
+const NARROW = 'WebAssembly.validate = () => false'; // as in a browser that knows no memory of 64 bits
 
 function option(name, usual) {
   const at = process.argv.indexOf(name);
@@ -29,8 +30,10 @@ const standing = (page) => page.value(`document.getElementById('standing')?.text
 
 const saved = (page) => until(async () => `it is saved: ${await page.value('document.body.innerText.slice(0, 400)')} ${page.faults.slice(0, 3).join(' // ')}`, async () => (await standing(page)) === 'Saved', PATIENCE_MS);
 
-async function open(browser, address) {
-  const page = await browser.page(address, await browser.profile(), SIZE);
+async function open(browser, address, before = '') {
+  const page = await browser.page('about:blank', await browser.profile(), SIZE);
+  if (before) await page.before(before);
+  await page.go(address);
   await saved(page);
   await page.value('document.getElementById("text").focus(), null');
   return page;
@@ -41,7 +44,7 @@ async function invite(browser, ada, name) {
   const before = await ada.value(address);
   await ada.value(`document.getElementById('new-name').value = '${name}', document.querySelector('#new-person button').click(), null`);
   await until('there is an address', async () => (await ada.value(address)) !== before, PATIENCE_MS);
-  return open(browser, await ada.value(address));
+  return open(browser, await ada.value(address), NARROW);
 }
 
 // What a page shows, what its peer has, how long its journal is, and whether it knows the pieces and who put each in.
@@ -77,7 +80,7 @@ class Team {
       this.trace.push(acts.join(' | '));
       if (this.dice.draw(ORDER_IN) === 0) await pause(this.dice.draw(500));
       if (this.dice.draw(RESTART_IN) === 0) await this.restart();
-      for (const it of this.pages) await this.look(it);
+      await Promise.all(this.pages.map((it) => this.look(it)));
     }
     return this.end();
   }

@@ -153,7 +153,9 @@ class Host:
         return self.make(None, step) if isinstance(step, ORDERS + (Settle,)) else "refused not-allowed"
 
     def save(self) -> str:
-        return self.refused_or(self.keeper.call(), Saved(), "ok")
+        """A save fails for the disk alone."""
+        failed = self.keeper.call() is not None
+        return self.refused_or(self.keeper.FAILS["disk"] if failed else None, Saved(), "ok")
 
     # ---- what links are given and told
 
