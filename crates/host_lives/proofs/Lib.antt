@@ -1,0 +1,5 @@
+pub mod Lasting
+pub mod Requests
+pub mod Closes
+pub mod Records
+pub mod Samples

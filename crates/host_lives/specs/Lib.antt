@@ -1,0 +1,4 @@
+pub mod Lives
+pub mod Files
+pub mod Laws
+pub mod Samples
