@@ -1,5 +1,5 @@
 -- The lives of a host, one after another, with what each leaves in the people's file and in a document's.
-use Rattle.std.specs.Prelude.{◌≡◌, ⊤, ℕ, true, false, List, [], ◌∷◌, ◌++◌, Option, None, IsSomeAnd}
+use Rattle.std.specs.Prelude.{◌≡◌, ⊤, ℕ, true, false, List, [], ◌∷◌, Option, None, IsSomeAnd}
 use Rattle.sha2.specs.Sha256.{sha256}
 use Rattle.edit_message.specs.declared.message.Message.{Message}
 use Rattle.peer_core.specs.Peer.{Peer}
@@ -7,6 +7,7 @@ use Rattle.host_core.specs.declared.event.HostEvent.{HostEvent}
 use Rattle.host_core.specs.declared.event.HostEvent.TheVariants.{Began, LinkOpened}
 use Rattle.host_core.specs.Past.{host_peer, saved_journal, device_of}
 use Rattle.host_core.specs.Happens.{MayHappen}
+use Rattle.host_store.specs.Kept.{IsWithinMade}
 use Rattle.host_people.specs.declared.change.Change.{Change}
 use Rattle.host_people.specs.declared.change.Change.TheVariants.{Joined}
 use Rattle.host_people.specs.declared.people.Holder.{Holder}
@@ -44,14 +45,8 @@ journal_left first [] = first
 journal_left first (LifeEnded journal ∷ ls) = journal
 journal_left first (l ∷ ls) = journal_left first ls
 
--- a journal has all that is saved, and nothing but what was made
-pub record IsWithinMade (saved journal made : List Message) : Type 0 where
-  pub more : List Message
-  pub lost : List Message
-  pub has_saved : journal ≡ saved ++ more
-  pub was_made : made ≡ journal ++ lost
-
--- a crash leaves this journal: the one that was left, as long as no host has begun
+-- a crash leaves this journal: the one that was left, as long as no host has begun, and then all that is saved and nothing but what
+-- was made
 abbrev pub LeavesJournal : List Message → List HostEvent → List Message → Type 0
 LeavesJournal left [] journal = journal ≡ left
 LeavesJournal left (e ∷ es) journal = IsWithinMade (saved_journal (e ∷ es)) journal (host_peer (e ∷ es)).journal

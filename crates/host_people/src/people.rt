@@ -1,5 +1,7 @@
 //! The people of a host.
-ghost use Rattle.std.specs.Prelude.{◌≡◌, List, [], ◌∷◌, true, OnOk, OnErr};
+ghost use Rattle.std.specs.Prelude.{◌≡◌, List, [], ◌∷◌, None, true, IfSome, OnOk, OnErr};
+ghost use Rattle.std.specs.Ordering.{nat_cmp};
+ghost use Rattle.std.specs.BTreeMap.{get};
 ghost use Rattle.host_people.specs.declared.change.Change.{Change};
 ghost use Rattle.host_people.specs.Holders.{role_of, invitation_holder, device_holder, AreOfChanges};
 
@@ -39,7 +41,9 @@ impl Model for People {
 }
 
 // The number behind the greatest of these, from 1; none where there is none left.
-fn number_behind<T>(known: &BTreeMap<u16, T>) -> Option<u16> {
+fn number_behind<T>(known: &BTreeMap<u16, T>) -> Option<u16>
+    ensures { IfSome result (λ number. get nat_cmp known.now number ≡ None) }
+{
     match known.last_key_value() {
         Some((last, _)) => last.checked_add(1),
         None => Some(1),
@@ -116,17 +120,23 @@ impl People {
     }
 
     /// A number for a new person, behind all that were given; none where there is none left.
-    pub fn next_person(&self) -> Option<u16> {
+    pub fn next_person(&self) -> Option<u16>
+        ensures { IfSome result (λ person. role_of person self.now ≡ None) }
+    {
         number_behind(&self.roles)
     }
 
     /// A number for a new invitation.
-    pub fn next_invitation(&self) -> Option<u16> {
+    pub fn next_invitation(&self) -> Option<u16>
+        ensures { IfSome result (λ invitation. invitation_holder invitation self.now ≡ None) }
+    {
         number_behind(&self.invitations)
     }
 
     /// A site for a new device.
-    pub fn next_site(&self) -> Option<u16> {
+    pub fn next_site(&self) -> Option<u16>
+        ensures { IfSome result (λ site. device_holder site self.now ≡ None) }
+    {
         number_behind(&self.devices)
     }
 

@@ -14,16 +14,16 @@ use Rattle.peer_core.specs.Peer.{Peer}
 use Rattle.peer_core.specs.Answers.{answer_of}
 use Rattle.peer_core.specs.After.{peer_after}
 use Rattle.peer_store.specs.Steps.{replay_of, if_changing}
-use Rattle.peer_store.specs.Store.{KeptAs, StandsFor, StandsWithOrWithout, Saved, IsSaved, IsAhead, IsOnDisk, HasMessages}
+use Rattle.peer_store.specs.Store.{KeptAs, StandsFor, StandsWithOrWithout, Saved, IsSaved, IsAhead, IsOnDisk}
 use Rattle.peer_core.proofs.AfterLemmas.{journal_grows}
-use Rattle.host_store.specs.Kept.{KeepsJournal, IsHeld, IsHeldIfTold}
+use Rattle.host_store.specs.Kept.{StandsWithin, KeepsJournal, IsHeld, IsHeldIfTold}
 
 -- a store stands for one list of steps
 abbrev pub OneList : Type 0
 OneList = (site : ℕ) (file : List ℕ) (first second : List Step) → StandsFor site first file → StandsFor site second file → first ≡ second
 
 -- a journal begins with these messages
-abbrev Begins : List Message → List Message → Type 0
+abbrev pub Begins : List Message → List Message → Type 0
 Begins first journal = (others : List Message) × (journal ≡ first ++ others)
 
 -- it grows with the steps
@@ -33,6 +33,14 @@ grown_by p (step ∷ steps) first h =
     let grown = journal_grows p step (answer_of p step) in
     grown_by (peer_after p step) steps first
     (h.0 ++ grown.0, grown.1 ∙ ap (λ (J : List Message). J ++ grown.0) h.1 ∙ append_assoc first h.0 grown.0)
+
+-- with itself
+begins_itself : (journal : List Message) → Begins journal journal
+begins_itself journal = ([], sym (append-nil journal))
+
+-- and after a step with what it was
+pub begins_after_step : (old new : Saved) (step : Step) → new.peer ≡ peer_after old.peer step → Begins old.peer.journal new.peer.journal
+begins_after_step old new step after = subst (λ (p : Peer). Begins old.peer.journal p.journal) (sym after) (journal_grows old.peer step (answer_of old.peer step))
 
 -- what the clauses of a save say where it went well
 abbrev pub Saves : Saved → Saved → Option (List ℕ) → Option (List ℕ) → (List ℕ → Type 0) → (List ℕ → Type 0) → Type 0
@@ -60,12 +68,33 @@ module _ (site : ℕ) where
   grown_replay steps more first h =
       subst (λ (p : Peer). Begins first p.journal) (sym (fold-append peer_after (replay_of site []) steps more)) (grown_by (replay_of site steps) more first h)
 
-  -- what is left with these steps, or with more of them
-  leaves_either : (steps more : List Step) (first : List Message) (file : List ℕ) → Begins first (replay_of site steps).journal → StandsWithOrWithout site steps more file → HasMessages site first file
-  leaves_either steps more first file h (inl without) = record { steps = steps; stands = without; others = h.0; journal_is = h.1 }
+  -- what is left with these steps, or with more of them, which were all that were made
+  leaves_either : (steps more : List Step) (first : List Message) (file : List ℕ) → Begins first (replay_of site steps).journal → StandsWithOrWithout site steps more file
+      → StandsWithin site first (replay_of site (steps ++ more)).journal file
+  leaves_either steps more first file h (inl without) =
+      let lost = grown_replay steps more (replay_of site steps).journal (begins_itself (replay_of site steps).journal) in
+      record { steps = steps; stands = without; within = record { more = h.0; lost = lost.0; has_saved = h.1; was_made = lost.1 } }
   leaves_either steps more first file h (inr with) =
       let g = grown_replay steps more first h in
-      record { steps = steps ++ more; stands = with; others = g.0; journal_is = g.1 }
+      let whole = begins_itself (replay_of site (steps ++ more)).journal in
+      record { steps = steps ++ more; stands = with; within = record { more = g.0; lost = whole.0; has_saved = g.1; was_made = whole.1 } }
+
+  -- what was made may become more
+  more_made : (saved made now : List Message) (file : List ℕ) → Begins made now → StandsWithin site saved made file → StandsWithin site saved now file
+  more_made saved made now file grown h = record {
+    steps = h.steps;
+    stands = h.stands;
+    within = record {
+      more = h.within.more;
+      lost = h.within.lost ++ grown.0;
+      has_saved = h.within.has_saved;
+      was_made = grown.1 ∙ ap (λ (J : List Message). J ++ grown.0) h.within.was_made ∙ append_assoc (replay_of site h.steps).journal h.within.lost grown.0;
+    };
+  }
+
+  pub keeps_more : (told : List Bool) (may_leave : List ℕ → Type 0) (made now saved : List Message) → Begins made now → KeepsJournal site told may_leave made saved
+      → KeepsJournal site told may_leave now saved
+  keeps_more told may_leave made now saved grown keeps is file there = ∥∥₁_map (keeps is file there) (more_made saved made now file grown)
 
   -- ---- a disk that has these steps
 
@@ -75,10 +104,10 @@ module _ (site : ℕ) where
     stands_for file left = subst (StandsFor site steps) (sym (has.keeps.durable file left)) (record { bodies = has.bodies; spelled = has.spelled; has = has.keeps.has })
 
     -- what is kept of the journal is a beginning of that of the steps
-    kept_begins : OneList → (first : List Message) → HasMessages site first has.keeps.file → StandsFor site steps has.keeps.file → Begins first (replay_of site steps).journal
-    kept_begins one first journal stands =
-        let same : journal.steps ≡ steps = one site has.keeps.file journal.steps steps journal.stands stands in
-        subst (λ (s : List Step). Begins first (replay_of site s).journal) same (journal.others, journal.journal_is)
+    kept_begins : OneList → (first made : List Message) → StandsWithin site first made has.keeps.file → StandsFor site steps has.keeps.file → Begins first (replay_of site steps).journal
+    kept_begins one first made left stands =
+        let same : left.steps ≡ steps = one site has.keeps.file left.steps steps left.stands stands in
+        subst (λ (s : List Step). Begins first (replay_of site s).journal) same (left.within.more, left.within.has_saved)
 
     -- the file that the disk tells may be left
     may_be_left : IfSome seen (λ file. may_leave file) → may_leave has.keeps.file
@@ -112,13 +141,17 @@ module _ (site : ℕ) where
       disk = on_disk;
     }
 
-    -- its whole journal is kept
-    pub saved_keeps : (file : List ℕ) → may_leave file → HasMessages site saved.peer.journal file
+    -- its whole journal is kept, and nothing else
+    pub saved_keeps : (file : List ℕ) → may_leave file → StandsWithin site saved.peer.journal saved.peer.journal file
     saved_keeps file left = record {
       steps = steps;
       stands = stands_for steps seen may_leave on_disk file left;
-      others = [];
-      journal_is = ap (λ (p : Peer). p.journal) (sym kept.peer_is) ∙ sym (append-nil saved.peer.journal);
+      within = record {
+        more = [];
+        lost = [];
+        has_saved = ap (λ (p : Peer). p.journal) (sym kept.peer_is) ∙ sym (append-nil saved.peer.journal);
+        was_made = ap (λ (p : Peer). p.journal) kept.peer_is ∙ sym (append-nil (replay_of site steps).journal);
+      };
     }
 
   -- ---- a new keeper
@@ -132,7 +165,7 @@ module _ (site : ℕ) where
   new_held before saved seen may_leave h is unspent = let kept = h (was_told before is) in saved_held kept.0 saved seen may_leave kept.1
 
   pub new_keeps : (before : Option (List ℕ)) (saved : Saved) (seen : Option (List ℕ)) (may_leave : List ℕ → Type 0) → SavedIfSeen before saved seen may_leave
-      → KeepsJournal site (is_some before ∷ []) may_leave saved.peer.journal
+      → KeepsJournal site (is_some before ∷ []) may_leave saved.peer.journal saved.peer.journal
   new_keeps before saved seen may_leave h is file left = let kept = h (was_told before is) in merely (saved_keeps kept.0 saved seen may_leave kept.1 file left)
 
   -- ---- a save
@@ -144,21 +177,28 @@ module _ (site : ℕ) where
       saved_held (h.steps ++ h.more) new now may_now (saves site h.steps h.more h.ahead h.disk)
 
   pub save_keeps_all : (told : List Bool) (old new : Saved) (before now : Option (List ℕ)) (may may_now : List ℕ → Type 0) → old.spent ≡ false → Saves old new before now may may_now
-      → ∥ IsHeldIfTold site told old before may ∥₁ → KeepsJournal site told may_now new.peer.journal
+      → ∥ IsHeldIfTold site told old before may ∥₁ → KeepsJournal site told may_now new.peer.journal new.peer.journal
   save_keeps_all told old new before now may may_now unspent saves held is file there =
       ∥∥₁_map held (λ (there_held : IsHeldIfTold site told old before may).
       let h = there_held is unspent in
       saved_keeps (h.steps ++ h.more) new now may_now (saves site h.steps h.more h.ahead h.disk) file there)
 
-  pub save_keeps : OneList → (told : List Bool) (old : Saved) (before : Option (List ℕ)) (may may_now : List ℕ → Type 0) (first : List Message) → old.spent ≡ false → Leaves old before may may_now
-      → IfSome before (λ file. may file) → ∥ IsHeldIfTold site told old before may ∥₁ → KeepsJournal site told may first → KeepsJournal site told may_now first
-  save_keeps one told old before may may_now first unspent leaves left held keeps is file there =
+  -- all steps that were made are those that the disk has and those that it lacks
+  made_is : (steps more : List Step) (saved : Saved) → IsAhead site steps more saved → saved.peer ≡ replay_of site (steps ++ more)
+  made_is steps more saved ahead = ahead.peer_is ∙ sym (fold-append peer_after (replay_of site []) steps more)
+
+  pub save_keeps : OneList → (told : List Bool) (old new : Saved) (before : Option (List ℕ)) (may may_now : List ℕ → Type 0) (first : List Message) → old.spent ≡ false → new.peer ≡ old.peer
+      → Leaves old before may may_now → IfSome before (λ file. may file) → ∥ IsHeldIfTold site told old before may ∥₁ → KeepsJournal site told may old.peer.journal first
+      → KeepsJournal site told may_now new.peer.journal first
+  save_keeps one told old new before may may_now first unspent peer leaves left held keeps is file there =
       ∥∥₁_elim held ∥∥₁_prop (λ (there_held : IsHeldIfTold site told old before may).
       let h = there_held is unspent in
       let now : may h.disk.keeps.file = may_be_left h.steps before may h.disk left in
       let stands : StandsFor site h.steps h.disk.keeps.file = stands_for h.steps before may h.disk h.disk.keeps.file now in
-      ∥∥₁_map (keeps is h.disk.keeps.file now) (λ (journal : HasMessages site first h.disk.keeps.file).
-      leaves_either h.steps h.more first file (kept_begins h.steps before may h.disk one first journal stands) (leaves site h.steps h.more h.ahead h.disk file there)))
+      let made : replay_of site (h.steps ++ h.more) ≡ new.peer = sym (peer ∙ made_is h.steps h.more old h.ahead) in
+      ∥∥₁_map (keeps is h.disk.keeps.file now) (λ (kept : StandsWithin site first old.peer.journal h.disk.keeps.file).
+      subst (λ (p : Peer). StandsWithin site first p.journal file) made
+      (leaves_either h.steps h.more first file (kept_begins h.steps before may h.disk one first old.peer.journal kept stands) (leaves site h.steps h.more h.ahead h.disk file there))))
 
   -- ---- a step
 

@@ -63,8 +63,8 @@ fn open_store<D: Disk>(alloc: Global, disk: &mut D, site: u16) -> Result<Store, 
 impl<D: Disk + Drop> StoreKeeper<D> {
     /// The keeper of the store of the administrator on this disk: a new one where the disk is empty.
     pub fn open(alloc: Global, disk: D) -> Result<Self, StoreFault>
-        // The whole journal is kept.
-        ensures kept { IfOk result (λ k. KeepsJournal k.site k.told.items (D.may_leave k.disk) k.store.peer.journal) }
+        // The whole journal is kept, and nothing else.
+        ensures kept { IfOk result (λ k. KeepsJournal k.site k.told.items (D.may_leave k.disk) k.store.peer.journal k.store.peer.journal) }
         ensures site { IfOk result (λ k. k.site ≡ ADMINISTRATOR) }
     {
         StoreKeeper::open_at(alloc, disk, ADMINISTRATOR)
@@ -72,8 +72,8 @@ impl<D: Disk + Drop> StoreKeeper<D> {
 
     /// The keeper of the store of a site on this disk: a new one where the disk is empty.
     pub fn open_at(alloc: Global, mut disk: D, site: u16) -> Result<Self, StoreFault>
-        // The whole journal is kept.
-        ensures kept { IfOk result (λ k. KeepsJournal k.site k.told.items (D.may_leave k.disk) k.store.peer.journal) }
+        // The whole journal is kept, and nothing else.
+        ensures kept { IfOk result (λ k. KeepsJournal k.site k.told.items (D.may_leave k.disk) k.store.peer.journal k.store.peer.journal) }
         ensures site { IfOk result (λ k. k.site ≡ site) }
     {
         let none: GhostList<bool> = GhostList::new();
@@ -94,7 +94,7 @@ impl<D: Disk + Drop> Keeper for StoreKeeper<D> {
 
     ghost peer = { λ k. k.store.peer };
 
-    ghost keeps = { λ k first. KeepsJournal k.site k.told.items (D.may_leave k.disk) first };
+    ghost keeps = { λ k first. KeepsJournal k.site k.told.items (D.may_leave k.disk) k.store.peer.journal first };
 
     fn peer(&self) -> &Peer {
         self.store.peer()

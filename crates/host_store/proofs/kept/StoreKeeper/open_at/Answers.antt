@@ -15,5 +15,5 @@ invariant_of-result g c = record {
 
 pub returns-clause-kept : goal.returns-clause-kept
 returns-clause-kept g c =
-    subst (λ (told : List Bool). KeepsJournal c.args.site told (g.D.Disk.may_leave c.open_store.new.disk) c.in_ok-store.store.peer.journal) (sym c.changed-told.ensures)
+    subst (λ (told : List Bool). KeepsJournal c.args.site told (g.D.Disk.may_leave c.open_store.new.disk) c.in_ok-store.store.peer.journal c.in_ok-store.store.peer.journal) (sym c.changed-told.ensures)
     (new_keeps c.args.site (g.D.Disk.seen c.args.disk) c.in_ok-store.store (g.D.Disk.seen c.open_store.new.disk) (g.D.Disk.may_leave c.open_store.new.disk) c.in_ok-store.ensures.saved)
