@@ -4,6 +4,7 @@ use Rattle.std.specs.Prelude.{not, find, remove}
 use Rattle.std.specs.Option.{option_map_or}
 use Rattle.std.specs.List.{flat_map, position_or_len}
 use Rattle.std.proofs.lemmas.Bool.{true≢false}
+use Rattle.std.proofs.lemmas.List.{append-nil}
 use Rattle.std.proofs.lemmas.List.Folds.{find_at}
 use Rattle.std.proofs.lemmas.List.Concat.{flat_map-cons}
 use Rattle.std.proofs.lemmas.List.Edits.{length-remove}
@@ -105,6 +106,11 @@ settled_more p h =
     ∙ steps_more (length p.held) p h
     ∙ ap (run_first (answer_settle p)) (enough (length p.held) (length q.held) q (is_quiet (answer_settle q)) refl (omega (arith, less)) (omega arith))
 
+-- where nothing is held there are none
+settled_none : (p : Peer) → length p.held ≤ 0 → all_settle_steps p ≡ record { answers = []; peer = p }
+unfolding all_settle_steps settle_steps
+settled_none p none = let zero_held : length p.held ≡ 0 = omega arith in ap (λ n. settle_steps n p) zero_held
+
 -- after them nothing is due
 steps_end : (n : ℕ) (p : Peer) (quiet : Bool) → is_quiet (answer_settle p) ≡ quiet → length p.held ≤ n → is_quiet (answer_settle (settle_steps n p).peer) ≡ true
 steps_end n p true h le = ap (λ (a : SettleRun). is_quiet (answer_settle a.peer)) (steps_quiet n p h) ∙ h
@@ -128,6 +134,14 @@ is_due_by due true e h = absurd (true≢false (sym h ∙ e))
 pub not_due_by : (due quiet : Bool) → due ≡ not quiet → due ≡ false → quiet ≡ true
 not_due_by due true e h = refl
 not_due_by due false e h = absurd (true≢false (sym e ∙ h))
+
+-- where nothing is held all is told, and the peer is the last one
+pub lines_over : (line : Answer → List ℕ) (p : Peer) (lines all : List ℕ) → length p.held ≤ 0 → lines ++ flat_map line (all_settle_steps p).answers ≡ all → lines ≡ all
+lines_over line p lines all none so_far =
+    sym (append-nil lines) ∙ ap (λ (a : SettleRun). lines ++ flat_map line a.answers) (sym (settled_none p none)) ∙ so_far
+
+pub peer_over : (p last : Peer) → length p.held ≤ 0 → (all_settle_steps p).peer ≡ last → p ≡ last
+peer_over p last none so_far = ap (λ (a : SettleRun). a.peer) (sym (settled_none p none)) ∙ so_far
 
 module _ (line : Answer → List ℕ) (p q : Peer) (lines now : List ℕ) (told : now ≡ lines ++ settle_told line (answer_settle p)) (after : q ≡ peer_after p Settle) where
   -- what is told of the steps from a peer on

@@ -48,17 +48,18 @@ fn settle_first<T: Telling>(peer: &mut Peer, to: &mut T) -> Result<bool, NoMemor
     told
 }
 
-// Settles what is due, and tells the answers.
+// Settles what is due, and tells the answers. Where nothing is held no step is made.
 fn settle<T: Telling>(peer: &mut Peer, to: &mut T) -> Result<(), NoMemory>
     ensures told { OnOk result (T.told to.new ≡ T.told to.old ++ flat_map T.line (all_settle_steps peer.old).answers) }
     ensures peer { OnOk result (peer.new ≡ (all_settle_steps peer.old).peer) }
 {
-    'steps: loop {
+    'steps: while peer.held_len() > 0 {
         let due = settle_first(peer, to)?;
         if !due {
             return Ok(());
         }
     }
+    Ok(())
 }
 
 // Receives a message, settles what is due then, and tells the answers.

@@ -1,4 +1,5 @@
-use Rattle.form_feed.proofs.Settling.{is_due_by, not_due_by, lines_end, peer_end, lines_more, peer_more, held_less}
+use Rattle.std.proofs.Common.{arith}
+use Rattle.form_feed.proofs.Settling.{is_due_by, not_due_by, lines_end, peer_end, lines_more, peer_more, held_less, lines_over, peer_over}
 use Rattle.form_feed.proofs.turn.settle.Goals as goal
 
 pub returns-then-not-due-clause-told : goal.returns-then-not-due-clause-told
@@ -29,3 +30,10 @@ steps-preserved g c =
       peer = peer_more g.T.Telling.line c.steps.peer c.settle_first.new.peer (g.T.Telling.told c.steps.to) (g.T.Telling.told c.settle_first.new.to) step.told step.peer _ due
           c.steps.invariant.peer;
     }
+
+pub returns-clause-told : goal.returns-clause-told
+returns-clause-told g c =
+    lines_over g.T.Telling.line c.steps.peer (g.T.Telling.told c.steps.to) _ (omega (arith, c.held_len.ensures, c.steps-test.false)) c.steps.invariant.told
+
+pub returns-clause-peer : goal.returns-clause-peer
+returns-clause-peer g c = peer_over c.steps.peer _ (omega (arith, c.held_len.ensures, c.steps-test.false)) c.steps.invariant.peer
