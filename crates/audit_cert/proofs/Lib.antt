@@ -2,6 +2,7 @@ pub mod GrantRuns
 pub mod GrantWalks
 pub mod Rematches
 pub mod RematchTables
+pub mod IdLemmas
 pub mod NextMessages
 pub mod AnchoredTrees
 pub mod Followings

@@ -14,6 +14,7 @@ mod fail;
 mod fault;
 mod grant;
 mod granting;
+mod ids;
 mod judging;
 pub mod laws;
 mod lines;
