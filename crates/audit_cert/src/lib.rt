@@ -12,6 +12,7 @@ mod basis;
 mod elements;
 mod fail;
 mod fault;
+mod findings;
 mod grant;
 mod granting;
 mod ids;
@@ -23,7 +24,6 @@ mod opening;
 mod order;
 mod ranks;
 mod rematch;
-mod walk;
 
 pub use auditing::audit;
 pub use fail::CertFail;

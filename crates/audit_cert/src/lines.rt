@@ -13,9 +13,9 @@ ghost use Rattle.audit_cert.specs.Basis.{may_be_judged, message_bytes};
 ghost use Rattle.audit_cert.specs.Certificate.{counts_line, element_line, grant_line, request_lines};
 ghost use Rattle.audit_cert.specs.Rematches.{IsRematchTable};
 
-use crate::grant::{Grant, grants_of};
+use crate::findings::findings_of;
+use crate::grant::Grant;
 use crate::judging::Judging;
-use crate::walk::state_of;
 use coop_request::Request;
 use edit_frame::Frame;
 use edit_message::Message;
@@ -94,10 +94,9 @@ fn put_request<P: Places>(
     requires element { has_name (P.names judging.now.places.now) (element_of request) ≡ true }
     ensures { OnOk result (out.new.items ≡ out.old.items ++ concat (request_lines (P.names judging.now.places.now) judging.now.log.now request)) }
 {
-    let state = state_of(judging, request)?;
-    put_state_line(out, request.id(), state)?;
-    let grants = grants_of(alloc, judging, request)?;
-    put_grants(out, &grants)
+    let findings = findings_of(alloc, judging, request)?;
+    put_state_line(out, request.id(), findings.state)?;
+    put_grants(out, &findings.grants)
 }
 
 // Appends the lines of a message, which are those of its request, if it is one.
