@@ -12,4 +12,5 @@ pub mod GrantingAuths
 pub mod Prefixes
 pub mod Closings
 pub mod Audits
+pub mod KeptFrameLemmas
 pub mod WalkedStates

@@ -14,9 +14,9 @@ use crate::elements::Elements;
 use crate::fail::CertFail;
 use crate::fault::AuditFault;
 use crate::ids::Ids;
+use crate::kept_frame::KeptFrame;
 use admin_log::{AdminLog, LogFault};
 use coop_request::{Edit, MAX_REQUESTS, Request};
-use edit_frame::Frame;
 use edit_message::{Key, Message};
 use element_name::{Name, NoMemory};
 use peer_core::JournalItem;
@@ -173,17 +173,17 @@ impl<E: Elements> Basis<E> {
     }
 
     // Takes the messages of frames in, where none was taken in yet.
-    fn take_frames(&mut self, frames: &[Frame]) -> Result<(), AuditFault>
+    fn take_frames(&mut self, frames: &[KeptFrame]) -> Result<(), AuditFault>
         requires { IsBasisOf [] self.old.log (E.names self.old.elements) self.old.ids }
         ensures ok { OnOk result (IsBasisOf (messages_of_frames frames.now) self.new.log (E.names self.new.elements) self.new.ids) }
         ensures items { OnOk result (AreItems frames.now) }
         ensures fault { IfErr result (IsFaultIn frames.now) }
     {
         for place in 0..frames.len() {
-            let Frame::Item(item) = &frames[place] else {
+            let item = frames[place].message()?;
+            let Some(message) = item else {
                 return Err(AuditFault::NotJournal(place + 1));
             };
-            let message = item.copied()?;
             let taken = self.take(message)?;
             if !taken {
                 return Err(AuditFault::NotJournal(place + 1));
@@ -199,7 +199,7 @@ impl<E: Elements> Basis<E> {
     pub(crate) fn of_frames(
         alloc: Global,
         elements: E,
-        frames: &[Frame],
+        frames: &[KeptFrame],
     ) -> Result<Basis<E>, AuditFault>
         requires { E.names elements ≡ [] }
         ensures ok { IfOk result (λ b. IsBasisOf (messages_of_frames frames.now) b.log (E.names b.elements) b.ids) }

@@ -17,6 +17,7 @@ mod grant;
 mod granting;
 mod ids;
 mod judging;
+mod kept_frame;
 pub mod laws;
 mod lines;
 mod making;

@@ -16,8 +16,8 @@ ghost use Rattle.audit_cert.specs.Rematches.{IsRematchTable};
 use crate::findings::findings_of;
 use crate::grant::Grant;
 use crate::judging::Judging;
+use crate::kept_frame::KeptFrame;
 use coop_request::Request;
-use edit_frame::Frame;
 use edit_message::Message;
 use element_name::{Name, NoMemory, Places};
 use line_write::{put, put_name_word, put_number_word, put_state};
@@ -104,13 +104,13 @@ fn put_message<P: Places>(
     alloc: Global,
     out: &mut Vec<u8>,
     judging: &Judging<'_, P>,
-    message: &JournalItem<'_>,
+    message: Message,
 ) -> Result<(), NoMemory>
     requires table { IsRematchTable judging.now.log.now judging.now.table.now }
-    requires judged { may_be_judged (P.names judging.now.places.now) (length judging.now.log.now) message.now ≡ true }
-    ensures { OnOk result (out.new.items ≡ out.old.items ++ message_bytes (P.names judging.now.places.now) judging.now.log.now message.now) }
+    requires judged { may_be_judged (P.names judging.now.places.now) (length judging.now.log.now) message ≡ true }
+    ensures { OnOk result (out.new.items ≡ out.old.items ++ message_bytes (P.names judging.now.places.now) judging.now.log.now message) }
 {
-    match message.copied()? {
+    match message {
         Message::Coop(request) => put_request(alloc, out, judging, request),
         Message::Admin(_) => Ok(()),
     }
@@ -127,26 +127,28 @@ pub(crate) fn put_requests<P: Places>(
     requires judged { IsTrue (list_all (may_be_judged (P.names judging.now.places.now) (length judging.now.log.now)) journal.now) }
     ensures { OnOk result (out.new.items ≡ out.old.items ++ flat_map (message_bytes (P.names judging.now.places.now) judging.now.log.now) journal.now) }
 {
-    for message in journal {
+    for item in journal {
+        let message = item.copied()?;
         put_message(alloc, out, judging, message)?;
     }
     Ok(())
 }
 
-// Appends the lines of a frame, which are those of its request, if it has one.
+// Appends the lines of a frame, which are those of its message, if it is one.
 fn put_frame<P: Places>(
     alloc: Global,
     out: &mut Vec<u8>,
     judging: &Judging<'_, P>,
-    frame: &Frame,
+    frame: &KeptFrame,
 ) -> Result<(), NoMemory>
     requires table { IsRematchTable judging.now.log.now judging.now.table.now }
     requires judged { IsTrue (list_all (may_be_judged (P.names judging.now.places.now) (length judging.now.log.now)) (messages_of_frames (frame.now ∷ []))) }
     ensures { OnOk result (out.new.items ≡ out.old.items ++ flat_map (message_bytes (P.names judging.now.places.now) judging.now.log.now) (messages_of_frames (frame.now ∷ []))) }
 {
-    match frame {
-        Frame::Item(Message::Coop(request)) => { put_request(alloc, out, judging, *request) }
-        Frame::Item(Message::Admin(_)) | Frame::Turn | Frame::End => Ok(()),
+    let item = frame.message()?;
+    match item {
+        Some(message) => put_message(alloc, out, judging, message),
+        None => Ok(()),
     }
 }
 
@@ -155,7 +157,7 @@ pub(crate) fn put_frames<P: Places>(
     alloc: Global,
     out: &mut Vec<u8>,
     judging: &Judging<'_, P>,
-    frames: &[Frame],
+    frames: &[KeptFrame],
 ) -> Result<(), NoMemory>
     requires table { IsRematchTable judging.now.log.now judging.now.table.now }
     requires judged { IsTrue (list_all (may_be_judged (P.names judging.now.places.now) (length judging.now.log.now)) (messages_of_frames frames.now)) }
