@@ -19,7 +19,7 @@ use Rattle.element_name.specs.Named.{name_cmp, item_named, put_named}
 use Rattle.element_name.specs.Places.{is_anchor}
 use Rattle.element_name.specs.Tree.{Placed, FollowsTree, IsTree, order, names_of, with_fresh}
 use Rattle.element_name.proofs.EachAfterLemmas.{EachAfter-push}
-use Rattle.element_name.proofs.NameOrder.{is_eq-name_cmp, is_lt-name_cmp, name_eq-comm, name_lt-apart, name_lt-irrefl, name_lt-trans}
+use Rattle.element_name.proofs.NameOrder.{is_lt-name_cmp, name_eq-comm, name_lt-apart, name_lt-irrefl, name_lt-trans}
 use Rattle.element_name.proofs.NamedLemmas.{insert_named}
 use Rattle.tomb_seq.specs.Insert.{insert_fault}
 use Rattle.tomb_seq.proofs.Has.{Has, has_name-none}
@@ -27,6 +27,7 @@ use Rattle.tomb_seq.proofs.NameOrder.{name_lt_by_stamp}
 use Rattle.tomb_seq.proofs.SlotEdits.{IsFree, IsFree-no_fault}
 use Rattle.tomb_seq.proofs.Theorems.{each_law, same_law, skip_law}
 use Rattle.audit_cert.specs.Anchors.{placed_from, is_anchored, IsAnchored}
+use Rattle.audit_cert.proofs.IdLemmas.{found_key}
 
 -- ---- names in ascending order
 
@@ -123,15 +124,6 @@ no_start names (e ∷ es) h =
 
 pub has_placed : (placed : List Placed) (n : Name) → IsTree placed → has_name (order placed) n ≡ has_name (names_of placed) n
 has_placed placed n tree = sym (list_any-IsPermutation (name_eq n) (names_of placed) (order placed) (each_law placed tree))
-
-pub found_key : (es : List (Name × Name)) (n : Name) → is_some (lookup (is_at (name_cmp n)) es) ≡ has_name (keys_of es) n
-found_key [] n = refl
-found_key (e ∷ es) n = rw (is_eq-name_cmp n e.0) (by (name_eq n e.0) (found_key es n))
-  where
-    by : (b : Bool) → is_some (lookup (is_at (name_cmp n)) es) ≡ has_name (keys_of es) n
-        → is_some (if b then Some e.1 else lookup (is_at (name_cmp n)) es) ≡ (b || has_name (keys_of es) n)
-    by true rest = refl
-    by false rest = rest
 
 pub found_element : (es : List (Name × Name)) (n : Name) → IsAnchored es → is_some (lookup (is_at (name_cmp n)) es) ≡ has_name (order (placed_from es)) n
 found_element es n h =

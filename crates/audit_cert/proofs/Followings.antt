@@ -1,8 +1,10 @@
 -- What leads from each element to the next, while the elements are put in by name.
-use Rattle.std.proofs.Common.{◌≡◌, ℕ, suc, ◌+◌, ◌<◌, Bool, true, false, cond, not, None, Some, List, [], ◌∷◌, ◌++◌, insert, length, refl, sym, ap, subst, ◌∙◌, append_assoc, arith, length-append}
+use Rattle.std.proofs.Common.{◌≡◌, ℕ, suc, ◌+◌, ◌<◌, ◌≤◌, Bool, true, false, cond, not, None, Some, List, [], ◌∷◌, ◌++◌, insert, length, refl, sym, ap, subst, ◌∙◌, inl, append_assoc, arith, length-append}
 use Rattle.std.specs.declared.option.Option.{Option}
-use Rattle.std.specs.Prelude.{◌||◌, if◌then◌else◌}
-use Rattle.std.specs.List.{list_all, position_or_len}
+use Rattle.std.specs.declared.cmp.Ordering.TheVariants.{Less}
+use Rattle.std.specs.Ordering.{is_lt}
+use Rattle.std.specs.Prelude.{◌||◌, slice_get, find, if◌then◌else◌}
+use Rattle.std.specs.List.{list_all, position_or_len, AllByRecursion}
 use Rattle.std.specs.List.Sorted.{IsStrictlySortedBy}
 use Rattle.std.specs.Map.{keys_of}
 use Rattle.std.specs.BTreeMap.{is_at}
@@ -11,11 +13,12 @@ use Rattle.std.proofs.lemmas.Bool.Decides.{nat_tests}
 use Rattle.std.proofs.lemmas.List.{append-nil}
 use Rattle.std.proofs.lemmas.List.Folds.{list_any-append, list_all-append}
 use Rattle.std.proofs.lemmas.List.Sorted.{IsPermutation-sym}
+use Rattle.std.proofs.lemmas.Map.Keys.{sorted_head, sorted_tail}
 use Rattle.element_name.specs.Name.{Name, start, name_eq, name_lt, has_name, are_distinct}
 use Rattle.element_name.specs.Named.{name_cmp}
 use Rattle.element_name.specs.Tree.{Placed, FollowsTree, IsTree, order, names_of, after_anchor}
 use Rattle.element_name.proofs.EachAfterLemmas.{EachAfter-front, EachAfter-last}
-use Rattle.element_name.proofs.NameOrder.{is_eq-name_cmp, name_eq-comm, name_eq-refl, same_name}
+use Rattle.element_name.proofs.NameOrder.{is_eq-name_cmp, is_lt-name_cmp, name_eq-comm, name_eq-refl, name_lt-irrefl, name_lt-trans, same_name}
 use Rattle.tomb_seq.proofs.Has.{Has, Has-permutation}
 use Rattle.tomb_seq.proofs.MarkLemmas.{greatest_law}
 use Rattle.tomb_seq.proofs.Theorems.{each_law, once_law, skip_law}
@@ -215,6 +218,90 @@ module _ (all : List (Name × Name)) (e : Name × Name) (left : List (Name × Na
           let again : has_name (start ∷ keys_of linked.read) m ≡ true = subst (λ k. has_name (start ∷ keys_of linked.read) k ≡ true) same there in
           absurd (both_ways (has_name (start ∷ keys_of linked.read) m) out again)
       other m out false is = is
+
+-- ---- the entries one after another, by name
+
+-- of entries that ascend by name, the first above one is the next
+pub next_entry : (read left : List (Name × Name)) (e : Name × Name) → IsStrictlySortedBy name_cmp (keys_of (read ++ e ∷ left))
+    → find (λ x. is_lt (name_cmp e.0 x.0)) (read ++ e ∷ left) ≡ slice_get left 0
+next_entry [] left e sorted =
+    let off : is_lt (name_cmp e.0 e.0) ≡ false = is_lt-name_cmp e.0 e.0 ∙ name_lt-irrefl e.0 in
+    rw off (first left (sorted_head name_cmp e.0 (keys_of left) sorted))
+  where
+    first : (left : List (Name × Name)) → AllByRecursion (λ n. name_cmp e.0 n ≡ Less) (keys_of left) → find (λ x. is_lt (name_cmp e.0 x.0)) left ≡ slice_get left 0
+    first [] all = refl
+    first (y ∷ left) all = rw all.0 refl
+next_entry (x ∷ read) left e sorted =
+    let ascend : IsStrictlySortedBy name_cmp (x.0 ∷ (keys_of read ++ e.0 ∷ keys_of left)) =
+    subst (λ (ns : List Name). IsStrictlySortedBy name_cmp (x.0 ∷ ns)) (keys_append read (e ∷ left)) sorted in
+    let low : name_lt x.0 e.0 ≡ true = prefix_below (x.0 ∷ keys_of read) e.0 (keys_of left) ascend x.0 (inl refl) in
+    let off : is_lt (name_cmp e.0 x.0) ≡ false = is_lt-name_cmp e.0 x.0 ∙ not_back (name_lt e.0 x.0) refl low in
+    rw off (next_entry read left e (sorted_tail name_cmp x.0 (keys_of (read ++ e ∷ left)) sorted))
+  where
+    not_back : (b : Bool) → name_lt e.0 x.0 ≡ b → name_lt x.0 e.0 ≡ true → name_lt e.0 x.0 ≡ false
+    not_back true back low = absurd (both_ways (name_lt x.0 x.0) (name_lt-irrefl x.0) (name_lt-trans x.0 e.0 x.0 low back))
+    not_back false back low = back
+
+-- of all elements by name so many are left, of which this one is the first; those in front of it lead from each to the next
+pub record IsComing (all : List (Name × Name)) (count : ℕ) (coming : Option (Name × Name)) (next : Name → Option Name) : Type 0 where
+  pub left : List (Name × Name)
+  pub linked : IsLinked all left next
+  pub count_is : length left ≡ count
+  pub first : coming ≡ slice_get left 0
+
+-- at the beginning all are left
+pub first_coming : (all : List (Name × Name)) (coming : Option (Name × Name)) (next : Name → Option Name) → coming ≡ slice_get all 0 → ((n : Name) → next n ≡ None)
+    → IsComing all (length all) coming next
+first_coming all coming next first none = record {
+  left = all;
+  linked = record { read = []; whole = refl; leads = none start; others = λ n out. none n };
+  count_is = refl;
+  first = first;
+}
+
+-- where one is left there is a first
+pub no_end : (all : List (Name × Name)) (count : ℕ) (next : Name → Option Name) → IsComing all count None next → 0 < count → ⊥
+no_end all count next state some = by state.left state.count_is state.first
+  where
+    by : (left : List (Name × Name)) → length left ≡ count → None ≡ slice_get left 0 → ⊥
+    by [] is first = omega (arith, is, some)
+    by (x ∷ left) is first = cc
+
+-- where none is left each leads to the next
+pub all_linked : (all : List (Name × Name)) (count : ℕ) (coming : Option (Name × Name)) (next : Name → Option Name) → IsComing all count coming next → count ≤ 0
+    → LeadsThrough next start (order (placed_from all))
+all_linked all count coming next state none = by state.left state.count_is state.linked
+  where
+    by : (left : List (Name × Name)) → length left ≡ count → IsLinked all left next → LeadsThrough next start (order (placed_from all))
+    by [] is linked = subst (λ (es : List (Name × Name)). LeadsThrough next start (order (placed_from es))) (sym (append-nil linked.read) ∙ sym linked.whole) linked.leads
+    by (x ∷ left) is linked = absurd (omega (arith, is, none))
+
+module _ (all : List (Name × Name)) (count : ℕ) (e : Name × Name) (next : Name → Option Name) (h : IsAnchored all) (state : IsComing all count (Some e) next) where
+  here : (rest : List (Name × Name)) × (state.left ≡ e ∷ rest)
+  here = by state.left state.first
+    where
+      by : (left : List (Name × Name)) → Some e ≡ slice_get left 0 → (rest : List (Name × Name)) × (left ≡ e ∷ rest)
+      by [] first = absurd (cc)
+      by (x ∷ rest) first = let same : x ≡ e = cc in (rest, ap (λ y. y ∷ rest) same)
+
+  linked_here : IsLinked all (e ∷ here.0) next
+  linked_here = subst (λ (left : List (Name × Name)). IsLinked all left next) here.1 state.linked
+
+  -- the first leads to nothing yet
+  pub fresh_coming : next e.0 ≡ None
+  fresh_coming = linked_here.others e.0 (is_fresh all e here.0 next h linked_here)
+
+  -- with the first behind its anchor the next is the first
+  pub next_coming : (new : Name → Option Name) → ((m : Name) → new m ≡ put_behind next e.1 e.0 m) → (coming : Option (Name × Name))
+      → coming ≡ find (λ x. is_lt (name_cmp e.0 x.0)) all → (fewer : ℕ) → fewer + 1 ≡ count → IsComing all fewer coming new
+  next_coming new put coming found fewer less = record {
+    left = here.0;
+    linked = next_linked all e here.0 next h linked_here new put;
+    count_is = omega (arith, ap (λ (es : List (Name × Name)). length es) here.1, state.count_is, less);
+    first = found
+        ∙ ap (find (λ x. is_lt (name_cmp e.0 x.0))) linked_here.whole
+        ∙ next_entry linked_here.read here.0 e (subst (λ (es : List (Name × Name)). IsStrictlySortedBy name_cmp (keys_of es)) linked_here.whole h.ordered);
+  }
 
 -- ---- and then one is followed to the next
 

@@ -2,6 +2,7 @@ pub mod GrantRuns
 pub mod GrantWalks
 pub mod Rematches
 pub mod RematchTables
+pub mod IdLemmas
 pub mod NextMessages
 pub mod AnchoredTrees
 pub mod Followings
@@ -11,4 +12,5 @@ pub mod GrantingAuths
 pub mod Prefixes
 pub mod Closings
 pub mod Audits
+pub mod KeptFrameLemmas
 pub mod WalkedStates

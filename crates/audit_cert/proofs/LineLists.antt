@@ -15,7 +15,6 @@ use Rattle.edit_message.specs.Message.{requests_of, entries_of}
 use Rattle.tomb_seq.proofs.Has.{Has, Contains-from_Has}
 use Rattle.peer_tables.specs.Journal.{IsJournal}
 use Rattle.peer_tables.proofs.StableLemmas.{known_law, element_in_order}
-use Rattle.std.specs.BTreeSet.{BTreeSet, btree_set_len}
 use Rattle.audit_cert.specs.Basis.{IsBasisOf, is_judgeable, may_be_judged, message_bytes}
 use Rattle.audit_cert.specs.Certificate.{counts_line, element_line, request_lines, certificate_bytes}
 
@@ -58,8 +57,8 @@ all_judgeable J is =
 
 -- ---- put together
 
-pub certificate_whole : (J : List Message) (log : List Entry) (names : List Name) (ids : BTreeSet Name) → IsBasisOf J log names ids
-    → counts_line (btree_set_len ids) (length log) ++ (concat (map element_line names) ++ flat_map (message_bytes names log) J) ≡ certificate_bytes J
+pub certificate_whole : (J : List Message) (log : List Entry) (names : List Name) (ids : List Name) → IsBasisOf J log names ids
+    → counts_line (length ids) (length log) ++ (concat (map element_line names) ++ flat_map (message_bytes names log) J) ≡ certificate_bytes J
 certificate_whole J log names ids basis =
     ap (λ n. counts_line n (length log) ++ (concat (map element_line names) ++ flat_map (message_bytes names log) J)) basis.count
     ∙ ap (λ (ns : List Name). counts_line (length (requests_of J)) (length log) ++ (concat (map element_line ns) ++ flat_map (message_bytes ns log) J)) basis.elements
@@ -68,16 +67,16 @@ certificate_whole J log names ids basis =
     ∙ whole J
 
 -- the three parts, one behind the other
-pub written : (J : List Message) (log : List Entry) (names : List Name) (ids : BTreeSet Name) → IsBasisOf J log names ids
-    → (requests entries : ℕ) (told : List Name) (zero first second third : List ℕ) → zero ≡ [] → requests ≡ btree_set_len ids → entries ≡ length log → told ≡ names
+pub written : (J : List Message) (log : List Entry) (names : List Name) (ids : List Name) → IsBasisOf J log names ids
+    → (requests entries : ℕ) (told : List Name) (zero first second third : List ℕ) → zero ≡ [] → requests ≡ length ids → entries ≡ length log → told ≡ names
     → first ≡ zero ++ counts_line requests entries → second ≡ first ++ concat (map element_line told)
     → third ≡ second ++ flat_map (message_bytes names log) J → third ≡ certificate_bytes J
 written J log names ids basis requests entries told zero first second third none requests_is entries_is names_is first_is second_is third_is =
     let middle = concat (map element_line names) in
     let last = flat_map (message_bytes names log) J in
-    let counts : first ≡ counts_line (btree_set_len ids) (length log) =
-    first_is ∙ ap (λ (xs : List ℕ). xs ++ counts_line requests entries) none ∙ ap (λ n. counts_line n entries) requests_is ∙ ap (counts_line (btree_set_len ids)) entries_is in
+    let counts : first ≡ counts_line (length ids) (length log) =
+    first_is ∙ ap (λ (xs : List ℕ). xs ++ counts_line requests entries) none ∙ ap (λ n. counts_line n entries) requests_is ∙ ap (counts_line (length ids)) entries_is in
     third_is
     ∙ ap (λ (xs : List ℕ). xs ++ last) (second_is ∙ ap (λ (ns : List Name). first ++ concat (map element_line ns)) names_is ∙ ap (λ (xs : List ℕ). xs ++ middle) counts)
-    ∙ append_assoc (counts_line (btree_set_len ids) (length log)) middle last
+    ∙ append_assoc (counts_line (length ids) (length log)) middle last
     ∙ certificate_whole J log names ids basis

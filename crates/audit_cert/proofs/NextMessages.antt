@@ -2,7 +2,6 @@
 use Rattle.std.proofs.Common.{◌≡◌, ℕ, ◌+◌, ◌<◌, ◌≤◌, Bool, true, false, not, ◌||◌, List, [], ◌∷◌, ◌++◌, length, None, Some, refl, sym, ap, subst, ◌∙◌, arith, length-append}
 use Rattle.std.specs.Prelude.{nat_eq, nat_lt, nat_le, is_none, ◌&&◌}
 use Rattle.std.specs.declared.option.Option.{Option}
-use Rattle.std.specs.BTreeSet.{BTreeSet, btree_set_len, contains}
 use Rattle.std.specs.List.{list_any, list_all}
 use Rattle.std.proofs.lemmas.Bool.{and_parts, and_from, or_right}
 use Rattle.std.proofs.lemmas.Bool.Decides.{nat_tests}
@@ -10,7 +9,6 @@ use Rattle.std.proofs.lemmas.List.Folds.{list_any-append, list_all-append}
 use Rattle.element_name.specs.Cases.{when, first_of}
 use Rattle.element_name.specs.Growing.{EachFrom}
 use Rattle.element_name.specs.Name.{Name, start, name_eq, has_name}
-use Rattle.element_name.specs.Named.{name_cmp}
 use Rattle.element_name.specs.Places.{is_anchor}
 use Rattle.element_name.proofs.EachAfterLemmas.{EachAfter-push, EachAfter-last}
 use Rattle.coop_request.specs.declared.edit.Edit.{Edit}
@@ -102,12 +100,12 @@ within_more J m within follows formed few =
       entries = entries_within (J ++ m ∷ []) journal all;
     }
 
-module _ (J : List Message) (log : List Entry) (names : List Name) (ids : BTreeSet Name) (basis : IsBasisOf J log names ids) where
+module _ (J : List Message) (log : List Entry) (names : List Name) (ids : List Name) (basis : IsBasisOf J log names ids) where
   names_known : (n : Name) → has_name names n ≡ has_name (elements_of (requests_of J)) n
   names_known n = ap (λ (names : List Name). has_name names n) basis.elements ∙ has_order (requests_of J) n (known_law J basis.within.journal_is).history
 
   module _ (q : Request) where
-    request_follows : IsAccepted q → contains name_cmp ids q.id ≡ false → nat_le q.version (length log) ≡ true → is_placeable names q.id q.edit ≡ true
+    request_follows : IsAccepted q → has_name ids q.id ≡ false → nat_le q.version (length log) ≡ true → is_placeable names q.id q.edit ≡ true
         → FollowsJournal J (Coop q)
     request_follows accepted new version there =
         let front : nat_lt (length (entries_of J)) q.version ≡ false =
@@ -121,15 +119,15 @@ module _ (J : List Message) (log : List Entry) (names : List Name) (ids : BTreeS
         }
 
     -- a request that may join follows, and is kept
-    pub request_taken : (new_names : List Name) (new_ids : BTreeSet Name) → IsAccepted q → is_message (Coop q) ≡ true
-        → contains name_cmp ids q.id ≡ false → may_join (length log) names (btree_set_len ids) q ≡ true
+    pub request_taken : (new_names : List Name) (new_ids : List Name) → IsAccepted q → is_message (Coop q) ≡ true
+        → has_name ids q.id ≡ false → may_join (length log) names (length ids) q ≡ true
         → new_names ≡ names_after names q.id q.edit
-        → ((n : Name) → contains name_cmp new_ids n ≡ (name_eq q.id n || contains name_cmp ids n))
-        → btree_set_len new_ids ≡ btree_set_len ids + 1
+        → ((n : Name) → has_name new_ids n ≡ (name_eq q.id n || has_name ids n))
+        → length new_ids ≡ length ids + 1
         → IsBasisOf (J ++ Coop q ∷ []) log new_names new_ids
     request_taken new_names new_ids accepted formed new joins placed noted count =
         let R = requests_of J in
-        let parts = and_parts (nat_lt (btree_set_len ids) MAX_REQUESTS) (nat_le q.version (length log) && is_placeable names q.id q.edit) joins in
+        let parts = and_parts (nat_lt (length ids) MAX_REQUESTS) (nat_le q.version (length log) && is_placeable names q.id q.edit) joins in
         let rest = and_parts (nat_le q.version (length log)) (is_placeable names q.id q.edit) parts.1 in
         let follows = request_follows accepted new rest.0 rest.1 in
         let more = requests_request J q in
@@ -154,13 +152,13 @@ module _ (J : List Message) (log : List Entry) (names : List Name) (ids : BTreeS
         either false false = refl
 
     -- one that doesn't, or whose name is known, makes no longer journal
-    pub request_known : contains name_cmp ids q.id ≡ true → ¬ IsWithin (J ++ Coop q ∷ [])
+    pub request_known : has_name ids q.id ≡ true → ¬ IsWithin (J ++ Coop q ∷ [])
     request_known there within =
         let follows = EachAfter-last FollowsJournal J (Coop q) within.journal_is in
         let none = basis.known q.id ∙ no_request_key J q ∙ follows.new in
         absurd (cc (there, none))
 
-    pub request_refused : may_join (length log) names (btree_set_len ids) q ≡ false → ¬ IsWithin (J ++ Coop q ∷ [])
+    pub request_refused : may_join (length log) names (length ids) q ≡ false → ¬ IsWithin (J ++ Coop q ∷ [])
     request_refused refused within =
         let R = requests_of J in
         let follows = EachAfter-last FollowsJournal J (Coop q) within.journal_is in
@@ -168,14 +166,14 @@ module _ (J : List Message) (log : List Entry) (names : List Name) (ids : BTreeS
         let known = known_law J basis.within.journal_is in
         let size : length (requests_of (J ++ Coop q ∷ [])) ≡ length R + 1 = ap (λ (S : List Request). length S) (requests_request J q) ∙ length-append R (q ∷ []) in
         let few : length R < MAX_REQUESTS = let le = within.requests in omega (arith, size, le) in
-        let room : nat_lt (btree_set_len ids) MAX_REQUESTS ≡ true = let before = basis.count in grind (arith, nat_tests) in
+        let room : nat_lt (length ids) MAX_REQUESTS ≡ true = let before = basis.count in grind (arith, nat_tests) in
         let late = (request_here (length (entries_of J)) (elements_of R) q follows.complete).version in
         let version : nat_le q.version (length (entries_of J)) ≡ true = grind (arith, nat_tests) in
         let there : is_placeable names q.id q.edit ≡ true =
         ap (λ (names : List Name). is_placeable names q.id q.edit) basis.elements
         ∙ placeable_test (text_order R) q.id q.edit (placeable R (entries_of J) known q history) in
-        let joins : may_join (length log) names (btree_set_len ids) q ≡ true =
-        and_from (nat_lt (btree_set_len ids) MAX_REQUESTS) (nat_le q.version (length log) && is_placeable names q.id q.edit) room
+        let joins : may_join (length log) names (length ids) q ≡ true =
+        and_from (nat_lt (length ids) MAX_REQUESTS) (nat_le q.version (length log) && is_placeable names q.id q.edit) room
         (and_from (nat_le q.version (length log)) (is_placeable names q.id q.edit)
         (ap (λ (L : List Entry). nat_le q.version (length L)) basis.entries ∙ version) there) in
         absurd (cc (joins, refused))
@@ -243,7 +241,7 @@ module _ (J : List Message) (log : List Entry) (names : List Name) (ids : BTreeS
         push_none M d next legal = rw (next, legal) refl
 
 -- a message whose key is known makes no longer journal
-pub known_refused : (J : List Message) (log : List Entry) (names : List Name) (ids : BTreeSet Name) → IsBasisOf J log names ids → (m : Message)
+pub known_refused : (J : List Message) (log : List Entry) (names : List Name) (ids : List Name) → IsBasisOf J log names ids → (m : Message)
     → is_known (length log) ids (key_of m) ≡ true → ¬ IsWithin (J ++ m ∷ [])
 known_refused J log names ids basis (Coop q) there = request_known J log names ids basis q there
 known_refused J log names ids basis (Admin e) there = entry_known J log names ids basis e there

@@ -2,7 +2,8 @@
 use Rattle.std.specs.Prelude.{◌≡◌, ℕ, Bool, true, ◌&&◌, nat_lt, map, position, List, [], ◌∷◌, Option, Some, None, if◌then◌else◌}
 use Rattle.std.specs.List.{list_all}
 use Rattle.std.specs.List.Sorted.{IsStrictlySortedBy}
-use Rattle.std.specs.Map.{keys_of}
+use Rattle.std.specs.Map.{keys_of, lookup}
+use Rattle.std.specs.BTreeMap.{is_at}
 use Rattle.element_name.specs.Name.{Name, name_eq, are_distinct}
 use Rattle.element_name.specs.Named.{name_cmp}
 use Rattle.element_name.specs.Places.{is_anchor}
@@ -20,6 +21,10 @@ is_anchored names e = is_anchor names e.1 && nat_lt e.1.stamp e.0.stamp
 pub record IsAnchored (entries : List (Name × Name)) : Type 0 where
   pub ordered : IsStrictlySortedBy name_cmp (keys_of entries)
   pub anchored : list_all (is_anchored (keys_of entries)) entries ≡ true
+
+-- the name that an index has at a name
+abbrev pub name_at : List (Name × Name) → Name → Option Name
+name_at index n = lookup (is_at (name_cmp n)) index
 
 -- n leads to the first of these names, each of them to the next one, and the last to none
 abbrev pub LeadsThrough : (Name → Option Name) → Name → List Name → Type 0

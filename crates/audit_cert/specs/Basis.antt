@@ -1,9 +1,7 @@
 -- What is kept of a journal while it is read.
 use Rattle.std.specs.Prelude.{◌≡◌, ℕ, Bool, true, ◌&&◌, nat_lt, nat_le, is_none, List, [], length}
 use Rattle.std.specs.List.{concat, list_any}
-use Rattle.std.specs.BTreeSet.{BTreeSet, btree_set_len, contains}
 use Rattle.element_name.specs.Name.{Name, name_eq, has_name}
-use Rattle.element_name.specs.Named.{name_cmp}
 use Rattle.coop_request.specs.declared.edit.Edit.{Edit}
 use Rattle.coop_request.specs.declared.edit.Edit.TheVariants.{Insert, Delete, Update}
 use Rattle.coop_request.specs.declared.request.TheConstants.{MAX_REQUESTS}
@@ -22,12 +20,12 @@ use Rattle.peer_tables.specs.Journal.{IsWithin}
 use Rattle.audit_cert.specs.Certificate.{request_lines}
 
 -- of a journal within its limits: its log, its elements in text order, and the names of its requests
-pub record IsBasisOf (J : List Message) (log : List Entry) (names : List Name) (ids : BTreeSet Name) : Type 0 where
+pub record IsBasisOf (J : List Message) (log : List Entry) (names : List Name) (ids : List Name) : Type 0 where
   pub within : IsWithin J
   pub entries : log ≡ entries_of J
   pub elements : names ≡ text_order (requests_of J)
-  pub known : (n : Name) → contains name_cmp ids n ≡ list_any (λ r. name_eq r.id n) (requests_of J)
-  pub count : btree_set_len ids ≡ length (requests_of J)
+  pub known : (n : Name) → has_name ids n ≡ list_any (λ r. name_eq r.id n) (requests_of J)
+  pub count : length ids ≡ length (requests_of J)
 
 -- an insert's element may be put in, another edit's target is there
 abbrev pub is_placeable : List Name → Name → Edit → Bool
@@ -36,8 +34,8 @@ is_placeable names id (Delete target) = has_name names target
 is_placeable names id (Update target letter) = has_name names target
 
 -- a message of this key was read
-abbrev pub is_known : ℕ → BTreeSet Name → Key → Bool
-is_known front ids (keys.Coop id) = contains name_cmp ids id
+abbrev pub is_known : ℕ → List Name → Key → Bool
+is_known front ids (keys.Coop id) = has_name ids id
 is_known front ids (keys.Admin version) = nat_le version front
 
 -- there is room for one more request, its version is there, and so is what it is placed by

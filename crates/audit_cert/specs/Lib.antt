@@ -5,5 +5,7 @@ pub mod Journals
 pub mod Basis
 pub mod Anchors
 pub mod Samples
+pub mod KeptParts
+pub mod KeptFrames
 pub mod Audit
 pub mod Laws

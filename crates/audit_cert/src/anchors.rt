@@ -5,10 +5,10 @@ ghost use Rattle.element_name.specs.Places.{is_anchor};
 ghost use Rattle.tomb_seq.specs.Insert.{insert_fault};
 
 use crate::elements::Elements;
-use crate::order::in_order;
+use crate::order::{NameIndex, in_order};
 use element_name::{Name, NoMemory};
+use name_index::{ChunkMap, PackedName};
 use std::alloc::Global;
-use std::collections::BTreeMap;
 use std::marker::Model;
 
 /// Elements that come one by one, seen as the list of their names in text order.
@@ -17,7 +17,7 @@ use std::marker::Model;
 /// once all elements are there.
 #[derive(Drop)]
 pub(crate) struct Anchors {
-    anchors: BTreeMap<Name, Name>,
+    anchors: NameIndex,
 }
 
 impl Model for Anchors {
@@ -28,9 +28,9 @@ impl Model for Anchors {
 
     ghost Value = { List Name };
 
-    ghost view = { λ a. order (placed_from a.anchors.entries) };
+    ghost view = { λ a. order (placed_from a.anchors) };
 
-    ghost invariant = { λ a. IsAnchored a.anchors.entries };
+    ghost invariant = { λ a. IsAnchored a.anchors };
 }
 
 impl Anchors {
@@ -39,14 +39,14 @@ impl Anchors {
         ensures { result ≡ [] }
     {
         Anchors {
-            anchors: BTreeMap::new(alloc),
+            anchors: ChunkMap::new(alloc),
         }
     }
 
     fn has(&self, n: Name) -> bool
         ensures { result ≡ has_name self.now n }
     {
-        self.anchors.contains_key(&n)
+        self.anchors.get(PackedName::of(n)).is_some()
     }
 
     fn is_anchor(&self, n: Name) -> bool
@@ -87,7 +87,8 @@ impl Elements for Anchors {
         if !self.may_come(n, after) {
             return Ok(false);
         }
-        self.anchors.insert(n, after)?;
+        self.anchors
+            .insert(PackedName::of(n), PackedName::of(after))?;
         Ok(true)
     }
 }

@@ -9,11 +9,11 @@ use crate::anchors::Anchors;
 use crate::basis::Basis;
 use crate::fault::AuditFault;
 use crate::judging::Judging;
+use crate::kept_frame::KeptFrame;
 use crate::lines::{put_counts, put_elements, put_frames};
 use crate::opening::open;
 use crate::ranks::Ranks;
 use crate::rematch::rematch_table;
-use edit_frame::Frame;
 use element_name::NoMemory;
 use std::alloc::Global;
 
@@ -42,7 +42,7 @@ fn differing_line(due: &[u8], told: &[u8]) -> usize
 fn due_certificate(
     alloc: Global,
     basis: &Basis<Anchors>,
-    frames: &[Frame],
+    frames: &[KeptFrame],
 ) -> Result<Vec<u8>, NoMemory>
     requires journal { AreItems frames.now }
     requires basis { IsBasisOf (messages_of_frames frames.now) basis.now.log basis.now.elements basis.now.ids }
@@ -68,7 +68,7 @@ fn due_certificate(
 fn check_told(
     alloc: Global,
     basis: &Basis<Anchors>,
-    frames: &[Frame],
+    frames: &[KeptFrame],
     told: &[u8],
 ) -> Result<(u32, u32), AuditFault>
     requires journal { AreItems frames.now }
@@ -85,7 +85,7 @@ fn check_told(
 }
 
 // Whether what is told of frames is the certificate of their journal.
-fn check(alloc: Global, frames: &[Frame], told: &[u8]) -> Result<(u32, u32), AuditFault>
+fn check(alloc: Global, frames: &[KeptFrame], told: &[u8]) -> Result<(u32, u32), AuditFault>
     ensures told { IfOk result (IsTold frames.now told.now) }
     ensures fault { IfErr result (IsFaultOf frames.now told.now) }
 {

@@ -1,8 +1,6 @@
 //! What is kept of a journal while it is read.
 ghost use Rattle.std.specs.Prelude.{◌≡◌, ◌+◌, ◌||◌, [], ◌∷◌, ◌++◌, true, false, is_none, map, length, List, IfOk, IfErr, OnOk};
-ghost use Rattle.std.specs.BTreeSet.{btree_set_len, contains};
-ghost use Rattle.element_name.specs.Name.{Name, name_eq};
-ghost use Rattle.element_name.specs.Named.{name_cmp};
+ghost use Rattle.element_name.specs.Name.{Name, name_eq, has_name};
 ghost use Rattle.edit_message.specs.declared.message.Message.{Message};
 ghost use Rattle.edit_message.specs.Missing.{missing_end};
 ghost use Rattle.peer_tables.specs.Journal.{IsWithin};
@@ -15,22 +13,22 @@ ghost use Rattle.audit_cert.specs.Audit.{AreItems, IsFaultIn, messages_of_frames
 use crate::elements::Elements;
 use crate::fail::CertFail;
 use crate::fault::AuditFault;
+use crate::ids::Ids;
+use crate::kept_frame::KeptFrame;
 use admin_log::{AdminLog, LogFault};
 use coop_request::{Edit, MAX_REQUESTS, Request};
-use edit_frame::Frame;
 use edit_message::{Key, Message};
 use element_name::{Name, NoMemory};
 use peer_core::JournalItem;
 use policy_book::{AdminOp, Entry, Extent};
 use std::alloc::Global;
-use std::collections::BTreeSet;
 
 /// Of a journal its log, its elements in text order, and the names of its requests.
 #[derive(Drop)]
 pub(crate) struct Basis<E> {
     pub(crate) log: AdminLog,
     pub(crate) elements: E,
-    pub(crate) ids: BTreeSet<Name>,
+    pub(crate) ids: Ids,
 }
 
 // Whether the ends of the span that an operation makes are elements.
@@ -72,29 +70,19 @@ fn place<E: Elements>(elements: &mut E, request: Request) -> Result<bool, NoMemo
     }
 }
 
-// Notes a new name.
-fn note(ids: &mut BTreeSet<Name>, id: Name) -> Result<(), NoMemory>
-    requires { contains name_cmp ids.old id ≡ false }
-    ensures noted { OnOk result ((n : Name) → contains name_cmp ids.new n ≡ (name_eq id n || contains name_cmp ids.old n)) }
-    ensures count { OnOk result (btree_set_len ids.new ≡ btree_set_len ids.old + 1) }
-{
-    ids.insert(id)?;
-    Ok(())
-}
-
 // Takes a request in that may join, and answers whether it was taken.
 fn take_request<E: Elements>(
     front: u32,
     elements: &mut E,
-    ids: &mut BTreeSet<Name>,
+    ids: &mut Ids,
     request: Request,
 ) -> Result<bool, NoMemory>
-    requires { contains name_cmp ids.old request.id ≡ false }
-    ensures test { IfOk result (λ taken. taken ≡ may_join front (E.names elements.old) (btree_set_len ids.old) request) }
+    requires { has_name ids.old request.id ≡ false }
+    ensures test { IfOk result (λ taken. taken ≡ may_join front (E.names elements.old) (length ids.old) request) }
     ensures accepted { IsAccepted request }
     ensures names { IfOk result (λ taken. taken ≡ true → E.names elements.new ≡ names_after (E.names elements.old) request.id request.edit) }
-    ensures noted { IfOk result (λ taken. taken ≡ true → ((n : Name) → contains name_cmp ids.new n ≡ (name_eq request.id n || contains name_cmp ids.old n))) }
-    ensures count { IfOk result (λ taken. taken ≡ true → btree_set_len ids.new ≡ btree_set_len ids.old + 1) }
+    ensures noted { IfOk result (λ taken. taken ≡ true → ((n : Name) → has_name ids.new n ≡ (name_eq request.id n || has_name ids.old n))) }
+    ensures count { IfOk result (λ taken. taken ≡ true → length ids.new ≡ length ids.old + 1) }
 {
     if ids.len() >= MAX_REQUESTS || request.version() > front {
         return Ok(false);
@@ -102,7 +90,7 @@ fn take_request<E: Elements>(
     if !place(elements, request)? {
         return Ok(false);
     }
-    note(ids, request.id())?;
+    ids.put(request.id())?;
     Ok(true)
 }
 
@@ -114,7 +102,7 @@ impl<E: Elements> Basis<E> {
         Ok(Basis {
             log: AdminLog::new(alloc)?,
             elements,
-            ids: BTreeSet::new(alloc),
+            ids: Ids::new(alloc),
         })
     }
 
@@ -123,7 +111,7 @@ impl<E: Elements> Basis<E> {
         ensures { result ≡ is_known (length self.now.log) self.now.ids key }
     {
         match key {
-            Key::Coop(id) => self.ids.contains(&id),
+            Key::Coop(id) => self.ids.has(id),
             Key::Admin(version) => version <= self.log.len(),
         }
     }
@@ -185,17 +173,17 @@ impl<E: Elements> Basis<E> {
     }
 
     // Takes the messages of frames in, where none was taken in yet.
-    fn take_frames(&mut self, frames: &[Frame]) -> Result<(), AuditFault>
+    fn take_frames(&mut self, frames: &[KeptFrame]) -> Result<(), AuditFault>
         requires { IsBasisOf [] self.old.log (E.names self.old.elements) self.old.ids }
         ensures ok { OnOk result (IsBasisOf (messages_of_frames frames.now) self.new.log (E.names self.new.elements) self.new.ids) }
         ensures items { OnOk result (AreItems frames.now) }
         ensures fault { IfErr result (IsFaultIn frames.now) }
     {
         for place in 0..frames.len() {
-            let Frame::Item(item) = &frames[place] else {
+            let item = frames[place].message()?;
+            let Some(message) = item else {
                 return Err(AuditFault::NotJournal(place + 1));
             };
-            let message = item.copied()?;
             let taken = self.take(message)?;
             if !taken {
                 return Err(AuditFault::NotJournal(place + 1));
@@ -211,7 +199,7 @@ impl<E: Elements> Basis<E> {
     pub(crate) fn of_frames(
         alloc: Global,
         elements: E,
-        frames: &[Frame],
+        frames: &[KeptFrame],
     ) -> Result<Basis<E>, AuditFault>
         requires { E.names elements ≡ [] }
         ensures ok { IfOk result (λ b. IsBasisOf (messages_of_frames frames.now) b.log (E.names b.elements) b.ids) }

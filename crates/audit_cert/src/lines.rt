@@ -13,11 +13,11 @@ ghost use Rattle.audit_cert.specs.Basis.{may_be_judged, message_bytes};
 ghost use Rattle.audit_cert.specs.Certificate.{counts_line, element_line, grant_line, request_lines};
 ghost use Rattle.audit_cert.specs.Rematches.{IsRematchTable};
 
-use crate::grant::{Grant, grants_of};
+use crate::findings::findings_of;
+use crate::grant::Grant;
 use crate::judging::Judging;
-use crate::walk::state_of;
+use crate::kept_frame::KeptFrame;
 use coop_request::Request;
-use edit_frame::Frame;
 use edit_message::Message;
 use element_name::{Name, NoMemory, Places};
 use line_write::{put, put_name_word, put_number_word, put_state};
@@ -94,10 +94,9 @@ fn put_request<P: Places>(
     requires element { has_name (P.names judging.now.places.now) (element_of request) ≡ true }
     ensures { OnOk result (out.new.items ≡ out.old.items ++ concat (request_lines (P.names judging.now.places.now) judging.now.log.now request)) }
 {
-    let state = state_of(judging, request)?;
-    put_state_line(out, request.id(), state)?;
-    let grants = grants_of(alloc, judging, request)?;
-    put_grants(out, &grants)
+    let findings = findings_of(alloc, judging, request)?;
+    put_state_line(out, request.id(), findings.state)?;
+    put_grants(out, &findings.grants)
 }
 
 // Appends the lines of a message, which are those of its request, if it is one.
@@ -105,13 +104,13 @@ fn put_message<P: Places>(
     alloc: Global,
     out: &mut Vec<u8>,
     judging: &Judging<'_, P>,
-    message: &JournalItem<'_>,
+    message: Message,
 ) -> Result<(), NoMemory>
     requires table { IsRematchTable judging.now.log.now judging.now.table.now }
-    requires judged { may_be_judged (P.names judging.now.places.now) (length judging.now.log.now) message.now ≡ true }
-    ensures { OnOk result (out.new.items ≡ out.old.items ++ message_bytes (P.names judging.now.places.now) judging.now.log.now message.now) }
+    requires judged { may_be_judged (P.names judging.now.places.now) (length judging.now.log.now) message ≡ true }
+    ensures { OnOk result (out.new.items ≡ out.old.items ++ message_bytes (P.names judging.now.places.now) judging.now.log.now message) }
 {
-    match message.copied()? {
+    match message {
         Message::Coop(request) => put_request(alloc, out, judging, request),
         Message::Admin(_) => Ok(()),
     }
@@ -128,26 +127,28 @@ pub(crate) fn put_requests<P: Places>(
     requires judged { IsTrue (list_all (may_be_judged (P.names judging.now.places.now) (length judging.now.log.now)) journal.now) }
     ensures { OnOk result (out.new.items ≡ out.old.items ++ flat_map (message_bytes (P.names judging.now.places.now) judging.now.log.now) journal.now) }
 {
-    for message in journal {
+    for item in journal {
+        let message = item.copied()?;
         put_message(alloc, out, judging, message)?;
     }
     Ok(())
 }
 
-// Appends the lines of a frame, which are those of its request, if it has one.
+// Appends the lines of a frame, which are those of its message, if it is one.
 fn put_frame<P: Places>(
     alloc: Global,
     out: &mut Vec<u8>,
     judging: &Judging<'_, P>,
-    frame: &Frame,
+    frame: &KeptFrame,
 ) -> Result<(), NoMemory>
     requires table { IsRematchTable judging.now.log.now judging.now.table.now }
     requires judged { IsTrue (list_all (may_be_judged (P.names judging.now.places.now) (length judging.now.log.now)) (messages_of_frames (frame.now ∷ []))) }
     ensures { OnOk result (out.new.items ≡ out.old.items ++ flat_map (message_bytes (P.names judging.now.places.now) judging.now.log.now) (messages_of_frames (frame.now ∷ []))) }
 {
-    match frame {
-        Frame::Item(Message::Coop(request)) => { put_request(alloc, out, judging, *request) }
-        Frame::Item(Message::Admin(_)) | Frame::Turn | Frame::End => Ok(()),
+    let item = frame.message()?;
+    match item {
+        Some(message) => put_message(alloc, out, judging, message),
+        None => Ok(()),
     }
 }
 
@@ -156,7 +157,7 @@ pub(crate) fn put_frames<P: Places>(
     alloc: Global,
     out: &mut Vec<u8>,
     judging: &Judging<'_, P>,
-    frames: &[Frame],
+    frames: &[KeptFrame],
 ) -> Result<(), NoMemory>
     requires table { IsRematchTable judging.now.log.now judging.now.table.now }
     requires judged { IsTrue (list_all (may_be_judged (P.names judging.now.places.now) (length judging.now.log.now)) (messages_of_frames frames.now)) }

@@ -5,13 +5,14 @@ ghost use Rattle.edit_frame.specs.Spells.{is_frame};
 ghost use Rattle.audit_cert.specs.Audit.{is_end_frame, IsClosed, IsAuditFault, IsFaultAt};
 
 use crate::fault::AuditFault;
+use crate::kept_frame::KeptFrame;
 use edit_frame::{Frame, FrameFail, FrameFault, FrameKind, first_frame};
 use std::alloc::Global;
 
 /// The frames in front of the first End, and the bytes behind it.
 #[derive(Drop)]
 pub(crate) struct Opened<'a> {
-    pub(crate) frames: Vec<Frame>,
+    pub(crate) frames: Vec<KeptFrame>,
     pub(crate) told: &'a [u8],
 }
 
@@ -58,7 +59,8 @@ pub(crate) fn open(alloc: Global, bytes: &[u8]) -> Result<Opened<'_>, AuditFault
         if is_end_frame(&frame) {
             return Ok(Opened { frames, told: rest });
         }
-        let Ok(()) = frames.push(frame) else {
+        let kept = KeptFrame::of(alloc, frame)?;
+        let Ok(()) = frames.push(kept) else {
             return Err(AuditFault::NoMemory);
         };
     }

@@ -1,15 +1,14 @@
 //! Where elements stand in the text, as the checker asks it.
 ghost use Rattle.std.specs.Prelude.{◌≡◌, ◌≤◌, ◌<◌, ◌^◌, true, length, IsTrue, IfOk, position};
 ghost use Rattle.std.specs.List.{prefix_len};
-ghost use Rattle.std.specs.BTreeMap.{get};
 ghost use Rattle.element_name.specs.Name.{Name, name_eq, name_lt, are_distinct};
-ghost use Rattle.element_name.specs.Named.{name_cmp};
 ghost use Rattle.element_name.specs.Places.{is_anchor, place_in};
 ghost use Rattle.element_name.specs.Tree.{after_anchor, skip};
+ghost use Rattle.tomb_seq.specs.Runs.{number_at};
 
 use element_name::{Name, NoMemory, Places};
+use name_index::{ChunkMap, PackedName};
 use std::alloc::Global;
-use std::collections::BTreeMap;
 use std::marker::Model;
 
 /// Elements in text order, each of which is there once, seen as the list of their names.
@@ -19,31 +18,30 @@ use std::marker::Model;
 #[derive(Drop)]
 pub(crate) struct Ranks {
     names: Vec<Name>,
-    places: BTreeMap<Name, usize>,
+    places: ChunkMap<PackedName, usize>,
 }
 
 impl Model for Ranks {
     ghost use Rattle.std.specs.Prelude.{List};
-    ghost use Rattle.std.specs.BTreeMap.{get};
     ghost use Rattle.element_name.specs.Name.{Name};
-    ghost use Rattle.element_name.specs.Named.{name_cmp};
+    ghost use Rattle.tomb_seq.specs.Runs.{number_at};
     ghost use Rattle.audit_cert.specs.Anchors.{AreRanked};
 
     ghost Value = { List Name };
 
     ghost view = { λ r. r.names.items };
 
-    ghost invariant = { λ r. AreRanked r.names.items (get name_cmp r.places) };
+    ghost invariant = { λ r. AreRanked r.names.items (number_at r.places) };
 }
 
 // The place of each name.
-fn places_of(alloc: Global, names: &[Name]) -> Result<BTreeMap<Name, usize>, NoMemory>
+fn places_of(alloc: Global, names: &[Name]) -> Result<ChunkMap<PackedName, usize>, NoMemory>
     requires { are_distinct names.now ≡ true }
-    ensures { IfOk result (λ places. (n : Name) → get name_cmp places n ≡ position (name_eq n) names.now) }
+    ensures { IfOk result (λ places. (n : Name) → number_at places n ≡ position (name_eq n) names.now) }
 {
-    let mut places = BTreeMap::new(alloc);
+    let mut places = ChunkMap::new(alloc);
     for (place, name) in names.iter().enumerate() {
-        places.insert(*name, place)?;
+        places.insert(PackedName::of(*name), place)?;
     }
     Ok(places)
 }
@@ -77,7 +75,9 @@ impl Ranks {
         ensures place { result ≡ place_in self.now n }
         ensures few { length self.now < 2 ^ 64 }
     {
-        self.places.get(&n).copied().unwrap_or(self.names.len())
+        self.places
+            .get(PackedName::of(n))
+            .unwrap_or(self.names.len())
     }
 
     // The place directly after the anchor.

@@ -10,7 +10,7 @@ use audit_cert::{CertFail, certify};
 use edit_frame::{Frame, encode};
 use edit_io::{Sink, Source};
 use element_name::NoMemory;
-use form_feed::{Intake, feed_intake};
+use form_feed::{Intake, feed_intake, take_untold};
 use line_engine::Status;
 use peer_core::{JournalItem, Peer};
 use std::alloc::Global;
@@ -82,12 +82,13 @@ impl Intake for Certifier {
 
     ghost closing = { certifier_closing };
 
-    // Lets go what the peer answers.
-    fn take_in(&mut self, alloc: Global, frame: Frame, out: &mut Vec<u8>) -> Result<(), NoMemory> {
-        let written = out.len();
-        self.peer.take_in(alloc, frame, out)?;
-        out.truncate(written);
-        Ok(())
+    fn take_in(
+        &mut self,
+        _alloc: Global,
+        frame: Frame,
+        _out: &mut Vec<u8>,
+    ) -> Result<(), NoMemory> {
+        take_untold(&mut self.peer, frame)
     }
 
     fn close(&mut self, alloc: Global, out: &mut Vec<u8>) -> Result<(), NoMemory> {

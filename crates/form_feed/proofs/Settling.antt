@@ -2,8 +2,9 @@
 use Rattle.std.proofs.Common.{◌≡◌, ℕ, zero, suc, ◌≤◌, ◌<◌, Bool, true, false, List, [], length, Option, Some, None, ◌++◌, cond, refl, sym, ap, subst, ◌∙◌, append_assoc, arith}
 use Rattle.std.specs.Prelude.{not, find, remove}
 use Rattle.std.specs.Option.{option_map_or}
-use Rattle.std.specs.List.{position_or_len}
+use Rattle.std.specs.List.{flat_map, position_or_len}
 use Rattle.std.proofs.lemmas.Bool.{true≢false}
+use Rattle.std.proofs.lemmas.List.{append-nil}
 use Rattle.std.proofs.lemmas.List.Folds.{find_at}
 use Rattle.std.proofs.lemmas.List.Concat.{flat_map-cons}
 use Rattle.std.proofs.lemmas.List.Edits.{length-remove}
@@ -18,10 +19,9 @@ use Rattle.peer_step.specs.declared.answer.Answer.TheVariants.{Quiet, Dropped, S
 use Rattle.peer_tables.specs.Derived.{is_due}
 use Rattle.peer_core.specs.Peer.{Peer}
 use Rattle.peer_core.specs.Answers.{answer_due, answer_settle, fault_in, outcome_of}
-use Rattle.line_spelling.specs.Answers.{answer_line}
 use Rattle.peer_core.specs.After.{peer_after, changed_by, let_go}
 use Rattle.peer_step.specs.Answers.{is_quiet}
-use Rattle.form_feed.specs.Turn.{settle_line, SettleRun, run_first, settle_steps, all_settle_steps, answer_lines}
+use Rattle.form_feed.specs.Turn.{settle_told, SettleRun, run_first, settle_steps, all_settle_steps}
 
 pub quiet_is : (a : Answer) → is_quiet a ≡ true → a ≡ Quiet
 quiet_is Quiet h = refl
@@ -106,6 +106,11 @@ settled_more p h =
     ∙ steps_more (length p.held) p h
     ∙ ap (run_first (answer_settle p)) (enough (length p.held) (length q.held) q (is_quiet (answer_settle q)) refl (omega (arith, less)) (omega arith))
 
+-- where nothing is held there are none
+settled_none : (p : Peer) → length p.held ≤ 0 → all_settle_steps p ≡ record { answers = []; peer = p }
+unfolding all_settle_steps settle_steps
+settled_none p none = let zero_held : length p.held ≡ 0 = omega arith in ap (λ n. settle_steps n p) zero_held
+
 -- after them nothing is due
 steps_end : (n : ℕ) (p : Peer) (quiet : Bool) → is_quiet (answer_settle p) ≡ quiet → length p.held ≤ n → is_quiet (answer_settle (settle_steps n p).peer) ≡ true
 steps_end n p true h le = ap (λ (a : SettleRun). is_quiet (answer_settle a.peer)) (steps_quiet n p h) ∙ h
@@ -119,7 +124,7 @@ pub settled_ends : (p : Peer) → answer_settle (all_settle_steps p).peer ≡ Qu
 unfolding all_settle_steps
 settled_ends p = quiet_is _ (steps_end (length p.held) p (is_quiet (answer_settle p)) refl (omega arith))
 
--- ---- the loop of steps, from the peer p with these lines so far to the peer q with those now
+-- ---- the loop of steps, from the peer p with what was told so far to the peer q with what is told now
 
 -- whether a message was due tells whether the answer is quiet
 pub is_due_by : (due quiet : Bool) → due ≡ not quiet → due ≡ true → quiet ≡ false
@@ -130,29 +135,40 @@ pub not_due_by : (due quiet : Bool) → due ≡ not quiet → due ≡ false → 
 not_due_by due true e h = refl
 not_due_by due false e h = absurd (true≢false (sym e ∙ h))
 
-module _ (p q : Peer) (lines now : List ℕ) (told : now ≡ lines ++ settle_line (answer_settle p)) (after : q ≡ peer_after p Settle) where
-  -- at the end all lines are written, and the peer is the last one
-  pub lines_end : (all : List ℕ) → is_quiet (answer_settle p) ≡ true → lines ++ answer_lines (all_settle_steps p).answers ≡ all → now ≡ all
+-- where nothing is held all is told, and the peer is the last one
+pub lines_over : (line : Answer → List ℕ) (p : Peer) (lines all : List ℕ) → length p.held ≤ 0 → lines ++ flat_map line (all_settle_steps p).answers ≡ all → lines ≡ all
+lines_over line p lines all none so_far =
+    sym (append-nil lines) ∙ ap (λ (a : SettleRun). lines ++ flat_map line a.answers) (sym (settled_none p none)) ∙ so_far
+
+pub peer_over : (p last : Peer) → length p.held ≤ 0 → (all_settle_steps p).peer ≡ last → p ≡ last
+peer_over p last none so_far = ap (λ (a : SettleRun). a.peer) (sym (settled_none p none)) ∙ so_far
+
+module _ (line : Answer → List ℕ) (p q : Peer) (lines now : List ℕ) (told : now ≡ lines ++ settle_told line (answer_settle p)) (after : q ≡ peer_after p Settle) where
+  -- what is told of the steps from a peer on
+  abbrev still : Peer → List ℕ
+  still r = flat_map line (all_settle_steps r).answers
+
+  -- at the end all is told, and the peer is the last one
+  pub lines_end : (all : List ℕ) → is_quiet (answer_settle p) ≡ true → lines ++ still p ≡ all → now ≡ all
   lines_end all h so_far =
       told
-      ∙ ap (λ (quiet : Bool). lines ++ cond quiet [] (answer_line None (answer_settle p))) h
-      ∙ ap (λ (a : SettleRun). lines ++ answer_lines a.answers) (sym (settled_quiet p h))
+      ∙ ap (λ (quiet : Bool). lines ++ cond quiet [] (line (answer_settle p))) h
+      ∙ ap (λ (a : SettleRun). lines ++ flat_map line a.answers) (sym (settled_quiet p h))
       ∙ so_far
 
   pub peer_end : (last : Peer) → is_quiet (answer_settle p) ≡ true → (all_settle_steps p).peer ≡ last → q ≡ last
   peer_end last h so_far = after ∙ quiet_stays p h ∙ ap (λ (a : SettleRun). a.peer) (sym (settled_quiet p h)) ∙ so_far
 
   -- before it the same is still to come
-  pub lines_more : (all : List ℕ) → is_quiet (answer_settle p) ≡ false → lines ++ answer_lines (all_settle_steps p).answers ≡ all
-      → now ++ answer_lines (all_settle_steps q).answers ≡ all
+  pub lines_more : (all : List ℕ) → is_quiet (answer_settle p) ≡ false → lines ++ still p ≡ all → now ++ still q ≡ all
   lines_more all h so_far =
-      let line : List ℕ = answer_line None (answer_settle p) in
-      let later : List ℕ = answer_lines (all_settle_steps (peer_after p Settle)).answers in
-      let first : answer_lines (all_settle_steps p).answers ≡ line ++ later
-      = ap (λ (a : SettleRun). answer_lines a.answers) (settled_more p h) ∙ flat_map-cons (answer_line None) (answer_settle p) (all_settle_steps (peer_after p Settle)).answers in
-      ap (λ (r : Peer). now ++ answer_lines (all_settle_steps r).answers) after
-      ∙ ap (λ (l : List ℕ). l ++ later) (told ∙ ap (λ (quiet : Bool). lines ++ cond quiet [] line) h)
-      ∙ append_assoc lines line later
+      let one : List ℕ = line (answer_settle p) in
+      let later : List ℕ = still (peer_after p Settle) in
+      let first : still p ≡ one ++ later
+      = ap (λ (a : SettleRun). flat_map line a.answers) (settled_more p h) ∙ flat_map-cons line (answer_settle p) (all_settle_steps (peer_after p Settle)).answers in
+      ap (λ (r : Peer). now ++ still r) after
+      ∙ ap (λ (l : List ℕ). l ++ later) (told ∙ ap (λ (quiet : Bool). lines ++ cond quiet [] one) h)
+      ∙ append_assoc lines one later
       ∙ ap (λ (l : List ℕ). lines ++ l) (sym first)
       ∙ so_far
 

@@ -13,9 +13,9 @@ use Rattle.line_spelling.specs.Answers.{answer_line}
 use Rattle.report_text.specs.Frame.{turn_line, end_line}
 use Rattle.form_feed.specs.Stream.{FrameTurn}
 
--- the line of a settle step's answer; none where nothing is due
-abbrev pub settle_line : Answer → List ℕ
-settle_line answer = if is_quiet answer then [] else answer_line None answer
+-- what is told of a settle step's answer, where this is told of an answer; nothing where nothing is due
+abbrev pub settle_told : (Answer → List ℕ) → Answer → List ℕ
+settle_told line answer = if is_quiet answer then [] else line answer
 
 -- answers one after the other, and the peer after them
 pub record SettleRun : Type 0 where
@@ -38,16 +38,17 @@ settle_steps (suc n) p = elim (is_quiet (answer_settle p)) [
 unfoldable pub all_settle_steps : Peer → SettleRun
 all_settle_steps p = settle_steps (length p.held) p
 
--- the lines of answers, where no message is numbered
-abbrev pub answer_lines : List Answer → List ℕ
-answer_lines answers = flat_map (answer_line None) answers
+-- the settle steps behind a message that is received
+abbrev pub received_run : Peer → Message → SettleRun
+received_run p m = all_settle_steps (peer_after p (Receive m))
 
--- a message is received, and what is due then is settled
+-- what is told of its answer and theirs, where this is told of an answer
+abbrev pub message_told : (Answer → List ℕ) → Peer → Message → List ℕ
+message_told line p m = line (answer_receive p m) ++ flat_map line (received_run p m).answers
+
+-- of each of these answers the line is written, where no message is numbered
 abbrev pub message_turn : Peer → Message → FrameTurn Peer
-message_turn p m = let settled = all_settle_steps (peer_after p (Receive m)) in record {
-  reply = answer_line None (answer_receive p m) ++ answer_lines settled.answers;
-  after = settled.peer;
-}
+message_turn p m = record { reply = message_told (answer_line None) p m; after = (received_run p m).peer }
 
 -- one frame: of those that are no messages the peer isn't told
 unfoldable pub frame_turn : Peer → Frame → FrameTurn Peer

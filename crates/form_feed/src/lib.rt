@@ -8,8 +8,10 @@ mod feeding;
 mod intake;
 pub mod laws;
 mod peer_intake;
+mod telling;
 mod turn;
 
 pub use feeding::feed_intake;
 pub use intake::Intake;
 pub use peer_intake::{feed, feed_peer};
+pub use turn::take_untold;

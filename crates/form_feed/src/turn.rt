@@ -1,53 +1,74 @@
 //! What a peer answers to a frame.
-ghost use Rattle.std.specs.Prelude.{◌≡◌, ◌++◌, not, OnOk, IfOk};
+ghost use Rattle.std.specs.Prelude.{◌≡◌, ◌++◌, not, flat_map, OnOk, IfOk};
 ghost use Rattle.peer_step.specs.Answers.{is_quiet};
-ghost use Rattle.peer_core.specs.Answers.{answer_settle};
+ghost use Rattle.peer_core.specs.Answers.{answer_of, answer_settle};
 ghost use Rattle.peer_core.specs.After.{peer_after};
-ghost use Rattle.form_feed.specs.Turn.{settle_line, all_settle_steps, answer_lines, frame_turn};
+ghost use Rattle.form_feed.specs.Turn.{settle_told, all_settle_steps, message_told, message_turn, frame_turn};
 
+use crate::telling::{Nobody, Telling};
 use edit_frame::Frame;
 use edit_message::Message;
 use element_name::NoMemory;
-use line_write::put_answer_line;
 use peer_core::Peer;
 use peer_step::{Answer, Step};
-use report_text::{answer_line_of, end_line, turn_line};
+use report_text::{end_line, turn_line};
 
-// Appends the line of a settle step's answer but for Quiet, and says whether it is another one.
-fn put_settled(answer: &Answer, out: &mut Vec<u8>) -> Result<bool, NoMemory>
-    ensures due { IfOk result (λ due. due ≡ not (is_quiet answer.now)) }
-    ensures line { OnOk result (out.new.items ≡ out.old.items ++ settle_line answer.now) }
+// Makes a step, and tells its answer.
+fn tell_step<T: Telling>(peer: &mut Peer, step: Step, to: &mut T) -> Result<(), NoMemory>
+    ensures told { OnOk result (T.told to.new ≡ T.told to.old ++ T.line (answer_of peer.old step)) }
+    ensures peer { OnOk result (peer.new ≡ peer_after peer.old step) }
 {
-    if answer.is_quiet() {
-        return Ok(false);
-    }
-    put_answer_line(out, None, answer)?;
-    Ok(true)
-}
-
-// Settles the first held message that is due, and says whether one was.
-fn settle_first(peer: &mut Peer, out: &mut Vec<u8>) -> Result<bool, NoMemory>
-    ensures due { IfOk result (λ due. due ≡ not (is_quiet (answer_settle peer.old))) }
-    ensures line { OnOk result (out.new.items ≡ out.old.items ++ settle_line (answer_settle peer.old)) }
-    ensures peer { OnOk result (peer.new ≡ peer_after peer.old Step.Settle) }
-{
-    let answer = peer.step(Step::Settle)?;
-    let told = put_settled(&answer, out);
+    let answer = peer.step(step)?;
+    let told = to.tell(&answer);
     drop(answer);
     told
 }
 
-// Settles what is due, and appends the answers.
-fn settle(peer: &mut Peer, out: &mut Vec<u8>) -> Result<(), NoMemory>
-    ensures reply { OnOk result (out.new.items ≡ out.old.items ++ answer_lines (all_settle_steps peer.old).answers) }
+// Tells a settle step's answer but for Quiet, and says whether it is another one.
+fn tell_settled<T: Telling>(answer: &Answer, to: &mut T) -> Result<bool, NoMemory>
+    ensures due { IfOk result (λ due. due ≡ not (is_quiet answer.now)) }
+    ensures told { OnOk result (T.told to.new ≡ T.told to.old ++ settle_told T.line answer.now) }
+{
+    if answer.is_quiet() {
+        return Ok(false);
+    }
+    to.tell(answer)?;
+    Ok(true)
+}
+
+// Settles the first held message that is due, and says whether one was.
+fn settle_first<T: Telling>(peer: &mut Peer, to: &mut T) -> Result<bool, NoMemory>
+    ensures due { IfOk result (λ due. due ≡ not (is_quiet (answer_settle peer.old))) }
+    ensures told { OnOk result (T.told to.new ≡ T.told to.old ++ settle_told T.line (answer_settle peer.old)) }
+    ensures peer { OnOk result (peer.new ≡ peer_after peer.old Step.Settle) }
+{
+    let answer = peer.step(Step::Settle)?;
+    let told = tell_settled(&answer, to);
+    drop(answer);
+    told
+}
+
+// Settles what is due, and tells the answers. Where nothing is held no step is made.
+fn settle<T: Telling>(peer: &mut Peer, to: &mut T) -> Result<(), NoMemory>
+    ensures told { OnOk result (T.told to.new ≡ T.told to.old ++ flat_map T.line (all_settle_steps peer.old).answers) }
     ensures peer { OnOk result (peer.new ≡ (all_settle_steps peer.old).peer) }
 {
-    'steps: loop {
-        let due = settle_first(peer, out)?;
+    'steps: while peer.held_len() > 0 {
+        let due = settle_first(peer, to)?;
         if !due {
             return Ok(());
         }
     }
+    Ok(())
+}
+
+// Receives a message, settles what is due then, and tells the answers.
+fn take_message<T: Telling>(peer: &mut Peer, message: Message, to: &mut T) -> Result<(), NoMemory>
+    ensures told { OnOk result (T.told to.new ≡ T.told to.old ++ message_told T.line peer.old message) }
+    ensures peer { OnOk result (peer.new ≡ (message_turn peer.old message).after) }
+{
+    tell_step(peer, Step::Receive(message), to)?;
+    settle(peer, to)
 }
 
 /// Answers a frame.
@@ -57,11 +78,21 @@ pub(crate) fn answer_frame(peer: &mut Peer, frame: Frame, out: &mut Vec<u8>) -> 
     ensures peer { OnOk result (peer.new ≡ (frame_turn peer.old frame).after) }
 {
     match frame {
-        Frame::Item(message) => {
-            answer_line_of(peer, Step::Receive(message), out)?;
-            settle(peer, out)
-        }
+        Frame::Item(message) => take_message(peer, message, out),
         Frame::Turn => turn_line(out),
         Frame::End => end_line(out),
+    }
+}
+
+/// Has a peer take a frame in as [`feed_peer`](crate::feed_peer) has it, and writes nothing of what it answers.
+///
+/// It takes the time and the memory of the peer's steps. After a failure the peer may have made a part of them.
+#[tactic(auto, unfolding(crate::specs::Turn::frame_turn))]
+pub fn take_untold(peer: &mut Peer, frame: Frame) -> Result<(), NoMemory>
+    ensures { OnOk result (peer.new ≡ (frame_turn peer.old frame).after) }
+{
+    match frame {
+        Frame::Item(message) => take_message(peer, message, &mut Nobody),
+        Frame::Turn | Frame::End => Ok(()),
     }
 }

@@ -34,6 +34,6 @@ returns c =
     let ranked : c.in_ok-places.places ≡ kept.elements = c.in_ok-places.ensures ∙ c.in_ok-names.ensures in
     written J kept.log kept.elements kept.ids c.requires.basis
     c.len.result c.from.result c.names-2.result.now c.new-due.result.items c.put_counts.new.out.items c.put_elements.new.out.items c.put_frames.new.out.items
-    c.new-due.ensures.items c.len.ensures.len (c.from.ensures ∙ c.len-2.ensures.count) (c.names-2.ensures ∙ ranked)
+    c.new-due.ensures.items c.len.ensures (c.from.ensures ∙ c.len-2.ensures.count) (c.names-2.ensures ∙ ranked)
     c.in_ok-put_counts.ensures c.in_ok-put_elements.ensures
     (c.in_ok-put_frames.ensures ∙ ap (λ (ns : List Name). c.put_elements.new.out.items ++ flat_map (message_bytes ns kept.log) J) ranked)

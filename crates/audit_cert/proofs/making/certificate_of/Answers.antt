@@ -24,5 +24,5 @@ returns c =
     let kept = c.args.basis.now in
     written c.args.journal.now kept.log (names_in kept.elements) kept.ids c.requires
     c.len.result c.from.result c.deref.result.now c.new-lines.result.items c.put_counts.new.out.items c.put_elements.new.out.items c.put_requests.new.out.items
-    c.new-lines.ensures.items c.len.ensures.len (c.from.ensures ∙ c.len-2.ensures.count) (c.deref.ensures.value ∙ c.in_ok-names.ensures)
+    c.new-lines.ensures.items c.len.ensures (c.from.ensures ∙ c.len-2.ensures.count) (c.deref.ensures.value ∙ c.in_ok-names.ensures)
     c.in_ok-put_counts.ensures c.in_ok-put_elements.ensures c.in_ok-put_requests.ensures

@@ -1,6 +1,5 @@
 use Rattle.std.proofs.Common.{◌≡◌, true, false, [], ◌∷◌, ◌++◌, length, sym, ap, subst, ◌∙◌}
-use Rattle.std.specs.BTreeSet.{btree_set_len, contains}
-use Rattle.element_name.specs.Named.{name_cmp}
+use Rattle.element_name.specs.Name.{has_name}
 use Rattle.edit_message.specs.declared.message.Message.{Message}
 use Rattle.edit_message.specs.declared.message.Message.TheVariants.{Coop, Admin}
 use Rattle.edit_message.specs.Message.{key_of}
@@ -23,10 +22,10 @@ returns-in_ok-joined-in-Coop-clause-taken g c = λ yes J basis.
     let q = c.in-Coop.request in
     let is : Coop q ≡ c.args.message = sym c.in-Coop.is in
     let formed : is_message (Coop q) ≡ true = ap is_message is ∙ c.key.ensures.message in
-    let new : contains name_cmp self.ids q.id ≡ false =
+    let new : has_name self.ids q.id ≡ false =
     ap (λ (m : Message). is_known (length self.log) self.ids (key_of m)) is ∙ ap (is_known (length self.log) self.ids) (sym c.key.ensures.value) ∙ sym c.knows.ensures ∙ c.if-knows.false in
-    let joins : may_join (length self.log) (names self.elements) (btree_set_len self.ids) q ≡ true =
-    ap (λ n. may_join n (names self.elements) (btree_set_len self.ids) q) (sym c.len-front.ensures.count) ∙ sym c.in_ok-joined-in-Coop.ensures.test ∙ yes in
+    let joins : may_join (length self.log) (names self.elements) (length self.ids) q ≡ true =
+    ap (λ n. may_join n (names self.elements) (length self.ids) q) (sym c.len-front.ensures.count) ∙ sym c.in_ok-joined-in-Coop.ensures.test ∙ yes in
     subst (λ (m : Message). IsBasisOf (J ++ m ∷ []) self.log (names c.take_request.new.elements) c.take_request.new.ids) is
     (request_taken J self.log (names self.elements) self.ids basis q (names c.take_request.new.elements) c.take_request.new.ids c.in_ok-joined-in-Coop.ensures.accepted formed new joins
     (c.in_ok-joined-in-Coop.ensures.names yes) (c.in_ok-joined-in-Coop.ensures.noted yes) (c.in_ok-joined-in-Coop.ensures.count yes))
@@ -37,8 +36,8 @@ returns-in_ok-joined-in-Coop-clause-refused g c = λ no J basis.
     let names = g.E.Elements.names in
     let q = c.in-Coop.request in
     let is : Coop q ≡ c.args.message = sym c.in-Coop.is in
-    let joins : may_join (length self.log) (names self.elements) (btree_set_len self.ids) q ≡ false =
-    ap (λ n. may_join n (names self.elements) (btree_set_len self.ids) q) (sym c.len-front.ensures.count) ∙ sym c.in_ok-joined-in-Coop.ensures.test ∙ no in
+    let joins : may_join (length self.log) (names self.elements) (length self.ids) q ≡ false =
+    ap (λ n. may_join n (names self.elements) (length self.ids) q) (sym c.len-front.ensures.count) ∙ sym c.in_ok-joined-in-Coop.ensures.test ∙ no in
     subst (λ (m : Message). ¬ IsWithin (J ++ m ∷ [])) is (request_refused J self.log (names self.elements) self.ids basis q joins)
 
 pub returns-in_ok-pushed-in-Admin-clause-taken : goal.returns-in_ok-pushed-in-Admin-clause-taken

@@ -7,6 +7,7 @@ use Rattle.audit_cert.specs.Basis.{IsBasisOf}
 use Rattle.audit_cert.specs.Audit.{messages_of_frames}
 use Rattle.audit_cert.proofs.Prefixes.{one_further}
 use Rattle.audit_cert.proofs.Audits.{breaks_here, messages_append, one_item_more, same_item}
+use Rattle.audit_cert.proofs.KeptFrameLemmas.{item_is, no_item}
 use Rattle.audit_cert.proofs.basis.Basis.take_frames.Goals as goal
 
 pub returns-in_default : goal.returns-in_default
@@ -16,7 +17,7 @@ returns-in_default g c =
       ok = tt;
       items = tt;
       fault = breaks_here c.args.frames.now now.place c.index-frames-place.result c.loop-place-test.true c.index-frames-place.is now.invariant.items
-          now.invariant.basis.within (λ m is. absurd (c.in_default.not-Item m is));
+          now.invariant.basis.within (λ m is. absurd (no_item c.index-frames-place.result m (sym c.in_ok-item.ensures ∙ c.in_default.is) is));
     }
 
 pub returns-then-not-taken-clause-fault : goal.returns-then-not-taken-clause-fault
@@ -24,7 +25,7 @@ returns-then-not-taken-clause-fault g c =
     let now = c.loop-place in
     let J = messages_of_frames (take now.place c.args.frames.now) in
     breaks_here c.args.frames.now now.place c.index-frames-place.result c.loop-place-test.true c.index-frames-place.is now.invariant.items now.invariant.basis.within
-    (λ m is. subst (λ (x : Message). ¬ IsWithin (J ++ x ∷ [])) (c.in_ok-message.ensures ∙ same_item _ m (sym c.in-Item.is ∙ is))
+    (λ m is. subst (λ (x : Message). ¬ IsWithin (J ++ x ∷ [])) (same_item _ m (sym (item_is c.index-frames-place.result c.in-Some.message (sym c.in_ok-item.ensures ∙ c.in-Some.is)) ∙ is))
     (c.in_ok-taken.ensures.refused c.if-not-taken.true J now.invariant.basis))
 
 pub loop-place-preserved : goal.loop-place-preserved
@@ -32,8 +33,8 @@ loop-place-preserved g c =
     let now = c.loop-place in
     let frames = c.args.frames.now in
     let J = messages_of_frames (take now.place frames) in
-    let message = c.in_ok-message.message in
-    let is : c.index-frames-place.result ≡ Item message = c.in-Item.is ∙ ap (λ (x : Message). Item x) (sym c.in_ok-message.ensures) in
+    let message = c.in-Some.message in
+    let is : c.index-frames-place.result ≡ Item message = item_is c.index-frames-place.result message (sym c.in_ok-item.ensures ∙ c.in-Some.is) in
     let more : take (now.place + 1) frames ≡ take now.place frames ++ Item message ∷ [] =
     one_further frames now.place c.index-frames-place.result c.loop-place-test.true c.index-frames-place.is ∙ ap (λ (f : Frame). take now.place frames ++ f ∷ []) is in
     let longer : messages_of_frames (take (now.place + 1) frames) ≡ J ++ message ∷ [] = ap messages_of_frames more ∙ messages_append (take now.place frames) (Item message ∷ []) in
