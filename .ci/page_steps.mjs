@@ -1,8 +1,10 @@
-// As examples/library/two_peers.c, by the module: the same lines give the same answers, and at the end each peer comes back. With a
+// As examples/library/two_peers.c, by the module: the same lines give the same answers, the rows of each step make of what showed what shows
+// then, and at the end each peer comes back. With a
 // number N it writes N made lines. With `replay` and a file it writes the lines there as a script of `replay`, but for those that are
 // no steps, and then the answers that are due to it. With `narrow` the module's memory has 32 bits, as for browsers that know no other.
 //
 //   node --experimental-wasm-memory64 .ci/page_steps.mjs [narrow | replay SCRIPT] < LINES          node .ci/page_steps.mjs N
+import assert from 'node:assert/strict';
 import { readFileSync, writeFileSync } from 'node:fs';
 import { DONE, Module, Peer } from '../web/peer.mjs';
 
@@ -58,16 +60,16 @@ function scriptLine(site, step) {
   return kind === 'look' || kind === 'show' ? [kind, site, ...words].join(' ') : `${site} ${step}`;
 }
 
-// Plays lines. `tell` is given each call as a line of a script, what it told, and the number of the message that it issued, or 0.
+// Plays lines. `tell` is given each call as a line of a script, what it told, the number of the message that it issued, or 0, and the site.
 function play(lines, peers, tell) {
   const waiting = [[], []];
   let issued = 0;
   const receiveAll = (site) => {
     for (const { number, frame } of waiting[site].splice(0)) {
-      tell(`give ${number} ${site}`, peers[site].receive(frame), 0);
+      tell(`give ${number} ${site}`, peers[site].receive(frame), 0, site);
       for (let answer = ''; answer !== 'quiet'; ) {
         const told = peers[site].step('settle');
-        tell(`settle ${site}`, told, 0);
+        tell(`settle ${site}`, told, 0, site);
         answer = told.answer;
       }
     }
@@ -81,13 +83,31 @@ function play(lines, peers, tell) {
     const told = peers[site].step(line.slice(2));
     const isIssued = told.frame.length && !line.startsWith('look', 2);
     if (isIssued) waiting[1 - site].push({ number: ++issued, frame: told.frame });
-    tell(scriptLine(site, line.slice(2)), told, isIssued ? issued : 0);
+    tell(scriptLine(site, line.slice(2)), told, isIssued ? issued : 0, site);
   }
+}
+
+// Pieces with the rows in them, one after another.
+function follow(pieces, rows) {
+  for (const { kind, at, piece } of rows) pieces.splice(at, kind === 'insert' ? 0 : 1, ...(kind === 'delete' ? [] : [piece]));
+}
+
+// What a peer tells of its text is what its rows made.
+function compare(peer, pieces) {
+  assert.equal(Buffer.from(peer.text()).toString(), pieces.join(''));
+  assert.equal(peer.count(), pieces.length);
+  assert.deepEqual(pieces.map((_, place) => peer.pieceAt(place)), pieces);
+  assert.deepEqual(pieces.map((_, place) => peer.writerAt(place)), [...peer.writers()]);
 }
 
 function answered(lines, peers) {
   const out = [];
-  play(lines, peers, (line, { code, answer }) => out.push(`${code} ${code === DONE ? answer : ''}`));
+  const shown = peers.map(() => []);
+  play(lines, peers, (line, { code, answer, rows }, number, site) => {
+    out.push(`${code} ${code === DONE ? answer : ''}`);
+    follow(shown[site], rows);
+  });
+  peers.forEach((peer, site) => compare(peer, shown[site]));
   for (const peer of peers) out.push(`0 ${Buffer.from(back(peer).text()).toString().replace(/\n$/, '')}`);
   return out;
 }

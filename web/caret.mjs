@@ -16,7 +16,7 @@ import { difference } from './difference.mjs';
  */
 export function caretAt({ peer, pieces }, offset) {
   const { place, start } = pieces.behind(offset);
-  if (start < offset) return { name: peer.nameAt(place), inside: offset - start, piece: pieces.pieceAt(place) };
+  if (start < offset) return { name: peer.nameAt(place), inside: offset - start, piece: peer.pieceAt(place) ?? '' };
   return { name: place ? peer.nameAt(place - 1) : null, inside: null, piece: '' };
 }
 
@@ -30,7 +30,7 @@ export function offsetOf({ peer, pieces }, { name, inside, piece }) {
   if (name === null) return 0;
   const place = peer.shownUpTo(name) ?? 0;
   if (inside === null || !place || peer.nameAt(place - 1) !== name) return pieces.startOf(place);
-  const now = pieces.pieceAt(place - 1);
+  const now = peer.pieceAt(place - 1) ?? '';
   return pieces.startOf(place - 1) + (now === piece ? inside : moved(inside, difference(piece, now)));
 }
 

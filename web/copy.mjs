@@ -5,6 +5,7 @@ import { readMessage, spelled, undoneBy } from './lines.mjs';
 import { BAD, DONE, NoMemory, Peer, UNTOLD } from './peer.mjs';
 import { Pieces } from './pieces.mjs';
 import { MOST_TO_CONFIRM, Policy } from './policy.mjs';
+import { placesOf } from './rows.mjs';
 import { Undone } from './undone.mjs';
 
 // A frame of no message: the bytes are at fault, and whoever sent them.
@@ -18,7 +19,7 @@ export class BadFrame extends Error {}
  */
 
 const ITEM = 'item ';
-const decoder = new TextDecoder('utf-8', { ignoreBOM: true });
+const MANY = 100; // where so many pieces change at once all are asked for
 const EXCERPT = 24; // letters by which a paragraph is told
 
 export class Copy {
@@ -51,6 +52,8 @@ export class Copy {
     this.changes = new Map();
     /** @type {{ name: string, request: string }[]} changes of elements by others that came since these were looked at */
     this.changed = [];
+    /** @type {Set<string>} the names of elements whose letters may be others' since the pieces were looked at */
+    this.touched = new Set();
     /** @type {Pieces | null} those that show, where they are known */
     this.shown = null;
     if (bytes) this.takeAll(bytes);
@@ -89,12 +92,22 @@ export class Copy {
   // The pieces that show, as the peer tells. It takes the time of the text.
   askPieces() {
     const { peer } = this;
-    const pieces = Pieces.of(peer.text(), peer.sizes(), (place) => Number(peer.nameAt(place)?.split('.')[1]));
-    for (const [name, changes] of this.changes) {
-      const place = this.placeOf(name);
-      if (changes.length && place !== null) pieces.giveAuthors(place, this.authorsAt(name, changes));
-    }
+    const pieces = Pieces.of(peer.text(), peer.sizes(), peer.writers());
+    for (const name of this.changes.keys()) this.giveAuthors(pieces, name);
+    this.touched.clear();
     return pieces;
+  }
+
+  /**
+   * Notes whose the letters of an element are, if it shows.
+   *
+   * @param {Pieces} pieces
+   * @param {string} name
+   */
+  giveAuthors(pieces, name) {
+    const place = this.placeOf(name);
+    const changes = this.changes.get(name) ?? [];
+    if (place !== null) pieces.giveAuthors(place, changes.length ? this.authorsAt(name, changes) : null);
   }
 
   /**
@@ -144,7 +157,7 @@ export class Copy {
    */
   step(line) {
     const told = this.peer.step(line);
-    this.takeIn(told.answer);
+    this.takeIn(told);
     if (told.code === UNTOLD) throw new NoMemory();
     if (told.code !== DONE) throw new Error(`“${line}” is no step: a number may be too large, or there are too many.`);
     return told.answer;
@@ -245,8 +258,9 @@ export class Copy {
    * @param {Uint8Array} frame
    */
   receive(frame) {
-    const { code, answer } = this.peer.receive(frame);
-    this.takeIn(answer);
+    const told = this.peer.receive(frame);
+    const { code, answer } = told;
+    this.takeIn(told);
     if (code === BAD) throw new BadFrame();
     if (code === UNTOLD) throw new NoMemory();
     if (this.tellsOfOwn(answer)) this.isStale = true;
@@ -316,18 +330,44 @@ export class Copy {
   }
 
   /**
-   * Takes in what the journal has since a step that had this answer: an item, if any. Where that ends halfway the pieces are asked for
-   * anew.
+   * Takes in what was told of a step: the rows of what changed in the text, and what the journal has since, an item, if any. Where that ends
+   * halfway, or a step couldn't be told, the pieces are asked for anew.
    *
-   * @param {string} answer
+   * @param {import('./peer.mjs').Told} told
    */
-  takeIn(answer) {
+  takeIn({ code, answer, rows }) {
     try {
+      if (code === UNTOLD) this.forgetPieces();
+      this.followRows(rows);
       this.takeItems(answer);
+      this.followAuthors();
     } catch (error) {
       this.forgetPieces();
       throw error;
     }
+  }
+
+  /**
+   * Puts rows into the pieces, where they are known.
+   *
+   * @param {import('./rows.mjs').Row[]} rows
+   */
+  followRows(rows) {
+    if (rows.length > MANY) this.forgetPieces();
+    const { peer, shown } = this;
+    if (!shown) return;
+    for (const { kind, at, piece } of rows) shown.splice(at, kind === 'insert' ? 0 : 1, kind === 'delete' ? [] : [piece]);
+    for (const it of placesOf(rows)) {
+      shown.users[it] = peer.writerAt(it) ?? 0;
+      this.touched.add(peer.nameAt(it) ?? '');
+    }
+  }
+
+  // Notes whose the letters are of what was changed.
+  followAuthors() {
+    const { shown, touched } = this;
+    if (shown) touched.forEach((it) => this.changes.has(it) && this.giveAuthors(shown, it));
+    touched.clear();
   }
 
   /** @param {string} answer */
@@ -349,7 +389,16 @@ export class Copy {
   noteTarget(frame, place) {
     const [deleted, changed] = [deletedBy(frame), changedBy(frame)];
     if (deleted) this.deleted.add(deleted);
-    if (changed) this.changes.set(changed, [...(this.changes.get(changed) ?? []), { ...requestOf(frame), place }]);
+    if (changed) this.setChanges(changed, [...(this.changes.get(changed) ?? []), { ...requestOf(frame), place }]);
+  }
+
+  /**
+   * @param {string} name
+   * @param {Change[]} changes
+   */
+  setChanges(name, changes) {
+    this.changes.set(name, changes);
+    this.touched.add(name);
   }
 
   /**
@@ -360,7 +409,7 @@ export class Copy {
   dropChange(frame) {
     const name = changedBy(frame);
     const { name: request } = requestOf(frame);
-    if (name) this.changes.set(name, (this.changes.get(name) ?? []).filter((it) => it.name !== request));
+    if (name) this.setChanges(name, (this.changes.get(name) ?? []).filter((it) => it.name !== request));
   }
 
   /** @param {import('./lines.mjs').Entry} entry */
@@ -400,7 +449,7 @@ export class Copy {
   }
 
   /**
-   * What showed until now may be undone. Where it is, all of the text may be another.
+   * What showed until now may be undone.
    *
    * @param {string} name
    * @param {number} place
@@ -410,7 +459,6 @@ export class Copy {
     if (!denial) return;
     this.undone.put(this.requestAt(place), denial);
     this.dropChange(this.journal.view(place));
-    this.forgetPieces();
   }
 
   /**
@@ -423,7 +471,7 @@ export class Copy {
     this.noteTarget(frame, place);
     if (denial) this.dropChange(frame);
     if (denial) this.undone.put(request, denial);
-    else this.follow(request);
+    else this.noteChange(request);
   }
 
   /**
@@ -441,45 +489,11 @@ export class Copy {
   }
 
   /**
-   * Puts what a new request changed into the pieces, where one piece came, went or was changed by it; else they are asked for anew.
+   * Notes a change of an element by somebody else, for who makes a change of his own on it.
    *
    * @param {import('./lines.mjs').EditRequest} request
    */
-  follow({ name, user, edit }) {
-    const { peer, shown } = this;
+  noteChange({ name, user, edit }) {
     if (edit.kind === 'update' && user !== this.site) this.changed.push({ name: edit.name, request: name });
-    if (!shown) return;
-    const upTo = peer.shownUpTo(edit.kind === 'insert' ? name : edit.name) ?? 0;
-    if (edit.kind === 'insert' && peer.shows(shown.count + 1)) shown.splice(upTo - 1, 0, [edit.piece], user);
-    else if (edit.kind === 'delete' && peer.shows(shown.count - 1)) shown.splice(upTo, 1, []);
-    else if (edit.kind === 'update' && peer.shows(shown.count)) this.followUpdate(shown, user, edit);
-    else if (!peer.shows(shown.count)) this.forgetPieces();
-  }
-
-  /**
-   * The last update of a piece by name shows. This person's own, which was just made, has a greater name than all that are here; of
-   * another one the peer is asked.
-   *
-   * @param {Pieces} shown
-   * @param {number} user
-   * @param {import('./lines.mjs').Edit} edit
-   */
-  followUpdate(shown, user, { name, piece }) {
-    const place = this.placeOf(name);
-    if (place === null) return;
-    shown.splice(place, 1, [user === this.site ? piece : this.askPiece(place)], shown.users[place]);
-    shown.giveAuthors(place, this.authorsAt(name, this.changes.get(name) ?? []));
-  }
-
-  /**
-   * The piece at a place, as the peer has it. It takes the time of the text.
-   *
-   * @param {number} place
-   */
-  askPiece(place) {
-    const sizes = this.peer.sizes();
-    let start = 0;
-    for (let i = 0; i < place; i++) start += sizes[i];
-    return decoder.decode(this.peer.text().subarray(start, start + sizes[place]));
   }
 }

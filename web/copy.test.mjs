@@ -46,11 +46,11 @@ test('pieces that are not followed', () => {
   const { copy } = side;
   side.type(0, 0, 'a');
   const { peer } = copy;
-  peer.shows = () => {
+  peer.writerAt = () => {
     throw new NoMemory();
   };
   assert.throws(() => copy.insert(1, 'b'), NoMemory);
-  delete peer.shows;
+  delete peer.writerAt;
   assert.equal(copy.pieces.text, 'ab');
 });
 

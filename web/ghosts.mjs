@@ -126,7 +126,7 @@ export class Ghosts {
     const { copy } = this;
     const place = copy.placeOf(name);
     if (place === null) return { offset: 0, text: '' };
-    const { end, text } = difference(copy.pieces.pieceAt(place), piece);
+    const { end, text } = difference(copy.peer.pieceAt(place) ?? '', piece);
     return { offset: copy.pieces.startOf(place) + end, text };
   }
 

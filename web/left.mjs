@@ -48,12 +48,12 @@ function namesOf({ journal }, places) {
 export function leftIn(copy, places) {
   if (!places.length) return [];
   const { requests, elements } = namesOf(copy, places);
-  const { pieces } = copy;
+  const count = copy.peer.count();
   /** @type {{ text: string, old: string, at: number, place: number }[]} */
   const found = [];
   let base = ''; // the text without them
-  for (let place = 0; place < pieces.count; place++) {
-    const text = pieces.pieceAt(place);
+  for (let place = 0; place < count; place++) {
+    const text = copy.peer.pieceAt(place) ?? '';
     const name = copy.peer.nameAt(place) ?? '';
     if (!elements.has(name)) {
       base += text;

@@ -262,8 +262,8 @@ export class Page {
     const isThere = focus > 0 && place < copy.pieces.count;
     if (!isThere) return say('writer', '');
     let rest = focus - 1 - start;
-    const changer = (copy.pieces.authors.get(place) ?? []).find(({ length }) => (rest -= length) < 0)?.user ?? copy.pieces.users[place];
-    say('writer', words.writer(copy.pieces.users[place], changer));
+    const user = (copy.pieces.authors.get(place) ?? []).find(({ length }) => (rest -= length) < 0)?.user ?? copy.pieces.users[place];
+    say('writer', words.writer(Number(copy.peer.nameAt(place)?.split('.')[1]), user));
   }
 
   tellUndone() {

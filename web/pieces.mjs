@@ -37,22 +37,22 @@ function roomier(row, room) {
 
 export class Pieces {
   /**
-   * The pieces of these sizes in bytes that a text's bytes are; `userAt` tells of a place who put its piece in.
+   * The pieces of these sizes in bytes that a text's bytes are, and who wrote each.
    *
    * @param {Uint8Array} bytes
    * @param {Uint8Array} sizes
-   * @param {(place: number) => number} [userAt]
+   * @param {Uint16Array} [users]
    */
-  static of(bytes, sizes, userAt = () => 0) {
+  static of(bytes, sizes, users = new Uint16Array(0)) {
     const pieces = new Pieces();
     pieces.text = decoder.decode(bytes);
     pieces.sizes = new Uint8Array(sizes.length + FIRST_ROOM);
     pieces.users = new Uint16Array(sizes.length + FIRST_ROOM);
+    pieces.users.set(users);
     pieces.count = sizes.length;
     let at = 0;
     sizes.forEach((size, place) => {
       pieces.sizes[place] = unitsOf(bytes, at, at + size);
-      pieces.users[place] = userAt(place);
       at += size;
     });
     return pieces;
@@ -61,7 +61,7 @@ export class Pieces {
   constructor() {
     this.text = '';
     this.sizes = new Uint8Array(FIRST_ROOM);
-    this.users = new Uint16Array(FIRST_ROOM); // who put each in
+    this.users = new Uint16Array(FIRST_ROOM); // who wrote each
     /** @type {Map<number, import('./authors.mjs').Run[]>} by their places, whose the letters of those are that were changed */
     this.authors = new Map();
     this.count = 0;
@@ -72,13 +72,14 @@ export class Pieces {
   }
 
   /**
-   * Notes whose the letters of a piece are that somebody changed.
+   * Notes whose the letters of a piece are that somebody changed; null where nobody did.
    *
    * @param {number} place
-   * @param {import('./authors.mjs').Run[]} runs
+   * @param {import('./authors.mjs').Run[] | null} runs
    */
   giveAuthors(place, runs) {
-    this.authors.set(place, runs);
+    if (runs) this.authors.set(place, runs);
+    else this.authors.delete(place);
     this.knownRuns = null;
   }
 
@@ -110,17 +111,7 @@ export class Pieces {
   }
 
   /**
-   * The text of the piece at a place.
-   *
-   * @param {number} place
-   */
-  pieceAt(place) {
-    const start = this.startOf(place);
-    return this.text.slice(start, start + this.sizes[place]);
-  }
-
-  /**
-   * So many pieces from a place are replaced by these, which a user put in.
+   * So many pieces from a place are replaced by these, which a user wrote.
    *
    * @param {number} place
    * @param {number} removed

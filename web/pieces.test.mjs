@@ -12,7 +12,7 @@ const runsOf = (pieces) => pieces.runs().map(({ end, user }) => [end, user]);
 
 test('pieces from bytes', () => {
   const texts = ['é', '𝟝x', '\n'].map((it) => Buffer.from(it));
-  const pieces = Pieces.of(Buffer.concat(texts), Uint8Array.from(texts, (it) => it.length), (place) => place + 1);
+  const pieces = Pieces.of(Buffer.concat(texts), Uint8Array.from(texts, (it) => it.length), Uint16Array.of(1, 2, 3));
   assert.equal(pieces.text, 'é𝟝x\n');
   assert.deepEqual([...pieces.sizes.subarray(0, 3)], [1, 3, 1]);
   assert.deepEqual(runsOf(pieces), [[1, 1], [4, 2], [5, 3]]);
@@ -32,7 +32,7 @@ test('whose letters', () => {
   assert.equal(pieces.text, 'zero one three');
   for (let i = 0; i < 600; i++) pieces.splice(1, 0, ['x'], 4);
   assert.deepEqual(runsOf(pieces), [[5, 2], [605, 4], [609, 1], [614, 2]]);
-  assert.equal(pieces.pieceAt(1), 'x');
+  assert.equal(pieces.text.slice(pieces.startOf(1), pieces.startOf(2)), 'x');
 });
 
 test('places near the one that was asked for last', () => {

@@ -37,7 +37,7 @@ function readCaret(copy, word) {
   if (name === '-') return { name: null, inside: null, piece: '' };
   if (inside === undefined) return { name, inside: null, piece: '' };
   const place = copy.placeOf(name);
-  const piece = place === null ? '' : copy.pieces.pieceAt(place);
+  const piece = (place !== null && copy.peer.pieceAt(place)) || '';
   return { name, inside: Math.min(Number(inside), piece.length), piece };
 }
 

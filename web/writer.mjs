@@ -372,7 +372,7 @@ export class Writer {
   remake(place, piece, theirs) {
     const { steps } = this;
     this.steps = [];
-    if (this.copy.pieces.pieceAt(place) !== piece) this.update(place, piece, theirs);
+    if (this.copy.peer.pieceAt(place) !== piece) this.update(place, piece, theirs);
     this.steps = steps;
   }
 
@@ -424,7 +424,7 @@ export class Writer {
 
   /** @param {number} place */
   delete(place) {
-    const step = { kind: 'delete', behind: this.nameBefore(place), piece: this.copy.pieces.pieceAt(place) };
+    const step = { kind: 'delete', behind: this.nameBefore(place), piece: this.copy.peer.pieceAt(place) ?? '' };
     return this.made(this.copy.delete(place), step);
   }
 
@@ -436,7 +436,7 @@ export class Writer {
   update(place, piece, base = null) {
     const { copy } = this;
     const name = copy.peer.nameAt(place) ?? '';
-    const old = copy.pieces.pieceAt(place);
+    const old = copy.peer.pieceAt(place) ?? '';
     const under = this.lastChangeOf(name);
     if (!this.made(copy.update(place, piece), { kind: 'update', name, old, piece })) return false;
     const mine = this.mine.get(name) ?? { base: base ?? old, under, made: [] };
@@ -525,7 +525,7 @@ export class Writer {
    * @param {string} old
    */
   changeBack(place, piece, old) {
-    const now = this.copy.pieces.pieceAt(place);
+    const now = this.copy.peer.pieceAt(place) ?? '';
     const then = now === piece ? old : merged(piece, old, now);
     return then !== null && fits(then) && then !== now && this.change(place, then);
   }

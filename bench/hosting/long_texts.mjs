@@ -81,7 +81,7 @@ async function fill(page, letters) {
     const to = Math.min(letters, from + AT_ONCE);
     await page.value(`{
       for (let i = ${from}; i < ${to}; i++) page.copy.peer.step('edit insert ' + i + ' ' + (i % 60 === 59 ? '\\\\n' : 'x'));
-      page.copy.takeIn('');
+      page.copy.takeIn({ code: 0, answer: '', rows: [] });
       page.copy.forgetPieces();
       page.editor.show();
       page.changed();

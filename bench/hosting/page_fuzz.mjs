@@ -47,12 +47,13 @@ async function invite(browser, ada, name) {
   return open(browser, await ada.value(address), NARROW);
 }
 
-// What a page shows, what its peer has, how long its journal is, and whether it knows the pieces and who put each in.
+// What a page shows, what its peer has, how long its journal is, and whether it knows the pieces and who wrote each.
 const TOLD = `(() => {
   const { peer, pieces, journal } = page.copy;
   const text = new TextDecoder('utf-8', { ignoreBOM: true }).decode(peer.text());
-  const users = [...pieces.users.slice(0, pieces.count)].every((it, i) => it === Number(peer.nameAt(i).split('.')[1]));
-  return { shown: page.surface.read(), text, items: journal.count, isKnown: users && pieces.text === text && peer.sizes().length === pieces.count };
+  const writers = peer.writers();
+  const users = pieces.users.slice(0, pieces.count).every((it, i) => it === writers[i]);
+  return { shown: page.surface.read(), text, items: journal.count, isKnown: users && pieces.text === text && peer.count() === pieces.count };
 })()`;
 
 // A team of a seed at work.

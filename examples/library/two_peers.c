@@ -101,15 +101,16 @@ static void come_back(Side *side, uint16_t site) {
 
 /* A caret behind the last element that shows, kept by its name, stands behind as many elements as there are. */
 static int is_last_found(Side *side) {
-    uint8_t name[24], count[11] = {0};
-    if (editor_sizes(&side->slot) != EDITOR_DONE) exit(7);
-    size_t shown = editor_answer(&side->slot, name, sizeof name);
-    if (!shown) return 1;
-    if (editor_name_at(&side->slot, (uint32_t)(shown - 1)) != EDITOR_DONE) exit(7);
+    uint8_t name[24], shown[11] = {0}, count[11] = {0};
+    if (editor_count(&side->slot) != EDITOR_DONE) exit(7);
+    editor_answer(&side->slot, shown, sizeof shown - 1);
+    uint32_t last = (uint32_t)strtoul((char *)shown, NULL, 10) - 1;
+    if (editor_name_at(&side->slot, last) != EDITOR_DONE) exit(7);
     size_t name_size = editor_answer(&side->slot, name, sizeof name);
+    if (!name_size) return !strcmp((char *)shown, "0");
     if (editor_shown_up_to(&side->slot, name, name_size) != EDITOR_DONE) exit(7);
     editor_answer(&side->slot, count, sizeof count - 1);
-    return strtoul((char *)count, NULL, 10) == shown;
+    return !strcmp((char *)count, (char *)shown);
 }
 
 int main(void) {

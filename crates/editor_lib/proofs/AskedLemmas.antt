@@ -1,5 +1,5 @@
 -- A question whose answer was made, if there was memory for it.
-use Rattle.std.proofs.Common.{◌≡◌, ℕ, List, Option, Some, Result, Ok, Err, ap, subst, ◌∙◌}
+use Rattle.std.proofs.Common.{◌≡◌, ℕ, List, Some, Result, Ok, Err, subst}
 use Rattle.std.specs.Prelude.{IfOk, OnErr}
 use Rattle.std.specs.Global.{Vec}
 use Rattle.element_name.specs.declared.no_memory.NoMemory.{NoMemory}

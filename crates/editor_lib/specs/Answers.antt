@@ -1,10 +1,11 @@
 -- What questions are answered by.
-use Rattle.std.specs.Prelude.{ℕ, List, Option, Some, option_map, map, length, slice_get}
+use Rattle.std.specs.Prelude.{ℕ, List, [], Option, Some, option_map, map, length, slice_get, unwrap_or}
 use Rattle.std.specs.List.{concat}
 use Rattle.peer_core.specs.Peer.{Peer, state_of_name, text, shown_elements}
 use Rattle.peer_core.specs.Carets.{shown_up_to}
 use Rattle.line_read.specs.Numbers.{read_name}
 use Rattle.editor_lib.specs.Told.{kept_state_line, element_word, count_word}
+use Rattle.editor_lib.specs.Writers.{writer_of, writers_bytes}
 
 -- the bytes of the text
 unfoldable pub text_answer : Peer → Option (List ℕ)
@@ -17,6 +18,22 @@ state_answer peer word = option_map (λ name. kept_state_line (state_of_name pee
 -- the sizes of the text's pieces
 unfoldable pub sizes_answer : Peer → Option (List ℕ)
 sizes_answer peer = Some (map length (text peer))
+
+-- how many elements show
+unfoldable pub shown_answer : Peer → Option (List ℕ)
+shown_answer peer = Some (count_word (Some (length (text peer))))
+
+-- the piece that shows at a place; no bytes where none does
+unfoldable pub piece_answer : Peer → ℕ → Option (List ℕ)
+piece_answer peer place = Some (unwrap_or (slice_get (text peer) place) [])
+
+-- the sites of who wrote the text's pieces, in order, two bytes each
+unfoldable pub writers_answer : Peer → Option (List ℕ)
+writers_answer peer = Some (writers_bytes peer)
+
+-- the site of who wrote what shows at a place; no bytes where nothing does
+unfoldable pub writer_answer : Peer → ℕ → Option (List ℕ)
+writer_answer peer place = Some (count_word (option_map (writer_of peer) (slice_get (shown_elements peer) place)))
 
 -- the name of the element that shows at a place; no bytes where none does
 unfoldable pub name_answer : Peer → ℕ → Option (List ℕ)

@@ -2,12 +2,14 @@
 use Rattle.std.specs.Prelude.{◌≡◌, ℕ, List, Option, Some, None, IsSomeAnd, option_map}
 use Rattle.edit_message.specs.declared.message.Message.{Message}
 use Rattle.edit_frame.specs.Reading.{framed_message}
+use Rattle.peer_step.specs.declared.step.LocalEdit.{LocalEdit}
 use Rattle.peer_step.specs.declared.step.Step.{Step}
 use Rattle.peer_step.specs.declared.step.Step.TheVariants.{Receive}
 use Rattle.peer_core.specs.Peer.{Peer, fresh_peer}
 use Rattle.peer_core.specs.Answers.{answer_of}
 use Rattle.peer_core.specs.After.{peer_after}
 use Rattle.peer_core.specs.Restore.{peer_of_journal}
+use Rattle.text_change.specs.Told.{AreRowsOf}
 use Rattle.editor_lib.specs.declared.code.Code.{Code}
 use Rattle.editor_lib.specs.declared.code.Code.TheVariants as ends
 use Rattle.editor_lib.specs.Told.{LastTold, nothing, told}
@@ -53,9 +55,15 @@ Restored ends.Untold site bytes after = ⊥
 abbrev pub step_received : List ℕ → Option Step
 step_received bytes = option_map Receive (framed_message bytes)
 
+-- a step was made, and its answer was told, with rows that make of the text that showed the one that shows
+pub record IsMadeAndTold (step : Step) (before after : Desk) : Type 0 where
+  pub rows : List LocalEdit
+  pub are_rows : AreRowsOf before.peer (peer_after before.peer step) rows
+  pub desk_is : after ≡ record { peer = peer_after before.peer step; told = told (answer_of before.peer step) rows }
+
 -- what a call for the step that bytes say, or for none, leaves of a desk, by its code
 abbrev pub StepMade : Code → Option Step → Desk → Desk → Type 0
-StepMade ends.Done (Some step) before after = after ≡ record { peer = peer_after before.peer step; told = told (answer_of before.peer step) }
+StepMade ends.Done (Some step) before after = IsMadeAndTold step before after
 StepMade ends.Untold (Some step) before after = after ≡ record { peer = peer_after before.peer step; told = nothing }
 StepMade ends.Bad None before after = after ≡ before
 StepMade ends.NoMemory said before after = after ≡ before
@@ -63,7 +71,7 @@ StepMade code said before after = ⊥
 
 -- ---- questions
 
--- what a question that is answered by these bytes, or is none, leaves of a desk, by its code: the frame and the peer stay
+-- what a question that is answered by these bytes, or is none, leaves of a desk, by its code: the peer, the frame and the rows stay
 abbrev pub Asked : Code → Option (List ℕ) → Desk → Desk → Type 0
 Asked ends.Done (Some answer) before after = after ≡ record before { told = record before.told { answer = answer } }
 Asked ends.Bad None before after = after ≡ before

@@ -1,6 +1,7 @@
 pub mod Code
 pub mod Told
 pub mod Journal
+pub mod Writers
 pub mod Answers
 pub mod Desk
 pub mod Buffer

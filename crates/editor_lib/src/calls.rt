@@ -4,7 +4,7 @@ ghost use Rattle.std.specs.Prelude.{◌≡◌, Some, None, IsSomeAnd, OnErr, OnO
 ghost use Rattle.std.specs.Fn.{FnOnceReturnsAtMut};
 ghost use Rattle.line_read.specs.Step.{step_line};
 ghost use Rattle.editor_lib.specs.Code.{GivesCode};
-ghost use Rattle.editor_lib.specs.Answers.{text_answer, state_answer, sizes_answer, name_answer, count_answer};
+ghost use Rattle.editor_lib.specs.Answers.{text_answer, state_answer, sizes_answer, shown_answer, piece_answer, writers_answer, writer_answer, name_answer, count_answer};
 ghost use Rattle.editor_lib.specs.Desk.{Desk, step_received, Opened, Restored, StepMade, Asked};
 ghost use Rattle.editor_lib.specs.Told.{part_told};
 ghost use Rattle.editor_lib.specs.Buffer.{with_front};
@@ -142,6 +142,49 @@ pub extern "C" fn editor_sizes(alloc: Global, slot: &mut DeskSlot) -> u32
     on_desk(alloc, slot, |desk: &mut Desk| desk.sizes(alloc))
 }
 
+/// Puts the number of elements that show in place of the answer. Gives the number of a code: 0 or 2. Takes constant time.
+#[unsafe(no_mangle)]
+pub extern "C" fn editor_count(alloc: Global, slot: &mut DeskSlot) -> u32
+    ghost desk: { Desk }
+    requires { slot.old.value ≡ Some desk }
+    ensures { GivesCode result (λ code. IsSomeAnd slot.new.value (λ after. Asked code (shown_answer desk.peer) desk after)) }
+{
+    on_desk(alloc, slot, |desk: &mut Desk| desk.shown(alloc))
+}
+
+/// Puts the bytes of the piece that shows at a place, from 0, in place of the answer, and no bytes where none shows there.
+/// Gives the number of a code: 0 or 2. Takes the time of `editor_name_at`.
+#[unsafe(no_mangle)]
+pub extern "C" fn editor_piece_at(alloc: Global, slot: &mut DeskSlot, place: u32) -> u32
+    ghost desk: { Desk }
+    requires { slot.old.value ≡ Some desk }
+    ensures { GivesCode result (λ code. IsSomeAnd slot.new.value (λ after. Asked code (piece_answer desk.peer place) desk after)) }
+{
+    on_desk(alloc, slot, |desk: &mut Desk| desk.piece_at(alloc, place))
+}
+
+/// Puts the sites of who wrote the pieces that show, in their order, two bytes each, in place of the answer. Gives the number
+/// of a code: 0 or 2. Takes the time of `editor_writer_at` for each.
+#[unsafe(no_mangle)]
+pub extern "C" fn editor_writers(alloc: Global, slot: &mut DeskSlot) -> u32
+    ghost desk: { Desk }
+    requires { slot.old.value ≡ Some desk }
+    ensures { GivesCode result (λ code. IsSomeAnd slot.new.value (λ after. Asked code (writers_answer desk.peer) desk after)) }
+{
+    on_desk(alloc, slot, |desk: &mut Desk| desk.writers(alloc))
+}
+
+/// Puts the site of who wrote what shows at a place, from 0, in place of the answer, and no bytes where nothing shows there.
+/// Gives the number of a code: 0 or 2. Takes the time of `editor_name_at`, and of a pass over the updates of the element there.
+#[unsafe(no_mangle)]
+pub extern "C" fn editor_writer_at(alloc: Global, slot: &mut DeskSlot, place: u32) -> u32
+    ghost desk: { Desk }
+    requires { slot.old.value ≡ Some desk }
+    ensures { GivesCode result (λ code. IsSomeAnd slot.new.value (λ after. Asked code (writer_answer desk.peer place) desk after)) }
+{
+    on_desk(alloc, slot, |desk: &mut Desk| desk.writer_at(alloc, place))
+}
+
 /// Puts the name of the element that shows at a place, from 0, in place of the answer, and no bytes where none shows there.
 /// Gives the number of a code: 0 or 2. Takes a step for each group of blocks of elements, and a pass over a block.
 #[unsafe(no_mangle)]
@@ -213,6 +256,19 @@ pub extern "C" fn editor_frame(alloc: Global, slot: &mut DeskSlot, out: &mut [u8
     ensures copied { out.new ≡ with_front desk.told.frame out.old }
 {
     copy_told(alloc, slot, ToldPart::Frame, out)
+}
+
+/// Copies the lines of the rows of what the last step changed in the text to the front of a buffer, if they fit, and gives
+/// their length. Takes time in it.
+#[unsafe(no_mangle)]
+pub extern "C" fn editor_rows(alloc: Global, slot: &mut DeskSlot, out: &mut [u8]) -> usize
+    ghost desk: { Desk }
+    requires { slot.old.value ≡ Some desk }
+    ensures unchanged { slot.new.value ≡ Some desk }
+    ensures len { result ≡ length desk.told.rows }
+    ensures copied { out.new ≡ with_front desk.told.rows out.old }
+{
+    copy_told(alloc, slot, ToldPart::Rows, out)
 }
 
 /// Closes the desk of a slot, and gives back its memory.

@@ -4,21 +4,25 @@ ghost use Rattle.edit_message.specs.declared.message.Message.{Message};
 ghost use Rattle.line_read.specs.Step.{step_line};
 ghost use Rattle.editor_lib.specs.declared.code.Code.TheVariants as ends;
 ghost use Rattle.editor_lib.specs.declared.journal.JournalFail.TheVariants.{Bad as bad};
-ghost use Rattle.editor_lib.specs.Answers.{text_answer, state_answer, sizes_answer, name_answer, count_answer};
+ghost use Rattle.editor_lib.specs.Answers.{text_answer, state_answer, sizes_answer, shown_answer, piece_answer, writers_answer, writer_answer, name_answer, count_answer};
 ghost use Rattle.editor_lib.specs.Desk.{fresh_desk, step_received, IsRestored, StepMade, Asked};
 ghost use Rattle.editor_lib.specs.Journal.{SpellsJournal};
 
 use crate::code::Code;
 use crate::journal::{JournalFail, messages_of};
-use crate::told::{LastTold, count_word, element_word, kept_state_line, piece_sizes, text_bytes};
+use crate::shown::{piece_bytes, writer_at, writers};
+use crate::told::{
+    LastTold, count_word, element_word, kept_state_line, piece_sizes, site_word, text_bytes,
+};
 use edit_frame::{DecodeFail, Frame, decode};
 use element_name::NoMemory;
 use line_read::{read_name, step_line};
 use line_spelling::LineFail;
-use peer_core::Peer;
+use peer_core::{OneThread, Peer};
 use peer_step::{Answer, Step};
 use std::alloc::Global;
 use std::marker::Model;
+use text_change::step_told;
 
 /// A peer, and what was told of its last step or question.
 #[derive(Drop)]
@@ -64,12 +68,11 @@ impl Desk {
     fn make(&mut self, alloc: Global, step: Step) -> Code
         ensures { StepMade result (Some step) self.old self.new }
     {
-        let answer = match self.peer.step(step) {
-            Ok(answer) => answer,
-            Err(NoMemory) => return Code::NoMemory,
+        let Ok(made) = step_told(alloc, &mut self.peer, step, &OneThread) else {
+            return Code::NoMemory;
         };
-        let told = LastTold::of(alloc, &answer);
-        drop(answer);
+        let told = LastTold::of(alloc, &made.answer, &made.rows);
+        drop(made);
         match told {
             Ok(told) => {
                 self.told = told;
@@ -139,6 +142,42 @@ impl Desk {
             return Code::NoMemory;
         };
         self.put_answer(piece_sizes(alloc, &text))
+    }
+
+    /// Tells how many elements show. Takes constant time.
+    #[tactic(auto, unfolding(crate::specs::Answers::shown_answer))]
+    pub fn shown(&mut self, alloc: Global) -> Code
+        ensures { Asked result (shown_answer self.old.peer) self.old self.new }
+    {
+        let count = count_word(alloc, Some(self.peer.shown_len()));
+        self.put_answer(count)
+    }
+
+    /// Tells the piece that shows at a place. Takes the time of `Peer::shown_at`.
+    #[tactic(auto, unfolding(crate::specs::Answers::piece_answer))]
+    pub fn piece_at(&mut self, alloc: Global, place: u32) -> Code
+        ensures { Asked result (piece_answer self.old.peer place) self.old self.new }
+    {
+        let piece = piece_bytes(alloc, &self.peer, place);
+        self.put_answer(piece)
+    }
+
+    /// Tells who wrote what shows, two bytes for each element. Takes the time of `writer_at` for each.
+    #[tactic(auto, unfolding(crate::specs::Answers::writers_answer))]
+    pub fn writers(&mut self, alloc: Global) -> Code
+        ensures { Asked result (writers_answer self.old.peer) self.old self.new }
+    {
+        let sites = writers(alloc, &self.peer);
+        self.put_answer(sites)
+    }
+
+    /// Tells who wrote what shows at a place. Takes the time of `Peer::shown_at`, and of a pass over the updates there.
+    #[tactic(auto, unfolding(crate::specs::Answers::writer_answer))]
+    pub fn writer_at(&mut self, alloc: Global, place: u32) -> Code
+        ensures { Asked result (writer_answer self.old.peer place) self.old self.new }
+    {
+        let site = site_word(alloc, writer_at(&self.peer, place));
+        self.put_answer(site)
     }
 
     /// Tells the name of the element that shows at a place. Takes the time of `Peer::shown_at`.

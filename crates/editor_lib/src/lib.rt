@@ -11,5 +11,6 @@ mod calls;
 mod code;
 mod desk;
 mod journal;
+mod shown;
 mod slot;
 mod told;

@@ -1,23 +1,25 @@
-//! What is told of a step: the line of its answer, and the frame of the message that the answer gives.
-ghost use Rattle.std.specs.Prelude.{◌≡◌, length, map, IfOk};
-ghost use Rattle.std.specs.List.{concat};
+//! What is told of a step: the line of its answer, the frame of the message that this gives, and the lines of the rows of what
+//! it changed in the text.
+ghost use Rattle.std.specs.Prelude.{◌≡◌, ◌++◌, length, map, IfOk, OnOk};
+ghost use Rattle.std.specs.List.{concat, flat_map};
 ghost use Rattle.editor_lib.specs.Told as spec;
-ghost use Rattle.editor_lib.specs.Told.{message_given, frame_bytes, kept_state_line, element_word, count_word, told, part_told};
+ghost use Rattle.editor_lib.specs.Told.{message_given, frame_bytes, kept_state_line, element_word, count_word, row_line, told, part_told};
 
 use edit_frame::{Frame, encode};
 use edit_message::Message;
 use element_name::{Name, NoMemory};
-use line_write::{answer_line, put, put_state};
-use peer_step::{Answer, Text};
+use line_write::{answer_line, put, put_state, step_text};
+use peer_step::{Answer, LocalEdit, Step, Text};
 use request_state::State;
 use std::alloc::Global;
 use std::marker::Model;
 
-/// An answer's line and a message's frame, each as bytes, of which either may be empty.
+/// An answer's line, a message's frame, and the lines of rows, each as bytes, of which any may be empty.
 #[derive(Drop)]
 pub struct LastTold {
     answer: Vec<u8>,
     frame: Vec<u8>,
+    rows: Vec<u8>,
 }
 
 /// What can be asked for of it.
@@ -27,6 +29,8 @@ pub enum ToldPart {
     Answer,
     /// The frame of the message that the answer gave.
     Frame,
+    /// The lines of the rows of what the step changed.
+    Rows,
 }
 
 impl Model for LastTold {
@@ -34,7 +38,7 @@ impl Model for LastTold {
 
     ghost Value = { values.LastTold };
 
-    ghost view = { λ t. record { answer = t.answer.items; frame = t.frame.items } };
+    ghost view = { λ t. record { answer = t.answer.items; frame = t.frame.items; rows = t.rows.items } };
 }
 
 // The message that an answer gives.
@@ -85,6 +89,25 @@ fn frame_bytes(alloc: Global, message: Option<Message>) -> Result<Vec<u8>, NoMem
     Ok(frame)
 }
 
+// Appends the line of a row.
+fn put_row(alloc: Global, lines: &mut Vec<u8>, row: LocalEdit) -> Result<(), NoMemory>
+    ensures { OnOk result (lines.new.items ≡ lines.old.items ++ row_line row) }
+{
+    step_text(alloc, &Step::Edit(row), lines)?;
+    put(lines, b"\n")
+}
+
+// The lines of rows, one behind another.
+fn row_lines(alloc: Global, rows: &[LocalEdit]) -> Result<Vec<u8>, NoMemory>
+    ensures { IfOk result (λ lines. lines.items ≡ flat_map row_line rows.now) }
+{
+    let mut lines = Vec::new(alloc);
+    for row in rows {
+        put_row(alloc, &mut lines, *row)?;
+    }
+    Ok(lines)
+}
+
 /// The line of the state of a request, and no bytes where there is none.
 pub fn kept_state_line(alloc: Global, state: Option<State>) -> Result<Vec<u8>, NoMemory>
     ensures { IfOk result (λ line. line.items ≡ kept_state_line state) }
@@ -120,6 +143,16 @@ pub fn count_word(alloc: Global, count: Option<u32>) -> Result<Vec<u8>, NoMemory
     Ok(format!(in alloc; "{count}")?.into_bytes())
 }
 
+/// The digits of a site, and no bytes where there is none.
+pub fn site_word(alloc: Global, site: Option<u16>) -> Result<Vec<u8>, NoMemory>
+    ensures { IfOk result (λ digits. digits.items ≡ count_word site) }
+{
+    let Some(site) = site else {
+        return Ok(Vec::new(alloc));
+    };
+    Ok(format!(in alloc; "{site}")?.into_bytes())
+}
+
 /// The bytes of a text. Takes time and memory in their number.
 pub fn text_bytes(alloc: Global, text: &Text) -> Result<Vec<u8>, NoMemory>
     ensures { IfOk result (λ bytes. bytes.items ≡ concat text.now) }
@@ -149,18 +182,20 @@ impl LastTold {
         LastTold {
             answer: Vec::new(alloc),
             frame: Vec::new(alloc),
+            rows: Vec::new(alloc),
         }
     }
 
-    /// What is told of an answer. Takes time in the length of its line.
-    pub fn of(alloc: Global, answer: &Answer) -> Result<LastTold, NoMemory>
-        ensures { IfOk result (λ it. it ≡ told answer.now) }
+    /// What is told of an answer and of rows. Takes time in the length of their lines.
+    pub fn of(alloc: Global, answer: &Answer, rows: &[LocalEdit]) -> Result<LastTold, NoMemory>
+        ensures { IfOk result (λ it. it ≡ told answer.now rows.now) }
     {
         let mut line = Vec::new(alloc);
         answer_line(alloc, None, answer, &mut line)?;
         Ok(LastTold {
             answer: line,
             frame: frame_bytes(alloc, message_given(answer)?)?,
+            rows: row_lines(alloc, rows)?,
         })
     }
 
@@ -178,6 +213,7 @@ impl LastTold {
         match part {
             ToldPart::Answer => &self.answer,
             ToldPart::Frame => &self.frame,
+            ToldPart::Rows => &self.rows,
         }
     }
 }
