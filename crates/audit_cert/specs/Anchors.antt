@@ -23,8 +23,8 @@ pub record IsAnchored (entries : List (Name × Name)) : Type 0 where
   pub anchored : list_all (is_anchored (keys_of entries)) entries ≡ true
 
 -- the name that an index has at a name
-abbrev pub name_at : List (Name × Name) → Name → Option Name
-name_at index n = lookup (is_at (name_cmp n)) index
+abbrev pub name_under : List (Name × Name) → Name → Option Name
+name_under index n = lookup (is_at (name_cmp n)) index
 
 -- n leads to the first of these names, each of them to the next one, and the last to none
 abbrev pub LeadsThrough : (Name → Option Name) → Name → List Name → Type 0

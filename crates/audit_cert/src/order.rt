@@ -2,7 +2,7 @@
 ghost use Rattle.std.specs.Prelude.{◌≡◌, None, IfOk, OnOk};
 ghost use Rattle.element_name.specs.Name.{Name, start};
 ghost use Rattle.element_name.specs.Tree.{order};
-ghost use Rattle.audit_cert.specs.Anchors.{IsAnchored, LeadsThrough, name_at, placed_from, put_behind};
+ghost use Rattle.audit_cert.specs.Anchors.{IsAnchored, LeadsThrough, name_under, placed_from, put_behind};
 
 use element_name::{Name, NoMemory};
 use name_index::{ChunkMap, PackedName};
@@ -13,8 +13,8 @@ pub(crate) type NameIndex = ChunkMap<PackedName, PackedName>;
 
 // Puts a new name directly behind its anchor: the anchor leads to it, and it leads to where the anchor led.
 fn put_behind(next: &mut NameIndex, anchor: PackedName, n: PackedName) -> Result<(), NoMemory>
-    requires { name_at next.old n ≡ None }
-    ensures { OnOk result ((m : Name) → name_at next.new m ≡ put_behind (name_at next.old) anchor n m) }
+    requires { name_under next.old n ≡ None }
+    ensures { OnOk result ((m : Name) → name_under next.new m ≡ put_behind (name_under next.old) anchor n m) }
 {
     if let Some(follower) = next.insert(anchor, n)? {
         next.insert(n, follower)?;
@@ -27,7 +27,7 @@ fn put_behind(next: &mut NameIndex, anchor: PackedName, n: PackedName) -> Result
 // In ascending order of name each is the greatest so far, and so comes directly behind its anchor.
 fn successors(alloc: Global, anchors: &NameIndex) -> Result<NameIndex, NoMemory>
     requires { IsAnchored anchors.now }
-    ensures { IfOk result (λ next. LeadsThrough (name_at next) start (order (placed_from anchors.now))) }
+    ensures { IfOk result (λ next. LeadsThrough (name_under next) start (order (placed_from anchors.now))) }
 {
     let mut next = ChunkMap::new(alloc);
     let mut coming = anchors.first();
@@ -41,7 +41,7 @@ fn successors(alloc: Global, anchors: &NameIndex) -> Result<NameIndex, NoMemory>
 
 // The elements one after another, as each leads to the next.
 fn follow(alloc: Global, anchors: &NameIndex, next: &NameIndex) -> Result<Vec<Name>, NoMemory>
-    requires { LeadsThrough (name_at next.now) start (order (placed_from anchors.now)) }
+    requires { LeadsThrough (name_under next.now) start (order (placed_from anchors.now)) }
     ensures { IfOk result (λ names. names.items ≡ order (placed_from anchors.now)) }
 {
     let mut names = Vec::with_capacity(alloc, anchors.len())?;

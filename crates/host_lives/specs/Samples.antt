@@ -15,14 +15,14 @@ at_document [] ls = ls
 at_document (e ∷ es) ls = AtDocument e ∷ at_document es ls
 
 -- a device with this site and this secret was made
-abbrev pub joined_by : List ℕ → ℕ → LifeEvent
-joined_by secret u = PeopleChanged (Joined u 0 (sha256 secret))
+abbrev pub device_joined : List ℕ → ℕ → LifeEvent
+device_joined secret u = PeopleChanged (Joined u 0 (sha256 secret))
 
 -- ---- authentic
 
 -- a device is made, and a request comes on its link
 abbrev pub before_save : List ℕ → List ℕ → List LifeEvent
-before_save document secret = at_document (offered document secret) (joined_by secret 1 ∷ [])
+before_save document secret = at_document (offered document secret) (device_joined secret 1 ∷ [])
 
 -- and is saved
 abbrev pub first_life : List ℕ → List ℕ → List LifeEvent
@@ -52,7 +52,7 @@ second_life document secret = at_document (
     ∷ DeviceMade 1 (sample_device Writer secret)
     ∷ PersonMade 0
     ∷ Began (peer_of_journal 0 (sample_message ∷ [])) document
-    ∷ []) (joined_by secret 2 ∷ LifeEnded (sample_message ∷ []) ∷ [])
+    ∷ []) (device_joined secret 2 ∷ LifeEnded (sample_message ∷ []) ∷ [])
 
 -- that it is closed is told in between
 abbrev pub ClosedForGoodSample : Type 0
