@@ -26,7 +26,6 @@ use text_change::Told;
 /// A follower, the text that it shows, and what the program beside it was told of that.
 ///
 /// What it says is kept until all that it comes from is saved.
-#[derive(Drop)]
 pub struct Talk<K: Keeper> {
     pub(crate) alloc: Global,
     pub(crate) follower: Follower<K>,
@@ -39,6 +38,21 @@ pub struct Talk<K: Keeper> {
     // wanting there.
     is_behind: bool,
     ghost shows: { is_behind ≡ false → ∥ ShowsText mirror.shown follower.outbox ∥₁ },
+}
+
+impl<K: Keeper> Drop for Talk<K> {
+    fn drop(self) {
+        let Talk {
+            alloc: _,
+            follower,
+            mirror,
+            known: _,
+            has_changed: _,
+            is_behind: _,
+        } = self;
+        drop(follower);
+        drop(mirror);
+    }
 }
 
 // The text of an answer.

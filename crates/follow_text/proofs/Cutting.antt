@@ -53,6 +53,11 @@ sum_more : (sizes : List ℕ) (at out : ℕ) → sum (take (at + out) sizes) ≡
 sum_more sizes at out =
     ap sum (take-add at out sizes) ∙ sum_by-append (λ (x : ℕ). x) (take at sizes) (take out (drop at sizes))
 
+-- sizes and bytes with others put in, as pieces
+pub record PutsIn (sizes bytes put_sizes put new_sizes new_bytes : List ℕ) (at out : ℕ) : Type 0 where
+  pub pieces : cut new_sizes new_bytes ≡ with_pieces (cut sizes bytes) at out (cut put_sizes put)
+  pub whole : sum new_sizes ≡ length new_bytes
+
 module _ (sizes bytes put_sizes put new_sizes new_bytes : List ℕ) (at out start gone : ℕ) (whole : sum sizes ≡ length bytes) (put_whole : sum put_sizes ≡ length put)
     (start_is : start ≡ sum (take at sizes)) (gone_is : gone ≡ sum (take (at + out) sizes) - start)
     (sizes_are : new_sizes ≡ replaced sizes at out put_sizes) (bytes_are : new_bytes ≡ replaced bytes start gone put) where
@@ -66,7 +71,7 @@ module _ (sizes bytes put_sizes put new_sizes new_bytes : List ℕ) (at out star
   front_cut = ap (λ (k : ℕ). cut (take at sizes) (take k bytes)) start_is ∙ cut_take sizes bytes at whole
 
   -- the pieces are those with the new ones in them
-  pub cut_with : cut new_sizes new_bytes ≡ with_pieces (cut sizes bytes) at out (cut put_sizes put)
+  cut_with : cut new_sizes new_bytes ≡ with_pieces (cut sizes bytes) at out (cut put_sizes put)
   cut_with =
       ap (λ (s : List ℕ). cut s new_bytes) sizes_are
       ∙ ap (λ (b : List ℕ). cut (replaced sizes at out put_sizes) b) bytes_are
@@ -78,7 +83,7 @@ module _ (sizes bytes put_sizes put new_sizes new_bytes : List ℕ) (at out star
       ∙ ap (λ (pieces : List (List ℕ)). cut put_sizes put ++ pieces) (cut_drop sizes bytes (at + out)))
 
   -- and the sizes are those of the bytes
-  pub whole_with : sum new_sizes ≡ length new_bytes
+  whole_with : sum new_sizes ≡ length new_bytes
   whole_with =
       let a = sum_by-append (λ (x : ℕ). x) (take at sizes) (put_sizes ++ drop (at + out) sizes) in
       let b = sum_by-append (λ (x : ℕ). x) put_sizes (drop (at + out) sizes) in
@@ -91,6 +96,9 @@ module _ (sizes bytes put_sizes put new_sizes new_bytes : List ℕ) (at out star
       let s : sum new_sizes ≡ sum (replaced sizes at out put_sizes) = ap (λ (xs : List ℕ). sum xs) sizes_are in
       let t : length new_bytes ≡ length (replaced bytes start gone put) = ap (λ (xs : List ℕ). length xs) bytes_are in
       omega (arith, a, b, c, d, e, f, g, h, s, t, whole, put_whole, start_is)
+
+  pub puts_in : PutsIn sizes bytes put_sizes put new_sizes new_bytes at out
+  puts_in = record { pieces = cut_with; whole = whole_with }
 
 -- ---- one piece
 

@@ -24,21 +24,35 @@ pub where_err : {A E P : Type 0} (result : Result A E) → P → OnErr result P
 where_err (Ok x) p = tt
 where_err (Err e) p = p
 
+-- two counts of letters together, where a number of the machine holds them
+exact_letters : (n : ℕ) (bytes front back : List ℕ) (a b both : ℕ) → take n bytes ≡ front ++ back → a ≡ letter_count front → b ≡ letter_count back → both ≡ min (a + b) (2 ^ 64 - 1)
+    → n < 2 ^ 64 → both ≡ letter_count (take n bytes)
+exact_letters n bytes front back a b both split one other sum_is room =
+    let few = few_letters n bytes in
+    let parts = letters_append front back in
+    let count : letter_count (take n bytes) ≡ letter_count (front ++ back) = ap (λ (xs : List ℕ). letter_count xs) split in
+    omega (arith, few, parts, count, one, other, sum_is, room)
+
+-- a row of these parts makes one text of the other
+row_makes : (old new : List ℕ) (row : TextRow) (at out : ℕ) (put : List ℕ) → row.at ≡ at → row.out ≡ out → row.put.items ≡ put → at + out ≤ length old
+    → row.letters_before ≡ letter_count (take at old) → row.letters_out ≡ letter_count (take out (drop at old)) → replaced old at out put ≡ new → Makes old new row
+row_makes old new row at out put at_is out_is put_is within before letters made = record {
+  row_of = record {
+    within = omega (arith, within, at_is, out_is);
+    before = before ∙ ap (λ (n : ℕ). letter_count (take n old)) (sym at_is);
+    letters = letters ∙ ap (λ (n : ℕ). letter_count (take out (drop n old))) (sym at_is) ∙ ap (λ (n : ℕ). letter_count (take n (drop row.at old))) (sym out_is);
+  };
+  made = ap (λ (a : ℕ). replaced old a row.out row.put.items) at_is
+      ∙ ap (λ (o : ℕ). replaced old at o row.put.items) out_is
+      ∙ ap (λ (p : List ℕ). replaced old at out p) put_is
+      ∙ made;
+}
+
 -- a row whose text lies elsewhere
 pub same_row : (old new : List ℕ) (row after : TextRow) → after.at ≡ row.at → after.out ≡ row.out → after.put.items ≡ row.put.items → after.letters_before ≡ row.letters_before
     → after.letters_out ≡ row.letters_out → Makes old new row → Makes old new after
-same_row old new row after at_is out_is put_is before_is letters_is h = record {
-  row_of = record {
-    within = let w = h.row_of.within in omega (arith, w, at_is, out_is);
-    before = before_is ∙ h.row_of.before ∙ ap (λ (n : ℕ). letter_count (take n old)) (sym at_is);
-    letters = letters_is ∙ h.row_of.letters ∙ ap (λ (n : ℕ). letter_count (take row.out (drop n old))) (sym at_is)
-        ∙ ap (λ (n : ℕ). letter_count (take n (drop after.at old))) (sym out_is);
-  };
-  made = ap (λ (a : ℕ). take a old ++ (after.put.items ++ drop (a + after.out) old)) at_is
-      ∙ ap (λ (o : ℕ). take row.at old ++ (after.put.items ++ drop (row.at + o) old)) out_is
-      ∙ ap (λ (p : List ℕ). take row.at old ++ (p ++ drop (row.at + row.out) old)) put_is
-      ∙ h.made;
-}
+same_row old new row after at_is out_is put_is before_is letters_is h =
+    row_makes old new after row.at row.out row.put.items at_is out_is put_is h.row_of.within (before_is ∙ h.row_of.before) (letters_is ∙ h.row_of.letters) h.made
 
 module _ (old mid new : List ℕ) (first next : TextRow) (h : Makes old mid first) (g : Makes mid new next) where
   front_size : length (take first.at old) ≡ first.at
@@ -86,24 +100,11 @@ module _ (old mid new : List ℕ) (first next : TextRow) (h : Makes old mid firs
         let s = mid_size in
         omega (arith, w, v, s, at)
 
-    behind_letters : first.letters_out + next.letters_out ≡ letter_count (take (first.out + next.out) (drop first.at old))
-    behind_letters =
-        let split : take (first.out + next.out) (drop first.at old) ≡ take first.out (drop first.at old) ++ take next.out (drop next.at mid) =
+    -- what both take out
+    behind_out : take (first.out + next.out) (drop first.at old) ≡ take first.out (drop first.at old) ++ take next.out (drop next.at mid)
+    behind_out =
         take-add first.out next.out (drop first.at old)
-        ∙ ap (λ (xs : List ℕ). take first.out (drop first.at old) ++ take next.out xs) (drop-drop first.out first.at old ∙ sym behind_put) in
-        let both = letters_append (take first.out (drop first.at old)) (take next.out (drop next.at mid)) in
-        let one = h.row_of.letters in
-        let other = g.row_of.letters in
-        let count : letter_count (take (first.out + next.out) (drop first.at old)) ≡ letter_count (take first.out (drop first.at old) ++ take next.out (drop next.at mid)) =
-        ap (λ (xs : List ℕ). letter_count xs) split in
-        omega (arith, both, one, other, count)
-
-    -- together they take out no more letters than bytes
-    few_out : first.letters_out + next.letters_out ≤ first.out + next.out
-    few_out =
-        let a = few_letters (first.out + next.out) (drop first.at old) in
-        let b = behind_letters in
-        omega (arith, a, b)
+        ∙ ap (λ (xs : List ℕ). take first.out (drop first.at old) ++ take next.out xs) (drop-drop first.out first.at old ∙ sym behind_put)
 
     pub behind_join : (joined : TextRow) → joined.at ≡ first.at → joined.out ≡ first.out + next.out → joined.put.items ≡ first.put.items ++ next.put.items
         → joined.letters_before ≡ first.letters_before → joined.letters_out ≡ min (first.letters_out + next.letters_out) (2 ^ 64 - 1) → first.out + next.out < 2 ^ 64 → Makes old new joined
@@ -112,29 +113,19 @@ module _ (old mid new : List ℕ) (first next : TextRow) (h : Makes old mid firs
         let P = first.put.items in
         let Q = next.put.items in
         let B = drop (first.at + first.out) old in
-        let few = few_out in
-        let letters = behind_letters in
-        let exact : joined.letters_out ≡ first.letters_out + next.letters_out = omega (arith, letters_is, few, room) in
+        let letters =
+        exact_letters (first.out + next.out) (drop first.at old) (take first.out (drop first.at old)) (take next.out (drop next.at mid)) first.letters_out next.letters_out joined.letters_out
+        behind_out h.row_of.letters g.row_of.letters letters_is room in
         let rest : drop (next.at + next.out) mid ≡ drop (first.at + (first.out + next.out)) old =
         sym (drop-drop next.out next.at mid) ∙ ap (λ (xs : List ℕ). drop next.out xs) behind_put ∙ drop-drop next.out (first.at + first.out) old
         ∙ ap (λ (n : ℕ). drop n old) (omega arith) in
         let head : take next.at mid ≡ F ++ P = mid_take (length P) at ∙ ap (λ (xs : List ℕ). F ++ xs) (take_at P B (length P) refl) in
-        record {
-          row_of = record {
-            within = let w = behind_within in omega (arith, w, at_is, out_is);
-            before = before_is ∙ h.row_of.before ∙ ap (λ (n : ℕ). letter_count (take n old)) (sym at_is);
-            letters = exact ∙ letters ∙ ap (λ (n : ℕ). letter_count (take (first.out + next.out) (drop n old))) (sym at_is)
-                ∙ ap (λ (n : ℕ). letter_count (take n (drop joined.at old))) (sym out_is);
-          };
-          made = ap (λ (a : ℕ). take a old ++ (joined.put.items ++ drop (a + joined.out) old)) at_is
-              ∙ ap (λ (o : ℕ). F ++ (joined.put.items ++ drop (first.at + o) old)) out_is
-              ∙ ap (λ (p : List ℕ). F ++ (p ++ drop (first.at + (first.out + next.out)) old)) put_is
-              ∙ ap (λ (b : List ℕ). F ++ ((P ++ Q) ++ b)) (sym rest)
-              ∙ ap (λ (xs : List ℕ). F ++ xs) (append_assoc P Q (drop (next.at + next.out) mid))
-              ∙ sym (append_assoc F P (Q ++ drop (next.at + next.out) mid))
-              ∙ ap (λ (xs : List ℕ). xs ++ (Q ++ drop (next.at + next.out) mid)) (sym head)
-              ∙ g.made;
-        }
+        row_makes old new joined first.at (first.out + next.out) (P ++ Q) at_is out_is put_is behind_within (before_is ∙ h.row_of.before) letters
+        (ap (λ (b : List ℕ). F ++ ((P ++ Q) ++ b)) (sym rest)
+        ∙ ap (λ (xs : List ℕ). F ++ xs) (append_assoc P Q (drop (next.at + next.out) mid))
+        ∙ sym (append_assoc F P (Q ++ drop (next.at + next.out) mid))
+        ∙ ap (λ (xs : List ℕ). xs ++ (Q ++ drop (next.at + next.out) mid)) (sym head)
+        ∙ g.made)
 
   -- ---- the next one ends where the first one begins
 
@@ -154,55 +145,35 @@ module _ (old mid new : List ℕ) (first next : TextRow) (h : Makes old mid firs
         ∙ ap (λ (n : ℕ). drop next.at (take n mid)) end ∙ ap (λ (xs : List ℕ). drop next.at xs) same_front ∙ ap (λ (n : ℕ). drop next.at (take n old)) (sym end)
         ∙ drop-take next.at next.out old
 
-    front_letters : first.letters_out + next.letters_out ≡ letter_count (take (first.out + next.out) (drop next.at old))
-    front_letters =
+    -- what both take out
+    front_out : take (first.out + next.out) (drop next.at old) ≡ take next.out (drop next.at old) ++ take first.out (drop first.at old)
+    front_out =
         let order : first.out + next.out ≡ next.out + first.out = omega arith in
-        let split : take (first.out + next.out) (drop next.at old) ≡ take next.out (drop next.at old) ++ take first.out (drop first.at old) =
         ap (λ (n : ℕ). take n (drop next.at old)) order
         ∙ take-add next.out first.out (drop next.at old)
-        ∙ ap (λ (xs : List ℕ). take next.out (drop next.at old) ++ take first.out xs) (drop-drop next.out next.at old ∙ ap (λ (n : ℕ). drop n old) end) in
-        let both = letters_append (take next.out (drop next.at old)) (take first.out (drop first.at old)) in
-        let one = h.row_of.letters in
-        let other : next.letters_out ≡ letter_count (take next.out (drop next.at old)) = g.row_of.letters ∙ ap (λ (xs : List ℕ). letter_count xs) same_out in
-        let count : letter_count (take (first.out + next.out) (drop next.at old)) ≡ letter_count (take next.out (drop next.at old) ++ take first.out (drop first.at old)) =
-        ap (λ (xs : List ℕ). letter_count xs) split in
-        omega (arith, both, one, other, count)
-
-    few_front : first.letters_out + next.letters_out ≤ first.out + next.out
-    few_front =
-        let a = few_letters (first.out + next.out) (drop next.at old) in
-        let b = front_letters in
-        omega (arith, a, b)
+        ∙ ap (λ (xs : List ℕ). take next.out (drop next.at old) ++ take first.out xs) (drop-drop next.out next.at old ∙ ap (λ (n : ℕ). drop n old) end)
 
     pub front_join : (joined : TextRow) → joined.at ≡ next.at → joined.out ≡ first.out + next.out → joined.put.items ≡ next.put.items ++ first.put.items
         → joined.letters_before ≡ next.letters_before → joined.letters_out ≡ min (first.letters_out + next.letters_out) (2 ^ 64 - 1) → first.out + next.out < 2 ^ 64 → Makes old new joined
     front_join joined at_is out_is put_is before_is letters_is room =
         let P = first.put.items in
         let Q = next.put.items in
-        let few = few_front in
-        let letters = front_letters in
         let w = h.row_of.within in
-        let exact : joined.letters_out ≡ first.letters_out + next.letters_out = omega (arith, letters_is, few, room) in
+        let other : next.letters_out ≡ letter_count (take next.out (drop next.at old)) = g.row_of.letters ∙ ap (λ (xs : List ℕ). letter_count xs) same_out in
+        let letters =
+        exact_letters (first.out + next.out) (drop next.at old) (take next.out (drop next.at old)) (take first.out (drop first.at old)) next.letters_out first.letters_out joined.letters_out
+        front_out other h.row_of.letters (omega (arith, letters_is)) room in
         let place : next.at + (first.out + next.out) ≡ first.at + first.out = omega (arith, end) in
         let rest : drop (next.at + next.out) mid ≡ P ++ drop (first.at + first.out) old =
         ap (λ (n : ℕ). drop n mid) end ∙ ap (λ (xs : List ℕ). drop first.at xs) (sym h.made)
         ∙ drop_at (take first.at old) (P ++ drop (first.at + first.out) old) first.at front_size in
-        record {
-          row_of = record {
-            within = omega (arith, w, at_is, out_is, place);
-            before = before_is ∙ g.row_of.before ∙ ap (λ (xs : List ℕ). letter_count xs) same_take ∙ ap (λ (n : ℕ). letter_count (take n old)) (sym at_is);
-            letters = exact ∙ letters ∙ ap (λ (n : ℕ). letter_count (take (first.out + next.out) (drop n old))) (sym at_is)
-                ∙ ap (λ (n : ℕ). letter_count (take n (drop joined.at old))) (sym out_is);
-          };
-          made = ap (λ (a : ℕ). take a old ++ (joined.put.items ++ drop (a + joined.out) old)) at_is
-              ∙ ap (λ (o : ℕ). take next.at old ++ (joined.put.items ++ drop (next.at + o) old)) out_is
-              ∙ ap (λ (p : List ℕ). take next.at old ++ (p ++ drop (next.at + (first.out + next.out)) old)) put_is
-              ∙ ap (λ (n : ℕ). take next.at old ++ ((Q ++ P) ++ drop n old)) place
-              ∙ ap (λ (xs : List ℕ). take next.at old ++ xs) (append_assoc Q P (drop (first.at + first.out) old))
-              ∙ ap (λ (xs : List ℕ). take next.at old ++ (Q ++ xs)) (sym rest)
-              ∙ ap (λ (xs : List ℕ). xs ++ (Q ++ drop (next.at + next.out) mid)) (sym same_take)
-              ∙ g.made;
-        }
+        row_makes old new joined next.at (first.out + next.out) (Q ++ P) at_is out_is put_is (omega (arith, w, place))
+        (before_is ∙ g.row_of.before ∙ ap (λ (xs : List ℕ). letter_count xs) same_take) letters
+        (ap (λ (n : ℕ). take next.at old ++ ((Q ++ P) ++ drop n old)) place
+        ∙ ap (λ (xs : List ℕ). take next.at old ++ xs) (append_assoc Q P (drop (first.at + first.out) old))
+        ∙ ap (λ (xs : List ℕ). take next.at old ++ (Q ++ xs)) (sym rest)
+        ∙ ap (λ (xs : List ℕ). xs ++ (Q ++ drop (next.at + next.out) mid)) (sym same_take)
+        ∙ g.made)
 
   -- ---- the next one stands within what the first one put in
 
@@ -219,21 +190,11 @@ module _ (old mid new : List ℕ) (first next : TextRow) (h : Makes old mid firs
       let end : next.at + next.out ≡ first.at + (k + next.out) = omega arith in
       let head : take next.at mid ≡ F ++ take k P = mid_take k at ∙ ap (λ (xs : List ℕ). F ++ xs) (take-append-le k P B (omega arith)) in
       let rest : drop (next.at + next.out) mid ≡ drop (k + next.out) P ++ B = mid_drop (next.at + next.out) (k + next.out) end ∙ drop-append-le (k + next.out) P B (omega arith) in
-      record {
-        row_of = record {
-          within = let w = h.row_of.within in omega (arith, w, at_is, out_is);
-          before = before_is ∙ h.row_of.before ∙ ap (λ (n : ℕ). letter_count (take n old)) (sym at_is);
-          letters = letters_is ∙ h.row_of.letters ∙ ap (λ (n : ℕ). letter_count (take first.out (drop n old))) (sym at_is)
-              ∙ ap (λ (n : ℕ). letter_count (take n (drop joined.at old))) (sym out_is);
-        };
-        made = ap (λ (a : ℕ). take a old ++ (joined.put.items ++ drop (a + joined.out) old)) at_is
-            ∙ ap (λ (o : ℕ). F ++ (joined.put.items ++ drop (first.at + o) old)) out_is
-            ∙ ap (λ (p : List ℕ). F ++ (p ++ B)) put_is
-            ∙ inner_text F P Q B k (k + next.out)
-            ∙ ap (λ (xs : List ℕ). (F ++ take k P) ++ (Q ++ xs)) (sym rest)
-            ∙ ap (λ (xs : List ℕ). xs ++ (Q ++ drop (next.at + next.out) mid)) (sym head)
-            ∙ g.made;
-      }
+      row_makes old new joined first.at first.out (replaced P k next.out Q) at_is out_is put_is h.row_of.within (before_is ∙ h.row_of.before) (letters_is ∙ h.row_of.letters)
+      (inner_text F P Q B k (k + next.out)
+      ∙ ap (λ (xs : List ℕ). (F ++ take k P) ++ (Q ++ xs)) (sym rest)
+      ∙ ap (λ (xs : List ℕ). xs ++ (Q ++ drop (next.at + next.out) mid)) (sym head)
+      ∙ g.made)
     where
       inner_text : (F P Q B : List ℕ) (k e : ℕ) → F ++ ((take k P ++ (Q ++ drop e P)) ++ B) ≡ (F ++ take k P) ++ (Q ++ (drop e P ++ B))
       inner_text F P Q B k e = simp append_assoc

@@ -4,7 +4,7 @@ ghost use Rattle.std.specs.List.{concat};
 ghost use Rattle.peer_step.specs.Text.{cut};
 ghost use Rattle.peer_core.specs.Laws.{text_edited};
 ghost use Rattle.follow_text.specs.Rows.{replaced, Makes};
-ghost use Rattle.follow_text.specs.Shown.{with_pieces, BeginsAt, StandsIn};
+ghost use Rattle.follow_text.specs.Shown.{with_pieces, BeginsAt, LiesAhead, StandsIn};
 
 use crate::piece_cut::{CutFail, pieces_of};
 use crate::span::Span;
@@ -97,10 +97,7 @@ const FRONT: Edge = Edge {
 
 // The last edge up to a place, from an edge on.
 fn edge_before(sizes: &[u8], from: Edge, place: usize) -> Edge
-    requires room { sum sizes.now < 2 ^ 63 }
-    requires begins { BeginsAt sizes.now from }
-    requires behind { from.start ≤ place }
-    requires within { place ≤ sum sizes.now }
+    requires { LiesAhead sizes.now from place }
     ensures begins { BeginsAt sizes.now result }
     ensures later { from.number ≤ result.number }
     ensures stands { StandsIn sizes.now place result }
@@ -122,10 +119,7 @@ fn edge_before(sizes: &[u8], from: Edge, place: usize) -> Edge
 
 // The first edge at a place or behind it, from an edge on.
 fn edge_behind(sizes: &[u8], from: Edge, place: usize) -> Edge
-    requires room { sum sizes.now < 2 ^ 63 }
-    requires begins { BeginsAt sizes.now from }
-    requires behind { from.start ≤ place }
-    requires within { place ≤ sum sizes.now }
+    requires { LiesAhead sizes.now from place }
     ensures begins { BeginsAt sizes.now result }
     ensures later { from.number ≤ result.number }
     ensures behind { place ≤ result.start }
