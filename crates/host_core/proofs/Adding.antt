@@ -1,14 +1,12 @@
 -- What a step adds to a document that all share.
-use Rattle.std.proofs.Common.{◌≡◌, ℕ, ◌+◌, ◌≤◌, ◌<◌, Bool, true, false, not, cond, ◌&&◌, List, [], ◌∷◌, ◌++◌, length, take, suc, Some, None, refl, ap, sym, subst, ◌∙◌, arith, length-append, inl, inr, ⊎_elim}
-use Rattle.std.specs.Prelude.{◌⊎◌, nat_eq, slice_get, find, max, option_map, unwrap_or, IfSome, IsSome, IsSomeAnd}
+use Rattle.std.proofs.Common.{◌≡◌, ℕ, ◌+◌, ◌≤◌, ◌<◌, Bool, true, false, not, cond, ◌&&◌, List, [], ◌∷◌, ◌++◌, length, Some, None, refl, ap, sym, subst, ◌∙◌, arith, length-append, inl, inr, ⊎_elim}
+use Rattle.std.specs.Prelude.{◌⊎◌, nat_eq, find, max, option_map, unwrap_or, IfSome, IsSome, IsSomeAnd}
 use Rattle.std.specs.declared.option.Option.{Option}
 use Rattle.std.specs.Option.{option_map_or}
 use Rattle.std.specs.Ordering.{nat_cmp}
 use Rattle.std.specs.BTreeMap.{BTreeMap, get}
 use Rattle.std.proofs.lemmas.Bool.{eqb-true, and_parts}
 use Rattle.std.proofs.lemmas.List.{append-nil}
-use Rattle.std.proofs.Math.Seq.{take-suc}
-use Rattle.std.proofs.lemmas.Option.{slice_get_within, get_or_from_slice_get}
 use Rattle.std.proofs.lemmas.List.Sums.{fold_push}
 use Rattle.element_name.specs.Cases.{when, given}
 use Rattle.coop_request.specs.Request.{Request}
@@ -180,12 +178,6 @@ held [] h none = refl
 held (Began p document ∷ es) h none = none
 held (Made by step ∷ es) h none = let old = held es h.1 none in (step_adds es by step h.0 old).held ∙ old
 held (e ∷ es) h none = held es h.1 none
-
--- a beginning with the next message
-pub take_next : (J : List Message) (i : ℕ) (m : Message) → slice_get J i ≡ Some m → take (i + 1) J ≡ take i J ++ m ∷ []
-take_next J i m there =
-    let more : i + 1 ≡ suc i = omega arith in
-    ap (λ n. take n J) more ∙ take-suc J i m (slice_get_within J i m there) ∙ ap (λ (n : Message). take i J ++ n ∷ []) (get_or_from_slice_get J i m m there)
 
 -- the greatest stamp with one more request
 greatest_push : (requests : List Request) (q : Request) → greatest_stamp (requests ++ q ∷ []) ≡ max (greatest_stamp requests) q.id.stamp

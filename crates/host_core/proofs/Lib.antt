@@ -11,4 +11,3 @@ pub mod Adding
 pub mod Going
 pub mod Texts
 pub mod Samples
-pub mod Questions

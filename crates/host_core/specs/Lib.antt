@@ -1,5 +1,4 @@
 pub mod Past
-pub mod Questions
 pub mod Refusals
 pub mod Outside
 pub mod Happens

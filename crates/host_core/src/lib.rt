@@ -12,7 +12,6 @@ mod host;
 mod keeper;
 pub mod laws;
 mod limits;
-mod question;
 mod refusal;
 mod register;
 
@@ -21,6 +20,5 @@ pub use event::{Device, Hello, HostEvent, LinkId, OpenLink, Role};
 pub use host::Host;
 pub use keeper::{KeepFail, Keeper};
 pub use limits::{LINK_REQUESTS, MAX_DENIED, MAX_OPENED, MAX_PEOPLE, MAX_SITES};
-pub use question::Outlook;
 pub use refusal::Refusal;
 pub use register::Register;

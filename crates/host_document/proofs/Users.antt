@@ -17,7 +17,7 @@ use Rattle.peer_step.specs.declared.answer.Answer.{Answer}
 use Rattle.peer_core.specs.Peer.{Peer}
 use Rattle.peer_core.specs.Answers.{answer_of}
 use Rattle.line_spelling.specs.Answers.{answer_line}
-use Rattle.host_core.specs.Questions.{names_undone}
+use Rattle.peer_outlook.specs.Outlook.{names_undone}
 use Rattle.host_document.specs.Foreseen.{names_by, user_line, AreUserLines, IsOutlook}
 
 -- the lines of entries of which each has how many names its user has

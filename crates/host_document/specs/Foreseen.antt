@@ -12,7 +12,7 @@ use Rattle.line_spelling.specs.Answers.{answer_line}
 use Rattle.line_read.specs.Step.{step_line}
 use Rattle.host_core.specs.declared.event.HostEvent.{HostEvent}
 use Rattle.host_core.specs.Past.{host_peer}
-use Rattle.host_core.specs.Questions.{names_undone}
+use Rattle.peer_outlook.specs.Outlook.{names_undone}
 
 -- how many of these names are a user's
 abbrev pub names_by : List Name → ℕ → ℕ

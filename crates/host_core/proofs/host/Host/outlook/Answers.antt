@@ -2,7 +2,7 @@ use Rattle.std.proofs.Common.{◌≡◌, IfOk, subst}
 use Rattle.peer_step.specs.declared.step.Step.TheVariants.{Administer}
 use Rattle.peer_core.specs.Peer.{Peer}
 use Rattle.peer_core.specs.Answers.{answer_of}
-use Rattle.host_core.specs.Questions.{names_undone}
+use Rattle.peer_outlook.specs.Outlook.{names_undone}
 use Rattle.host_core.proofs.host.Host.outlook.Goals as goal
 
 pub returns-clause-answer : goal.returns-clause-answer

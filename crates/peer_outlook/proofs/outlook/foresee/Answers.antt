@@ -1,20 +1,20 @@
 use Rattle.std.proofs.Common.{◌≡◌, ◌∙◌}
 use Rattle.std.proofs.lemmas.Result.{IfOk-weaker}
 use Rattle.peer_step.specs.declared.step.Step.TheVariants.{Administer}
-use Rattle.host_core.specs.declared.question.Outlook.{Outlook}
-use Rattle.host_core.specs.Questions.{IsTried, names_undone}
-use Rattle.host_core.proofs.Questions.{second_of, answer_alike, after_alike, names_told, as_many}
-use Rattle.host_core.proofs.question.foresee.Goals as goal
+use Rattle.peer_outlook.specs.declared.outlook.Outlook.{Outlook}
+use Rattle.peer_outlook.specs.Outlook.{IsTried, names_undone}
+use Rattle.peer_outlook.proofs.OutlookLemmas.{answer_alike, after_alike, names_told, as_many}
+use Rattle.peer_outlook.proofs.outlook.foresee.Goals as goal
 
 pub returns-in-Ok : goal.returns-in-Ok
 returns-in-Ok c =
     let p = c.args.peer.now in
     let op = c.args.op.now in
-    let second = c.in-Ok.second in
+    let second = c.in_ok-second.second in
     let after = c.tried-outlook.new.second in
     let copy = c.in_ok-copied.field-0 in
     let own = c.restored.ensures.own in
-    let is = second_of p second c.site.result c.in_ok-messages.messages.items c.deref.result.now c.site.ensures.site c.in_ok-messages.ensures c.deref.ensures.value c.in-Ok.ensures.peer in
+    let is = c.in_ok-second.ensures in
     let alike = answer_alike p second op copy own is c.in_ok-copied.ensures in
     let Told : Outlook → Type 0 = λ (o : Outlook). IsTried p second after (Administer copy) o.answer o.undone.items in
     let names : (o : Outlook) → Told o → o.undone.items ≡ names_undone p op =

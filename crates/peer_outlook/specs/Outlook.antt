@@ -1,12 +1,11 @@
--- What an operation would undo.
-use Rattle.std.specs.Prelude.{◌≡◌, ℕ, Bool, false, ◌&&◌, map, filter, filter_map, List, Option, None}
+-- What an operation would do, and what steps would undo.
+use Rattle.std.specs.Prelude.{◌≡◌, ℕ, Bool, false, ◌&&◌, map, filter, fold, List, Option, None}
 use Rattle.std.specs.Option.{option_map_or}
 use Rattle.element_name.specs.Name.{Name}
 use Rattle.element_name.specs.Cases.{when}
 use Rattle.coop_request.specs.Request.{Request}
 use Rattle.policy_book.specs.declared.op.AdminOp.{AdminOp}
 use Rattle.policy_book.specs.Entry.{Entry}
-use Rattle.edit_message.specs.Message.{key_of}
 use Rattle.edit_message.specs.declared.message.Key.{Key}
 use Rattle.edit_message.specs.declared.message.Key.TheVariants.{Coop, Admin}
 use Rattle.request_state.specs.declared.state.State.{State}
@@ -20,6 +19,7 @@ use Rattle.peer_tables.specs.Undoing.{is_undone_between}
 use Rattle.peer_core.specs.Peer.{Peer, history, log, state_of_name}
 use Rattle.peer_core.specs.Answers.{answer_of}
 use Rattle.peer_core.specs.After.{peer_after}
+use Rattle.peer_core.specs.Restore.{peer_of_journal}
 
 -- the requests of a peer that are Tentative there, and Invalid by the log of another
 abbrev pub requests_undone : Peer → Peer → List Request
@@ -41,6 +41,14 @@ has_state test p n = option_map_or test (state_of_name p n) false
 abbrev pub is_undone_name : Peer → Peer → Name → Bool
 is_undone_name old new n = has_state is_tentative old n && has_state is_invalid new n
 
+-- the names of the requests of a peer that are Tentative there, and Invalid at another, in order of integration
+abbrev pub names_between : Peer → Peer → List Name
+names_between old new = filter (is_undone_name old new) (map (λ q. q.id) (history old))
+
+-- the names of those that steps undo, one after another, at a peer of the same site and journal
+abbrev pub names_undone_by : Peer → List Step → List Name
+names_undone_by p steps = names_between p (fold peer_after (peer_of_journal p.site p.journal) steps)
+
 -- the name of a key's request, if it is so
 abbrev pub undone_by_key : Peer → Peer → Key → Option Name
 undone_by_key old new (Coop n) = when (is_undone_name old new n) n
@@ -50,4 +58,4 @@ undone_by_key old new (Admin version) = None
 pub record IsTried (first old new : Peer) (step : Step) (answer : Answer) (names : List Name) : Type 0 where
   pub answered : answer ≡ answer_of old step
   pub after : new ≡ peer_after old step
-  pub undone : names ≡ filter_map (λ m. undone_by_key first new (key_of m)) first.journal
+  pub undone : names ≡ names_between first new

@@ -35,16 +35,16 @@ use Rattle.peer_core.specs.After.{changed_by, peer_after}
 use Rattle.peer_core.specs.Sound.{IsSound}
 use Rattle.peer_core.specs.Restore.{peer_of_journal, OwnStepLaw}
 use Rattle.peer_core.proofs.AnswerLemmas.Rows.{operation_rows}
-use Rattle.host_core.proofs.Adding.{take_next}
-use Rattle.host_core.specs.Questions.{requests_undone, names_undone, SaysUndone, has_state, is_undone_name, undone_by_key}
+use Rattle.peer_core.proofs.BeginningLemmas.{take_one_more}
+use Rattle.peer_outlook.specs.Outlook.{requests_undone, names_undone, SaysUndone, has_state, is_undone_name, names_between, undone_by_key}
 
 -- ---- a second peer
 
 -- what it is made of
-pub second_of : (p second : Peer) (site : ℕ) (journal messages : List Message) → site ≡ p.site → journal ≡ p.journal → messages ≡ journal → second ≡ peer_of_journal site messages
-    → second ≡ peer_of_journal p.site p.journal
-second_of p second site journal messages same_site same_journal same_messages made =
-    made ∙ ap (λ (u : ℕ). peer_of_journal u messages) same_site ∙ ap (λ (J : List Message). peer_of_journal p.site J) (same_messages ∙ same_journal)
+pub second_of : (p : Peer) (site : ℕ) (journal messages : List Message) → site ≡ p.site → messages ≡ p.journal → journal ≡ messages
+    → peer_of_journal site journal ≡ peer_of_journal p.site p.journal
+second_of p site journal messages same_site same_messages same =
+    ap (λ (u : ℕ). peer_of_journal u journal) same_site ∙ ap (λ (J : List Message). peer_of_journal p.site J) (same ∙ same_messages)
 
 -- the journal that a step leaves depends on the journal before it and on the answer
 grown_alike : (p r : Peer) (step : Step) (answer : Answer) → r.journal ≡ p.journal → (changed_by r step answer).journal ≡ (changed_by p step answer).journal
@@ -118,23 +118,34 @@ module _ (old new : Peer) where
   abbrev undone : Request → Bool
   undone = is_undone_between (history old) (log old) (log new)
 
-  names_of : (J : List Message) → ((q : Request) → Has (requests_of J) q → is_undone_name old new q.id ≡ undone q)
-      → filter_map (λ m. undone_by_key old new (key_of m)) J ≡ map (λ q. q.id) (filter undone (requests_of J))
+  -- by the keys of a journal
+  pub names_keyed : (J : List Message) → filter_map (λ m. undone_by_key old new (key_of m)) J ≡ filter (is_undone_name old new) (map (λ q. q.id) (requests_of J))
+  names_keyed [] = refl
+  names_keyed (Admin e ∷ J) = names_keyed J
+  names_keyed (Coop q ∷ J) = by (is_undone_name old new q.id) (names_keyed J)
+    where
+      by : (b : Bool) → filter_map (λ m. undone_by_key old new (key_of m)) J ≡ filter (is_undone_name old new) (map (λ r. r.id) (requests_of J))
+          → cons_option (when b q.id) (filter_map (λ m. undone_by_key old new (key_of m)) J)
+          ≡ cond b (q.id ∷ filter (is_undone_name old new) (map (λ r. r.id) (requests_of J))) (filter (is_undone_name old new) (map (λ r. r.id) (requests_of J)))
+      by true rest = ap (λ (names : List Name). q.id ∷ names) rest
+      by false rest = rest
+
+  names_of : (R : List Request) → ((q : Request) → Has R q → is_undone_name old new q.id ≡ undone q)
+      → filter (is_undone_name old new) (map (λ q. q.id) R) ≡ map (λ q. q.id) (filter undone R)
   names_of [] each = refl
-  names_of (Admin e ∷ J) each = names_of J each
-  names_of (Coop q ∷ J) each = by (undone q) (each q (inl refl)) (names_of J (λ r h. each r (inr h)))
+  names_of (q ∷ R) each = by (undone q) (each q (inl refl)) (names_of R (λ r h. each r (inr h)))
     where
       by : (b : Bool) → is_undone_name old new q.id ≡ b
-          → filter_map (λ m. undone_by_key old new (key_of m)) J ≡ map (λ r. r.id) (filter undone (requests_of J))
-          → cons_option (when (is_undone_name old new q.id) q.id) (filter_map (λ m. undone_by_key old new (key_of m)) J)
-          ≡ map (λ r. r.id) (cond b (q ∷ filter undone (requests_of J)) (filter undone (requests_of J)))
+          → filter (is_undone_name old new) (map (λ r. r.id) R) ≡ map (λ r. r.id) (filter undone R)
+          → cond (is_undone_name old new q.id) (q.id ∷ filter (is_undone_name old new) (map (λ r. r.id) R)) (filter (is_undone_name old new) (map (λ r. r.id) R))
+          ≡ map (λ r. r.id) (cond b (q ∷ filter undone R) (filter undone R))
       by true e rest = rw e (ap (λ (names : List Name). q.id ∷ names) rest)
       by false e rest = rw e rest
 
-  names_are : IsSound old → history new ≡ history old → filter_map (λ m. undone_by_key old new (key_of m)) old.journal ≡ map (λ q. q.id) (requests_undone old new)
+  names_are : IsSound old → history new ≡ history old → names_between old new ≡ map (λ q. q.id) (requests_undone old new)
   names_are sound same =
       let once = once_law (history old) (history_law old.journal sound.journal) in
-      names_of old.journal (λ q h. undone_named old new q (has_found (history old) q once h) same)
+      names_of (history old) (λ q h. undone_named old new q (has_found (history old) q once h) same)
 
 -- with one more message of a journal
 pub one_name_more : (old new : Peer) (J : List Message) (i : ℕ) (m : Message) (names more : List Name) → names ≡ filter_map (λ x. undone_by_key old new (key_of x)) (take i J)
@@ -142,7 +153,7 @@ pub one_name_more : (old new : Peer) (J : List Message) (i : ℕ) (m : Message) 
     → more ≡ filter_map (λ x. undone_by_key old new (key_of x)) (take (i + 1) J)
 one_name_more old new J i m names more so_far there key same found is_found grown =
     let named : Message → Option Name = λ x. undone_by_key old new (key_of x) in
-    let front : take (i + 1) J ≡ take i J ++ m ∷ [] = take_next J i m there in
+    let front : take (i + 1) J ≡ take i J ++ m ∷ [] = take_one_more J i m there in
     let is : found ≡ named m = is_found ∙ ap (undone_by_key old new) same in
     grown ∙ ap (λ (ns : List Name). ns ++ option_to_list found) so_far ∙ ap (λ (o : Option Name). filter_map named (take i J) ++ option_to_list o) is
     ∙ ap (λ (ns : List Name). filter_map named (take i J) ++ ns) (last (named m))
@@ -154,7 +165,7 @@ one_name_more old new J i m names more so_far there key same found is_found grow
 
 -- the names that are told are those of the requests that the step undoes
 pub names_told : (p after : Peer) (op : AdminOp) (names : List Name) → IsSound p → after.journal ≡ (peer_after p (Administer op)).journal
-    → names ≡ filter_map (λ m. undone_by_key p after (key_of m)) p.journal → names ≡ names_undone p op
+    → names ≡ names_between p after → names ≡ names_undone p op
 names_told p after op names sound same told =
     told ∙ names_are p after sound (ap requests_of same ∙ (ordered p op).requests)
     ∙ ap (λ (J : List Message). map (λ q. q.id) (filter (is_undone_between (history p) (log p) (entries_of J)) (history p))) same

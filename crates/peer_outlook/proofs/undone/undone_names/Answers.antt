@@ -1,6 +1,6 @@
 use Rattle.std.proofs.Common.{sym, ◌∙◌}
-use Rattle.host_core.proofs.Questions.{one_name_more}
-use Rattle.host_core.proofs.question.undone_names.Goals as goal
+use Rattle.peer_outlook.proofs.OutlookLemmas.{one_name_more}
+use Rattle.peer_outlook.proofs.undone.undone_names.Goals as goal
 
 pub loop-i-preserved : goal.loop-i-preserved
 loop-i-preserved c =
