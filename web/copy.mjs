@@ -31,7 +31,6 @@ export class Copy {
    * @param {Uint8Array} [bytes]
    */
   constructor(module, site, bytes) {
-    this.module = module;
     this.peer = new Peer(module, site, bytes);
     this.site = site;
     this.journal = new Frames();
@@ -225,21 +224,14 @@ export class Copy {
   }
 
   /**
-   * What would be undone if these operations were made now. A second peer of the same journal is asked, so the rules are read by nobody
-   * but a peer. It takes the time of the journal.
+   * What would be undone if these operations were made now, as the peer says. It takes the time of the journal.
    *
    * @param {string[]} operations
    * @returns {Lost[]}
    */
   wouldUndo(operations) {
-    const peer = new Peer(this.module, this.site, this.journal.slice(0, this.journal.count));
-    try {
-      operations.forEach((it, i) => peer.step(`message entry ${this.policy.version + 1 + i} ${it}`));
-      const gone = [...this.tentative].filter(([name]) => undoneBy(peer.state(name)));
-      return gone.map(([name, place]) => ({ ...this.requestAt(place), isDeleted: this.deleted.has(name) }));
-    } finally {
-      peer.close();
-    }
+    const names = this.peer.would(operations.map((it, i) => `message entry ${this.policy.version + 1 + i} ${it}`));
+    return names.map((name) => ({ ...this.requestAt(this.placeInJournal(name)), isDeleted: this.deleted.has(name) }));
   }
 
   /**

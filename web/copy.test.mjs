@@ -133,7 +133,10 @@ test('what would be undone', () => {
   const gone = copy.wouldUndo(['addauth 0 - 1 idu 0']);
   assert.deepEqual([gone.map(({ user }) => user), copy.journal.count, copy.undone.count], [[1, 1], before, 0]);
   assert.equal(words.wouldUndo(gone), '2 edits of user 1 would be undone: “\u2068 Milk.\u2069”');
-  assert.deepEqual(copy.wouldUndo(['adduser 9']), []);
+  assert.deepEqual(gone.map(({ name }) => copy.peer.state(name)), ['tentative', 'tentative']);
+  assert.deepEqual(copy.wouldUndo(['adduser 9', 'addauth 0 - 1 idu 0']), gone);
+  assert.deepEqual([copy.wouldUndo(['adduser 9']), copy.wouldUndo([])], [[], []]);
+  assert.throws(() => copy.wouldUndo(['adduser 9', 'no operation']));
   administrator.copy.step('admin addauth 0 - 1 idu 0');
   exchange(administrator, user);
   assert.equal(copy.undone.count, 2);

@@ -103,7 +103,7 @@ async function open(browser, ada) {
   const first = await bea.value('opened');
   await bea.call('HeapProfiler.collectGarbage');
   const heap = (await bea.call('Runtime.getHeapUsage')).usedSize;
-  const module = await bea.value('page.copy.module.exports.memory.buffer.byteLength');
+  const module = await bea.value('page.copy.peer.module.exports.memory.buffer.byteLength');
   await bea.reload();
   await pause(200);
   await saved(bea);

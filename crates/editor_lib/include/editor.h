@@ -94,6 +94,13 @@ uint32_t editor_name_at(editor_slot *slot, uint32_t place);
  * isn't wanting, or NO_MEMORY. */
 uint32_t editor_shown_up_to(editor_slot *slot, const uint8_t *name, size_t name_size);
 
+/* Puts the names of the requests that steps would undo, if the peer made them now one after another, in place of the answer: those
+ * that are Tentative, and that would be Invalid behind the steps. They come in the order of the journal, a line each, as `3.1`, with
+ * its line end. The bytes are the step lines, with a line end between two of them, and no bytes are no steps. A second peer of the
+ * journal makes the steps, so what the peer holds isn't there, and a step that is refused undoes nothing. The peer, the frame and the
+ * rows stay. DONE, BAD exactly where one of the lines is no step line and memory isn't wanting, or NO_MEMORY. */
+uint32_t editor_would(editor_slot *slot, const uint8_t *lines, size_t lines_size);
+
 /* Copies the answer to the front of a buffer if it fits, else nothing. Gives its length in both cases. Changes nothing else. */
 size_t editor_answer(editor_slot *slot, uint8_t *buffer, size_t buffer_size);
 

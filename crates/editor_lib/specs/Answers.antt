@@ -1,10 +1,12 @@
 -- What questions are answered by.
 use Rattle.std.specs.Prelude.{ℕ, List, [], Option, Some, option_map, map, length, slice_get, unwrap_or}
-use Rattle.std.specs.List.{concat}
+use Rattle.std.specs.List.{concat, flat_map}
 use Rattle.peer_core.specs.Peer.{Peer, state_of_name, text, shown_elements}
 use Rattle.peer_core.specs.Carets.{shown_up_to}
 use Rattle.line_read.specs.Numbers.{read_name}
+use Rattle.peer_outlook.specs.Outlook.{names_undone_by}
 use Rattle.editor_lib.specs.Told.{kept_state_line, element_word, count_word}
+use Rattle.editor_lib.specs.Would.{steps_of, name_line}
 use Rattle.editor_lib.specs.Writers.{writer_of, writers_bytes}
 
 -- the bytes of the text
@@ -42,3 +44,7 @@ name_answer peer place = Some (element_word (slice_get (shown_elements peer) pla
 -- how many elements show up to the one that a word names, and no bytes where it is none; none where the word is no name
 unfoldable pub count_answer : Peer → List ℕ → Option (List ℕ)
 count_answer peer word = option_map (λ name. count_word (shown_up_to peer name)) (read_name word)
+
+-- the names of the requests that the steps of these lines would undo, in order of integration, a line each; none where a line is no step line
+unfoldable pub would_answer : Peer → List ℕ → Option (List ℕ)
+would_answer peer lines = option_map (λ steps. flat_map name_line (names_undone_by peer steps)) (steps_of lines)

@@ -2,6 +2,7 @@ pub mod Code
 pub mod Told
 pub mod Journal
 pub mod Writers
+pub mod Would
 pub mod Answers
 pub mod Desk
 pub mod Buffer

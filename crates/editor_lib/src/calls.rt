@@ -4,7 +4,7 @@ ghost use Rattle.std.specs.Prelude.{◌≡◌, Some, None, IsSomeAnd, OnErr, OnO
 ghost use Rattle.std.specs.Fn.{FnOnceReturnsAtMut};
 ghost use Rattle.line_read.specs.Step.{step_line};
 ghost use Rattle.editor_lib.specs.Code.{GivesCode};
-ghost use Rattle.editor_lib.specs.Answers.{text_answer, state_answer, sizes_answer, shown_answer, piece_answer, writers_answer, writer_answer, name_answer, count_answer};
+ghost use Rattle.editor_lib.specs.Answers.{text_answer, state_answer, sizes_answer, shown_answer, piece_answer, writers_answer, writer_answer, name_answer, count_answer, would_answer};
 ghost use Rattle.editor_lib.specs.Desk.{Desk, step_received, Opened, Restored, StepMade, Asked};
 ghost use Rattle.editor_lib.specs.Told.{part_told};
 ghost use Rattle.editor_lib.specs.Buffer.{with_front};
@@ -206,6 +206,19 @@ pub extern "C" fn editor_shown_up_to(alloc: Global, slot: &mut DeskSlot, name: &
     ensures { GivesCode result (λ code. IsSomeAnd slot.new.value (λ after. Asked code (count_answer desk.peer name.now) desk after)) }
 {
     on_desk(alloc, slot, |desk: &mut Desk| desk.shown_up_to(alloc, name))
+}
+
+/// Puts the names of the requests that steps would undo in place of the answer, in order of integration, a line each with its
+/// line end. The bytes are the step lines, with a line end between two of them, and no bytes are no steps. No step is made. Gives
+/// the number of a code: 0, 1 where a line is no step line, or 2. Takes for a while the time and memory of a second peer of the
+/// journal, which makes the steps.
+#[unsafe(no_mangle)]
+pub extern "C" fn editor_would(alloc: Global, slot: &mut DeskSlot, lines: &[u8]) -> u32
+    ghost desk: { Desk }
+    requires { slot.old.value ≡ Some desk }
+    ensures { GivesCode result (λ code. IsSomeAnd slot.new.value (λ after. Asked code (would_answer desk.peer lines.now) desk after)) }
+{
+    on_desk(alloc, slot, |desk: &mut Desk| desk.would(alloc, lines))
 }
 
 // Copies bytes to the front of a buffer, if they fit.

@@ -4,7 +4,7 @@ ghost use Rattle.edit_message.specs.declared.message.Message.{Message};
 ghost use Rattle.line_read.specs.Step.{step_line};
 ghost use Rattle.editor_lib.specs.declared.code.Code.TheVariants as ends;
 ghost use Rattle.editor_lib.specs.declared.journal.JournalFail.TheVariants.{Bad as bad};
-ghost use Rattle.editor_lib.specs.Answers.{text_answer, state_answer, sizes_answer, shown_answer, piece_answer, writers_answer, writer_answer, name_answer, count_answer};
+ghost use Rattle.editor_lib.specs.Answers.{text_answer, state_answer, sizes_answer, shown_answer, piece_answer, writers_answer, writer_answer, name_answer, count_answer, would_answer};
 ghost use Rattle.editor_lib.specs.Desk.{fresh_desk, step_received, IsRestored, StepMade, Asked};
 ghost use Rattle.editor_lib.specs.Journal.{SpellsJournal};
 
@@ -14,6 +14,7 @@ use crate::shown::{piece_bytes, writer_at, writers};
 use crate::told::{
     LastTold, count_word, element_word, kept_state_line, piece_sizes, site_word, text_bytes,
 };
+use crate::would::{steps_of, undone_lines};
 use edit_frame::{DecodeFail, Frame, decode};
 use element_name::NoMemory;
 use line_read::{read_name, step_line};
@@ -211,6 +212,22 @@ impl Desk {
         };
         let line = kept_state_line(alloc, self.peer.state_of(name).copied());
         self.put_answer(line)
+    }
+
+    /// Tells which requests the steps would undo that lines say, with a line end between two. No step is made. Takes the time
+    /// and memory of the whole journal.
+    #[tactic(auto, unfolding(crate::specs::Answers::would_answer))]
+    pub fn would(&mut self, alloc: Global, lines: &[u8]) -> Code
+        ensures { Asked result (would_answer self.old.peer lines.now) self.old self.new }
+    {
+        let steps = match steps_of(alloc, lines) {
+            Ok(steps) => steps,
+            Err(LineFail::Bad) => return Code::Bad,
+            Err(LineFail::NoMemory) => return Code::NoMemory,
+        };
+        let names = undone_lines(alloc, &self.peer, &steps);
+        drop(steps);
+        self.put_answer(names)
     }
 
     /// What was told.

@@ -14,3 +14,4 @@ mod journal;
 mod shown;
 mod slot;
 mod told;
+mod would;

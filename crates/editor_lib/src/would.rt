@@ -1,0 +1,94 @@
+//! The steps that lines say, and the requests that these would undo.
+ghost use Rattle.std.specs.Prelude.{◌≡◌, ◌++◌, [], Some, None, Err, map, flat_map, IfOk, OnOk};
+ghost use Rattle.line_read.specs.Step.{step_line};
+ghost use Rattle.line_read.specs.Words.{bytes_of, each_some, parts};
+ghost use Rattle.peer_outlook.specs.Outlook.{names_undone_by};
+ghost use Rattle.editor_lib.specs.Would.{steps_of, name_line};
+
+use crate::told::element_word;
+use element_name::{Name, NoMemory};
+use line_read::step_line;
+use line_spelling::{LINE_END, LineFail};
+use line_write::put;
+use peer_core::Peer;
+use peer_outlook::undone_by;
+use peer_step::Step;
+use std::alloc::{AllocError, Global};
+
+// The lines between the line ends.
+fn lines_of(alloc: Global, text: &[u8]) -> Result<Vec<&[u8]>, AllocError>
+    ensures { IfOk result (λ found. bytes_of found.items ≡ parts LINE_END text.now) }
+{
+    text.split(|b| *b == LINE_END).collect(alloc)
+}
+
+// Puts the steps of these lines into a row, which is empty.
+fn put_steps(alloc: Global, lines: &[&[u8]], row: &mut Vec<Step>) -> Result<(), LineFail>
+    requires { row.old.items ≡ [] }
+    ensures ok { OnOk result (each_some (map step_line (bytes_of lines.now)) ≡ Some row.new.items) }
+    ensures bad { result ≡ Err LineFail.Bad → each_some (map step_line (bytes_of lines.now)) ≡ None }
+{
+    for line in lines {
+        let step = step_line(alloc, line)?;
+        row.push(step)?;
+    }
+    Ok(())
+}
+
+// The steps of these lines, one each.
+fn read_steps(alloc: Global, lines: &[&[u8]]) -> Result<Vec<Step>, LineFail>
+    ensures ok { IfOk result (λ row. each_some (map step_line (bytes_of lines.now)) ≡ Some row.items) }
+    ensures bad { result ≡ Err LineFail.Bad → each_some (map step_line (bytes_of lines.now)) ≡ None }
+{
+    let mut row = Vec::new(alloc);
+    match put_steps(alloc, lines, &mut row) {
+        Ok(()) => Ok(row),
+        Err(fail) => {
+            drop(row);
+            Err(fail)
+        }
+    }
+}
+
+/// The steps that step lines say, with a line end between two of them; none of no bytes. Takes time in their number.
+///
+/// `Bad` says that one of the lines isn't in the grammar.
+pub fn steps_of(alloc: Global, text: &[u8]) -> Result<Vec<Step>, LineFail>
+    ensures ok { IfOk result (λ row. steps_of text.now ≡ Some row.items) }
+    ensures bad { result ≡ Err LineFail.Bad → steps_of text.now ≡ None }
+{
+    if text.is_empty() {
+        return Ok(Vec::new(alloc));
+    }
+    let lines = lines_of(alloc, text)?;
+    read_steps(alloc, &lines)
+}
+
+// Appends the line of a name.
+fn put_name_line(alloc: Global, lines: &mut Vec<u8>, name: Name) -> Result<(), NoMemory>
+    ensures { OnOk result (lines.new.items ≡ lines.old.items ++ name_line name) }
+{
+    let word = element_word(alloc, Some(name))?;
+    put(lines, &word)?;
+    put(lines, b"\n")
+}
+
+// The lines of names, one behind another.
+fn name_lines(alloc: Global, names: &[Name]) -> Result<Vec<u8>, NoMemory>
+    ensures { IfOk result (λ lines. lines.items ≡ flat_map name_line names.now) }
+{
+    let mut lines = Vec::new(alloc);
+    for name in names {
+        put_name_line(alloc, &mut lines, *name)?;
+    }
+    Ok(lines)
+}
+
+/// The lines of the names of the requests that steps would undo, in order of integration. Takes the time and memory of
+/// `peer_outlook::undone_by`.
+pub fn undone_lines(alloc: Global, peer: &Peer, steps: &[Step]) -> Result<Vec<u8>, NoMemory>
+    ensures { IfOk result (λ lines. lines.items ≡ flat_map name_line (names_undone_by peer.now steps.now)) }
+{
+    let names = undone_by(alloc, peer, steps)?;
+    name_lines(alloc, &names)
+}
