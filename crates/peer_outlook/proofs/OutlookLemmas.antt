@@ -1,10 +1,10 @@
 -- What a second peer of the same journal answers and leaves.
-use Rattle.std.proofs.Common.{◌≡◌, ℕ, ◌+◌, inl, inr, Bool, true, false, not, cond, ◌&&◌, List, [], ◌∷◌, ◌++◌, length, take, None, Some, refl, ap, sym, subst, ◌∙◌}
+use Rattle.std.proofs.Common.{◌≡◌, ℕ, ◌+◌, ◌≤◌, inl, inr, Bool, true, false, not, cond, ◌&&◌, List, [], ◌∷◌, ◌++◌, length, take, None, Some, refl, ap, sym, subst, ◌∙◌}
 use Rattle.std.specs.Prelude.{map, filter, filter_map, nat_eq, option_map, slice_get}
 use Rattle.std.specs.declared.option.Option.{Option}
 use Rattle.std.specs.List.{cons_option}
 use Rattle.std.specs.Option.{option_map_or, option_to_list}
-use Rattle.std.proofs.lemmas.List.{length-map}
+use Rattle.std.proofs.lemmas.List.{length-map, take_all}
 use Rattle.std.proofs.lemmas.List.Elements.{filter_map-append}
 use Rattle.std.proofs.lemmas.List.Sums.{length-filter}
 use Rattle.element_name.specs.Name.{Name}
@@ -39,12 +39,6 @@ use Rattle.peer_core.proofs.BeginningLemmas.{take_one_more}
 use Rattle.peer_outlook.specs.Outlook.{requests_undone, names_undone, SaysUndone, has_state, is_undone_name, names_between, undone_by_key}
 
 -- ---- a second peer
-
--- what it is made of
-pub second_of : (p : Peer) (site : ℕ) (journal messages : List Message) → site ≡ p.site → messages ≡ p.journal → journal ≡ messages
-    → peer_of_journal site journal ≡ peer_of_journal p.site p.journal
-second_of p site journal messages same_site same_messages same =
-    ap (λ (u : ℕ). peer_of_journal u journal) same_site ∙ ap (λ (J : List Message). peer_of_journal p.site J) (same ∙ same_messages)
 
 -- the journal that a step leaves depends on the journal before it and on the answer
 grown_alike : (p r : Peer) (step : Step) (answer : Answer) → r.journal ≡ p.journal → (changed_by r step answer).journal ≡ (changed_by p step answer).journal
@@ -162,6 +156,14 @@ one_name_more old new J i m names more so_far there key same found is_found grow
     last : (o : Option Name) → option_to_list o ≡ cons_option o []
     last None = refl
     last (Some n) = refl
+
+-- with all of them
+pub all_named : (old new : Peer) (i n : ℕ) (names : List Name) → names ≡ filter_map (λ m. undone_by_key old new (key_of m)) (take i old.journal) → n ≡ length old.journal → n ≤ i
+    → names ≡ names_between old new
+all_named old new i n names so_far long past =
+    so_far
+    ∙ ap (filter_map (λ m. undone_by_key old new (key_of m))) (take_all i old.journal (subst (λ k. k ≤ i) long past))
+    ∙ names_keyed old new old.journal
 
 -- the names that are told are those of the requests that the step undoes
 pub names_told : (p after : Peer) (op : AdminOp) (names : List Name) → IsSound p → after.journal ≡ (peer_after p (Administer op)).journal

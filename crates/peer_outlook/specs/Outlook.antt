@@ -41,6 +41,11 @@ has_state test p n = option_map_or test (state_of_name p n) false
 abbrev pub is_undone_name : Peer → Peer → Name → Bool
 is_undone_name old new n = has_state is_tentative old n && has_state is_invalid new n
 
+-- the name of a key's request, if it is so
+abbrev pub undone_by_key : Peer → Peer → Key → Option Name
+undone_by_key old new (Coop n) = when (is_undone_name old new n) n
+undone_by_key old new (Admin version) = None
+
 -- the names of the requests of a peer that are Tentative there, and Invalid at another, in order of integration
 abbrev pub names_between : Peer → Peer → List Name
 names_between old new = filter (is_undone_name old new) (map (λ q. q.id) (history old))
@@ -48,11 +53,6 @@ names_between old new = filter (is_undone_name old new) (map (λ q. q.id) (histo
 -- the names of those that steps undo, one after another, at a peer of the same site and journal
 abbrev pub names_undone_by : Peer → List Step → List Name
 names_undone_by p steps = names_between p (fold peer_after (peer_of_journal p.site p.journal) steps)
-
--- the name of a key's request, if it is so
-abbrev pub undone_by_key : Peer → Peer → Key → Option Name
-undone_by_key old new (Coop n) = when (is_undone_name old new n) n
-undone_by_key old new (Admin version) = None
 
 -- what a step answered at another peer, what it left there, and which requests of the first it undid there
 pub record IsTried (first old new : Peer) (step : Step) (answer : Answer) (names : List Name) : Type 0 where

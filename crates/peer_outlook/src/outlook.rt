@@ -4,6 +4,7 @@ ghost use Rattle.peer_step.specs.declared.step.Step.{Step};
 ghost use Rattle.peer_core.specs.After.{peer_after};
 ghost use Rattle.peer_core.specs.Answers.{answer_of};
 ghost use Rattle.peer_core.specs.Restore.{peer_of_journal};
+ghost use Rattle.peer_core.specs.Sound.{IsSound};
 ghost use Rattle.peer_outlook.specs.Outlook.{names_undone, names_between, names_undone_by, SaysUndone, IsTried};
 
 use crate::undone::undone_names;
@@ -40,10 +41,12 @@ fn journal_of(alloc: Global, peer: &Peer) -> Result<Vec<Message>, NoMemory>
 
 // A second peer of the same site and journal.
 fn second_of(alloc: Global, peer: &Peer) -> Result<Peer, NoMemory>
-    ensures { IfOk result (λ second. second ≡ peer_of_journal peer.now.site peer.now.journal) }
+    ensures second { IfOk result (λ second. second ≡ peer_of_journal peer.now.site peer.now.journal) }
+    ensures sound { IsSound peer.now }
 {
+    let site = peer.site();
     let messages = journal_of(alloc, peer)?;
-    match Peer::restore(alloc, peer.site(), &messages) {
+    match Peer::restore(alloc, site, &messages) {
         Ok(second) => Ok(second),
         Err(_) => Err(NoMemory),
     }
