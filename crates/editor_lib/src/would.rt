@@ -1,5 +1,6 @@
 //! The steps that lines say, and the requests that these would undo.
-ghost use Rattle.std.specs.Prelude.{◌≡◌, ◌++◌, [], Some, None, Err, map, flat_map, IfOk, OnOk};
+ghost use Rattle.std.specs.Prelude.{◌≡◌, ◌++◌, [], Some, map, flat_map, IfOk, IfErr, OnOk};
+ghost use Rattle.line_read.specs.ReadsAs.{ReadFails, ReadsItems};
 ghost use Rattle.line_read.specs.Step.{step_line};
 ghost use Rattle.line_read.specs.Words.{bytes_of, each_some, parts};
 ghost use Rattle.peer_outlook.specs.Outlook.{names_undone_by};
@@ -26,7 +27,7 @@ fn lines_of(alloc: Global, text: &[u8]) -> Result<Vec<&[u8]>, AllocError>
 fn put_steps(alloc: Global, lines: &[&[u8]], row: &mut Vec<Step>) -> Result<(), LineFail>
     requires { row.old.items ≡ [] }
     ensures ok { OnOk result (each_some (map step_line (bytes_of lines.now)) ≡ Some row.new.items) }
-    ensures bad { result ≡ Err LineFail.Bad → each_some (map step_line (bytes_of lines.now)) ≡ None }
+    ensures fail { IfErr result (λ fail. ReadFails fail (each_some (map step_line (bytes_of lines.now)))) }
 {
     for line in lines {
         let step = step_line(alloc, line)?;
@@ -37,8 +38,7 @@ fn put_steps(alloc: Global, lines: &[&[u8]], row: &mut Vec<Step>) -> Result<(), 
 
 // The steps of these lines, one each.
 fn read_steps(alloc: Global, lines: &[&[u8]]) -> Result<Vec<Step>, LineFail>
-    ensures ok { IfOk result (λ row. each_some (map step_line (bytes_of lines.now)) ≡ Some row.items) }
-    ensures bad { result ≡ Err LineFail.Bad → each_some (map step_line (bytes_of lines.now)) ≡ None }
+    ensures { ReadsItems result (each_some (map step_line (bytes_of lines.now))) }
 {
     let mut row = Vec::new(alloc);
     match put_steps(alloc, lines, &mut row) {
@@ -54,8 +54,7 @@ fn read_steps(alloc: Global, lines: &[&[u8]]) -> Result<Vec<Step>, LineFail>
 ///
 /// `Bad` says that one of the lines isn't in the grammar.
 pub fn steps_of(alloc: Global, text: &[u8]) -> Result<Vec<Step>, LineFail>
-    ensures ok { IfOk result (λ row. steps_of text.now ≡ Some row.items) }
-    ensures bad { result ≡ Err LineFail.Bad → steps_of text.now ≡ None }
+    ensures { ReadsItems result (steps_of text.now) }
 {
     if text.is_empty() {
         return Ok(Vec::new(alloc));
