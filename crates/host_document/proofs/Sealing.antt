@@ -13,8 +13,8 @@ use Rattle.host_seal.specs.declared.seal.SealFault.{SealFault}
 use Rattle.host_seal.specs.declared.seal.SealFault.TheVariants as seals
 use Rattle.host_seal.specs.Seals.{seal_fault, IsBeginning}
 use Rattle.host_seal.proofs.Beginnings.{goes_on}
-use Rattle.host_document.specs.declared.fault.OpenFault.{OpenFault}
-use Rattle.host_document.specs.declared.fault.OpenFault.TheVariants as opens
+use Rattle.host_interface.specs.declared.fault.OpenFault.{OpenFault}
+use Rattle.host_interface.specs.declared.fault.OpenFault.TheVariants as opens
 use Rattle.host_document.specs.Sealing.{open_fault, seal_open_fault}
 
 -- a beginning of what is saved is one of the journal, which is saved next

@@ -18,7 +18,7 @@ use Rattle.peer_core.specs.Peer.{Peer}
 use Rattle.peer_core.specs.Answers.{answer_of}
 use Rattle.line_spelling.specs.Answers.{answer_line}
 use Rattle.peer_outlook.specs.Outlook.{names_undone}
-use Rattle.host_document.specs.Foreseen.{names_by, user_line, AreUserLines, IsOutlook}
+use Rattle.host_interface.specs.Foreseen.{names_by, user_line, AreUserLines, IsOutlook}
 
 -- the lines of entries of which each has how many names its user has
 lines_alike : (names : List Name) (es : List (ℕ × ℕ)) → All (λ e. names_by names e.0 ≡ e.1) es

@@ -1,24 +1,12 @@
--- What was sealed of a document, and why one isn't opened that is another.
-use Rattle.std.specs.Prelude.{◌≡◌, ⊤, ℕ, List, length, Option, Some, None, option_map}
+-- Why a document isn't opened that is another than was sealed.
+use Rattle.std.specs.Prelude.{ℕ, List, length, Option, option_map}
 use Rattle.edit_message.specs.declared.message.Message.{Message}
-use Rattle.host_core.specs.declared.event.HostEvent.{HostEvent}
-use Rattle.host_core.specs.Past.{saved_journal}
 use Rattle.host_seal.specs.declared.seal.Seal.{Seal}
 use Rattle.host_seal.specs.declared.seal.SealFault.{SealFault}
 use Rattle.host_seal.specs.declared.seal.SealFault.TheVariants as seals
-use Rattle.host_seal.specs.Seals.{seal_of, seal_fault, IsSealed}
-use Rattle.host_document.specs.declared.fault.OpenFault.{OpenFault}
-use Rattle.host_document.specs.declared.fault.OpenFault.TheVariants as opens
-
--- a seal is that of what is saved
-abbrev pub IsSealOf : Seal → List HostEvent → Type 0
-IsSealOf seal past = seal ≡ seal_of (saved_journal past)
-
--- a document that was opened has saved messages that begin with what was sealed, if something was
-abbrev pub IsOpenedBy : Option Seal → Option (List HostEvent) → Type 0
-IsOpenedBy None document = ⊤
-IsOpenedBy (Some seal) None = ⊥
-IsOpenedBy (Some seal) (Some past) = IsSealed seal (saved_journal past)
+use Rattle.host_seal.specs.Seals.{seal_fault}
+use Rattle.host_interface.specs.declared.fault.OpenFault.{OpenFault}
+use Rattle.host_interface.specs.declared.fault.OpenFault.TheVariants as opens
 
 -- why a document isn't opened whose journal isn't taken for the one that was sealed, by how many messages were found and sealed
 abbrev pub open_fault : ℕ → ℕ → SealFault → OpenFault

@@ -1,6 +1,6 @@
 //! Why a link ends that a host refuses.
 ghost use Rattle.std.specs.Prelude.{◌≡◌};
-ghost use Rattle.host_document.specs.Endings.{ending_of};
+ghost use Rattle.host_interface.specs.Endings.{ending_of};
 
 use host_core::Refusal;
 use host_link::Ending;

@@ -1,13 +1,13 @@
 //! A document of a host: closed as long as nobody is there, and else the host of its text, with its rules and the people of
 //! whom that was told.
 //!
-//! Contracts see a document that is open as what has happened at its host, the newest first. It knows one file of steps and
-//! its seal, people, and what links ask for. It must not know the folder, other documents, sockets and clocks.
+//! It keeps the contracts of `host_interface`, by which alone a house knows it, and sees a document that is open as what has
+//! happened at its host, the newest first. It knows one file of steps and its seal, people, and what links ask for. It must
+//! not know the folder, other documents, sockets and clocks.
 #![tactic(auto)]
 
 mod document;
 mod endings;
-mod fault;
 pub mod laws;
 mod opened;
 mod renewal;
@@ -16,5 +16,4 @@ mod rules;
 mod text;
 
 pub use document::Document;
-pub use fault::{NotMade, OpenFault, RowFault};
 pub use row::MAX_ROW;

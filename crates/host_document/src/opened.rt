@@ -6,8 +6,8 @@ ghost use Rattle.host_core.specs.declared.event.HostEvent.{HostEvent};
 ghost use Rattle.host_core.specs.Past.{host_peer, saved_journal, open_link, device_of};
 ghost use Rattle.host_core.specs.Happens.{IsAllSaved};
 ghost use Rattle.host_core.specs.Refusals.{ask_refusal};
-ghost use Rattle.host_document.specs.Endings.{ending_of};
-ghost use Rattle.host_document.specs.Settled.{IsSettled};
+ghost use Rattle.host_interface.specs.Endings.{ending_of};
+ghost use Rattle.host_interface.specs.Settled.{IsSettled};
 
 mod entering;
 mod foreseen;
@@ -16,11 +16,11 @@ mod ordering;
 mod sealing;
 
 use crate::endings::ending_of;
-use crate::fault::{NotMade, OpenFault};
 use crate::rules::Rules;
 use edit_message::Message;
 use element_name::NoMemory;
 use host_core::{Host, LinkId, Refusal};
+use host_interface::{NotMade, OpenFault};
 use host_link::{Ending, Identity};
 use host_seal::Sealer;
 use host_store::StoreKeeper;

@@ -3,7 +3,7 @@ ghost use Rattle.std.specs.Prelude.{◌≡◌, false, IfOk, IsErrOf};
 ghost use Rattle.host_renewal.specs.declared.fault.RenewalFault.{RenewalFault};
 ghost use Rattle.host_renewal.specs.Faults.{is_limit};
 ghost use Rattle.host_renewal.specs.Room.{IsTooLong, IsTooRuled};
-ghost use Rattle.host_document.specs.Renewed.{IsSealOfRenewal};
+ghost use Rattle.host_interface.specs.Renewed.{IsSealOfRenewal};
 
 use host_renewal::{RenewalFault, make_renewal};
 use host_seal::Seal;

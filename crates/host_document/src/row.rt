@@ -2,9 +2,9 @@
 ghost use Rattle.std.specs.Prelude.{◌≡◌, [], IfOk, OnOk, Some, map};
 ghost use Rattle.line_read.specs.Words.{bytes_of, each_some, parts};
 ghost use Rattle.line_read.specs.Step.{step_line};
-ghost use Rattle.host_document.specs.Rows.{orders_of};
+ghost use Rattle.host_interface.specs.Rows.{orders_of};
 
-use crate::fault::RowFault;
+use host_interface::RowFault;
 use line_read::step_line;
 use line_spelling::{LINE_END, LineFail};
 use peer_step::Step;

@@ -1,9 +1,9 @@
 //! The rules of a document, as its host knows them.
 ghost use Rattle.std.specs.Prelude.{◌≡◌, OnErr};
 
-use crate::fault::{NotMade, RowFault};
 use edit_message::{Message, Missing};
 use element_name::NoMemory;
+use host_interface::{NotMade, RowFault};
 use peer_core::{JournalItem, Peer};
 use peer_step::Step;
 use policy_book::{AdminOp, ApplyFault, Entry, Policy};

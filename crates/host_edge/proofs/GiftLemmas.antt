@@ -7,7 +7,7 @@ use Rattle.edit_frame.specs.Spelling.{spelling}
 use Rattle.host_core.specs.declared.event.LinkId.{LinkId}
 use Rattle.host_core.specs.declared.event.HostEvent.{HostEvent}
 use Rattle.host_core.specs.declared.event.HostEvent.TheVariants.{Gave}
-use Rattle.host_document.specs.HappensAt.{HappensAt}
+use Rattle.host_interface.specs.HappensAt.{HappensAt}
 use Rattle.host_seal.specs.Frames.{item_frames}
 use Rattle.host_seal.proofs.Frames.{frames_more}
 use Rattle.host_edge.specs.Gifts.{behind_gift, behind_gifts, GivesFrames}

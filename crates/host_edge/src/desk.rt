@@ -5,17 +5,18 @@ use crate::conn::{Closing, Conn, Linked, Place, Stage};
 use crate::room::{Room, Seat, Who};
 use host_house::House;
 use host_http::{Origins, Pages, Routes};
+use host_interface::HouseDocument;
 use host_link::Ending;
 use host_socket::{Counts, Happening, Limits, Socket, WrongKeys, send_close};
 use std::alloc::Global;
 use std::mem;
 
-/// A house with its connections.
+/// A house, whose documents are of a type, with its connections.
 #[derive(Drop)]
-pub struct Desk<'a> {
+pub struct Desk<'a, D> {
     pub(crate) rt: &'a HostRuntime,
     pub(crate) alloc: Global,
-    pub(crate) house: House<'a>,
+    pub(crate) house: House<'a, D>,
     pub(crate) pages: Pages,
     pub(crate) routes: Routes,
     pub(crate) origins: Origins,
@@ -53,17 +54,17 @@ fn add_rooms(alloc: Global, rooms: &mut Vec<Room>, count: usize) -> Result<(), E
     Ok(())
 }
 
-impl<'a> Desk<'a> {
+impl<'a, D> Desk<'a, D> {
     /// A desk with no connection, to which connections come by themselves. It takes no memory.
     pub fn new(
         rt: &'a HostRuntime,
-        house: House<'a>,
+        house: House<'a, D>,
         pages: Pages,
         routes: Routes,
         origins: Origins,
         limits: Limits,
         wrong_keys: WrongKeys,
-    ) -> Desk<'a> {
+    ) -> Desk<'a, D> {
         let alloc = rt.alloc();
         Desk {
             rt,
@@ -145,6 +146,63 @@ impl<'a> Desk<'a> {
         drop(self.happened.push(what));
     }
 
+    // A socket that is told why it ends.
+    pub(crate) fn ended(&mut self, mut socket: Socket, why: Ending) -> Option<Conn> {
+        self.counts.ended(why);
+        send_close(&mut socket, why);
+        let until = self.now.saturating_add(self.limits.closing);
+        let closing = Closing { socket, why: None };
+        Some(Conn::ready(Stage::Closing(closing), until))
+    }
+
+    // A socket that is told later why it ends.
+    pub(crate) fn ended_later(&mut self, socket: Socket, why: Ending) -> Option<Conn> {
+        let until = self.now.saturating_add(self.limits.wrong_key);
+        let closing = Closing {
+            socket,
+            why: Some(why),
+        };
+        Some(Conn::waiting(Stage::Closing(closing), until))
+    }
+
+    // Takes the connection out of a slot.
+    pub(crate) fn take_out(&mut self, slot: usize) -> Option<Conn> {
+        match self.conns.get_mut(slot) {
+            Some(place) => place.take(),
+            None => None,
+        }
+    }
+
+    // Puts a connection into a slot.
+    fn put_in(&mut self, slot: usize, conn: Conn) {
+        match self.conns.get_mut(slot) {
+            Some(place) => drop(mem::replace(place, Some(conn))),
+            None => drop(conn),
+        }
+    }
+
+    // Puts back what is left of a connection.
+    pub(crate) fn put_back(&mut self, slot: usize, left: Option<Conn>) {
+        let Some(conn) = left else {
+            let _ = self.freed.push(slot);
+            return;
+        };
+        if conn.unread {
+            let _ = self.again.push(slot);
+        }
+        self.put_in(slot, conn);
+    }
+
+    // How many connections stand.
+    pub(crate) fn open_count(&self) -> usize {
+        self.conns
+            .len()
+            .saturating_sub(self.free.len())
+            .saturating_sub(self.freed.len())
+    }
+}
+
+impl<'a, D: HouseDocument<'a>> Desk<'a, D> {
     // Seats a link. Where its device has another one here, that one is told and ends.
     pub(crate) fn seat(&mut self, place: Place, seat: Seat) -> Result<(), Ending> {
         let most = self.limits.links_of_person;
@@ -172,25 +230,6 @@ impl<'a> Desk<'a> {
             site: linked.site,
             why,
         });
-    }
-
-    // A socket that is told why it ends.
-    pub(crate) fn ended(&mut self, mut socket: Socket, why: Ending) -> Option<Conn> {
-        self.counts.ended(why);
-        send_close(&mut socket, why);
-        let until = self.now.saturating_add(self.limits.closing);
-        let closing = Closing { socket, why: None };
-        Some(Conn::ready(Stage::Closing(closing), until))
-    }
-
-    // A socket that is told later why it ends.
-    pub(crate) fn ended_later(&mut self, socket: Socket, why: Ending) -> Option<Conn> {
-        let until = self.now.saturating_add(self.limits.wrong_key);
-        let closing = Closing {
-            socket,
-            why: Some(why),
-        };
-        Some(Conn::waiting(Stage::Closing(closing), until))
     }
 
     // A link that is told why it ends.
@@ -265,41 +304,5 @@ impl<'a> Desk<'a> {
             self.end_all(Place::Document(number), why);
             self.house.shut(number);
         }
-    }
-
-    // Takes the connection out of a slot.
-    pub(crate) fn take_out(&mut self, slot: usize) -> Option<Conn> {
-        match self.conns.get_mut(slot) {
-            Some(place) => place.take(),
-            None => None,
-        }
-    }
-
-    // Puts a connection into a slot.
-    fn put_in(&mut self, slot: usize, conn: Conn) {
-        match self.conns.get_mut(slot) {
-            Some(place) => drop(mem::replace(place, Some(conn))),
-            None => drop(conn),
-        }
-    }
-
-    // Puts back what is left of a connection.
-    pub(crate) fn put_back(&mut self, slot: usize, left: Option<Conn>) {
-        let Some(conn) = left else {
-            let _ = self.freed.push(slot);
-            return;
-        };
-        if conn.unread {
-            let _ = self.again.push(slot);
-        }
-        self.put_in(slot, conn);
-    }
-
-    // How many connections stand.
-    pub(crate) fn open_count(&self) -> usize {
-        self.conns
-            .len()
-            .saturating_sub(self.free.len())
-            .saturating_sub(self.freed.len())
     }
 }

@@ -101,7 +101,7 @@ impl Entrance {
     }
 }
 
-impl<'a> Desk<'a> {
+impl<'a, D> Desk<'a, D> {
     // A slot for one more connection.
     fn new_slot(&mut self) -> io::Result<Option<usize>>
         ensures { vec_len self.old.conns ≤ self.old.limits.connections → vec_len self.new.conns ≤ self.old.limits.connections }

@@ -7,6 +7,7 @@ ghost use Rattle.host_edge.specs.Slowed.{waits, CountsWrong};
 
 use crate::desk::Desk;
 use host_http::{Credential, Part, Route, Status};
+use host_interface::HouseDocument;
 use host_socket::Network;
 
 /// Who asks: the device that he shows, and from where he comes, where wrong keys are counted.
@@ -32,7 +33,7 @@ pub(crate) enum Found<'r> {
 }
 
 // Whether a device that is open is shown by its secret.
-fn shows_device(desk: &Desk<'_>, credential: Option<Credential>) -> bool
+fn shows_device<D>(desk: &Desk<'_, D>, credential: Option<Credential>) -> bool
     ensures { result ≡ shows_device credential desk.entry.now.house.changes }
 {
     match credential {
@@ -42,7 +43,7 @@ fn shows_device(desk: &Desk<'_>, credential: Option<Credential>) -> bool
 }
 
 // Why what only devices are told isn't told to who asks. A wrong key is counted.
-fn check_key(desk: &mut Desk<'_>, asker: Asker) -> Option<Status>
+fn check_key<D>(desk: &mut Desk<'_, D>, asker: Asker) -> Option<Status>
     ensures checked { let slowed = waits asker.credential asker.from desk.old.now desk.old.limits desk.old.wrong_keys in
         result ≡ key_status slowed (shows_device asker.credential desk.old.house.changes) }
     ensures counted { (result ≡ Some Status.Unauthorized) → IsSome asker.credential → CountsWrong asker.from desk.old.now desk.old.wrong_keys desk.new.wrong_keys }
@@ -62,7 +63,7 @@ fn check_key(desk: &mut Desk<'_>, asker: Asker) -> Option<Status>
 }
 
 // The file of the page of this name.
-fn file_at<'r>(desk: &Desk<'_>, name: &str) -> Result<Found<'r>, Status> {
+fn file_at<'r, D>(desk: &Desk<'_, D>, name: &str) -> Result<Found<'r>, Status> {
     match desk.pages.find(name) {
         Some(number) => Ok(Found::File(number)),
         None => Err(Status::NotFound),
@@ -70,7 +71,11 @@ fn file_at<'r>(desk: &Desk<'_>, name: &str) -> Result<Found<'r>, Status> {
 }
 
 // A part of a document that is opened for it.
-fn opened_part<'r>(desk: &mut Desk<'_>, name: &str, part: Part) -> Result<Found<'r>, Status> {
+fn opened_part<'r, 'a, D: HouseDocument<'a>>(
+    desk: &mut Desk<'a, D>,
+    name: &str,
+    part: Part,
+) -> Result<Found<'r>, Status> {
     let Some(number) = desk.house.find(name) else {
         return Err(Status::NotFound);
     };
@@ -82,8 +87,8 @@ fn opened_part<'r>(desk: &mut Desk<'_>, name: &str, part: Part) -> Result<Found<
 }
 
 // A part of a document, for who shows a device's secret.
-fn part_at<'r>(
-    desk: &mut Desk<'_>,
+fn part_at<'r, 'a, D: HouseDocument<'a>>(
+    desk: &mut Desk<'a, D>,
     name: &str,
     part: Part,
     asker: Asker,
@@ -99,8 +104,8 @@ fn part_at<'r>(
 }
 
 // What stands at a part of the document of a name.
-fn document_at<'r>(
-    desk: &mut Desk<'_>,
+fn document_at<'r, 'a, D: HouseDocument<'a>>(
+    desk: &mut Desk<'a, D>,
     name: &'r str,
     part: Part,
     asker: Asker,
@@ -119,8 +124,8 @@ fn document_at<'r>(
 }
 
 /// What stands at a route, for who asks. Where it is refused whatever stands in the folder, nothing is opened.
-pub(crate) fn found_at<'r>(
-    desk: &mut Desk<'_>,
+pub(crate) fn found_at<'r, 'a, D: HouseDocument<'a>>(
+    desk: &mut Desk<'a, D>,
     route: &'r Route,
     asker: Asker,
 ) -> Result<Found<'r>, Status>

@@ -16,6 +16,7 @@ use edit_frame::{Frame, FrameFail, first_frame};
 use edit_message::Message;
 use host_core::{LinkId, Role};
 use host_house::{Consequence, Done};
+use host_interface::HouseDocument;
 use host_link::{Ending, HouseOrder, Said, caret_text, read_house_order, read_said};
 use host_socket::{After, Came, Happening, next_message, no_memory, send_text};
 use line_write::answer_line;
@@ -37,7 +38,7 @@ fn is_in(answer: &Answer) -> bool {
 }
 
 // Tells a link why its request isn't in.
-fn tell_answer(desk: &Desk<'_>, linked: &mut Linked, answer: &Answer) -> After {
+fn tell_answer<D>(desk: &Desk<'_, D>, linked: &mut Linked, answer: &Answer) -> After {
     if is_in(answer) {
         return After::More;
     }
@@ -53,8 +54,8 @@ fn tell_answer(desk: &Desk<'_>, linked: &mut Linked, answer: &Answer) -> After {
 }
 
 // Hands a message in to a document.
-fn hand_in(
-    desk: &mut Desk<'_>,
+fn hand_in<'a, D: HouseDocument<'a>>(
+    desk: &mut Desk<'a, D>,
     link: LinkId,
     number: usize,
     message: Message,
@@ -69,7 +70,12 @@ fn hand_in(
 }
 
 // Takes a message of the journal's kind.
-fn take_item(desk: &mut Desk<'_>, linked: &mut Linked, number: usize, message: Message) -> After {
+fn take_item<'a, D: HouseDocument<'a>>(
+    desk: &mut Desk<'a, D>,
+    linked: &mut Linked,
+    number: usize,
+    message: Message,
+) -> After {
     let taken = hand_in(desk, linked.link, number, message);
     desk.mark_unsaved(number);
     desk.counts.requests = desk.counts.requests.saturating_add(1);
@@ -111,8 +117,8 @@ fn first_item(alloc: Global, bytes: &[u8]) -> Result<(Message, usize), After>
 }
 
 // Takes the first frame of these bytes, and gives its length.
-fn take_frame(
-    desk: &mut Desk<'_>,
+fn take_frame<'a, D: HouseDocument<'a>>(
+    desk: &mut Desk<'a, D>,
     linked: &mut Linked,
     number: usize,
     bytes: &[u8],
@@ -128,7 +134,12 @@ fn take_frame(
 }
 
 // Takes frames for a document, one after another. What came in front of one that isn't taken stays.
-fn take_all(desk: &mut Desk<'_>, linked: &mut Linked, number: usize, bytes: &[u8]) -> After {
+fn take_all<'a, D: HouseDocument<'a>>(
+    desk: &mut Desk<'a, D>,
+    linked: &mut Linked,
+    number: usize,
+    bytes: &[u8],
+) -> After {
     let mut at = 0usize;
     for _ in 0..bytes.len() {
         let rest = bytes.get(at..).unwrap_or(&[]);
@@ -144,7 +155,11 @@ fn take_all(desk: &mut Desk<'_>, linked: &mut Linked, number: usize, bytes: &[u8
 }
 
 // Takes frames. A link to the house sends none, and a reader's neither: nothing is changed then.
-fn take_frames(desk: &mut Desk<'_>, linked: &mut Linked, bytes: &[u8]) -> After
+fn take_frames<'a, D: HouseDocument<'a>>(
+    desk: &mut Desk<'a, D>,
+    linked: &mut Linked,
+    bytes: &[u8],
+) -> After
     ensures { IfSome (refused_frames linked.old.place linked.old.writes) (λ why. (result ≡ After.Ends why) × (desk.new ≡ desk.old)) }
 {
     let Place::Document(number) = linked.place else {
@@ -157,7 +172,7 @@ fn take_frames(desk: &mut Desk<'_>, linked: &mut Linked, bytes: &[u8]) -> After
 }
 
 // Does what comes of an order.
-fn follow(desk: &mut Desk<'_>, consequence: Consequence) {
+fn follow<'a, D: HouseDocument<'a>>(desk: &mut Desk<'a, D>, consequence: Consequence) {
     match consequence {
         Consequence::Nothing => {}
         Consequence::People => desk.people_changed = true,
@@ -183,8 +198,8 @@ fn follow(desk: &mut Desk<'_>, consequence: Consequence) {
 }
 
 // Makes orders, or refuses them, as the role of the link's person says.
-fn make_order(
-    desk: &mut Desk<'_>,
+fn make_order<'a, D: HouseDocument<'a>>(
+    desk: &mut Desk<'a, D>,
     linked: &Linked,
     number: u32,
     lines: &str,
@@ -202,7 +217,7 @@ fn make_order(
 }
 
 // Keeps the answer of an order until all is saved.
-fn keep_answer(desk: &mut Desk<'_>, linked: &mut Linked, text: String) -> After {
+fn keep_answer<D>(desk: &mut Desk<'_, D>, linked: &mut Linked, text: String) -> After {
     if linked.answers.push(text).is_err() {
         return no_memory();
     }
@@ -217,7 +232,7 @@ fn keep_answer(desk: &mut Desk<'_>, linked: &mut Linked, text: String) -> After 
 }
 
 // Whether the document that a link leads to isn't open any more.
-fn is_shut(desk: &Desk<'_>, number: usize) -> bool {
+fn is_shut<'a, D: HouseDocument<'a>>(desk: &Desk<'a, D>, number: usize) -> bool {
     match desk.house.documents().get(number) {
         Some(document) => !document.is_open(),
         None => true,
@@ -226,8 +241,8 @@ fn is_shut(desk: &Desk<'_>, number: usize) -> bool {
 
 // Ends all links to a document that an order closed, the one that is served as the last. None of them may stay: the document's next
 // host gives the numbers of links anew. Answers go first where all was saved, which isn't so where a row broke off.
-fn leave_shut(
-    desk: &mut Desk<'_>,
+fn leave_shut<'a, D: HouseDocument<'a>>(
+    desk: &mut Desk<'a, D>,
     linked: &mut Linked,
     number: usize,
     consequence: Consequence,
@@ -246,7 +261,7 @@ fn leave_shut(
 }
 
 // Whether an owner orders a renewal, which ends the links of a document.
-fn orders_renewal(desk: &Desk<'_>, linked: &Linked, lines: &str) -> bool {
+fn orders_renewal<D>(desk: &Desk<'_, D>, linked: &Linked, lines: &str) -> bool {
     let is_owner = desk.house.role(linked.person) == Some(Role::Owner);
     match read_house_order(lines) {
         Some(HouseOrder::Renew { .. }) => is_owner,
@@ -257,8 +272,8 @@ fn orders_renewal(desk: &Desk<'_>, linked: &Linked, lines: &str) -> bool {
 
 // Takes orders. In front of a renewal all that came is saved and each link is given what it lacks, so that who is ended by it knows
 // what of his the host has.
-fn take_order(
-    desk: &mut Desk<'_>,
+fn take_order<'a, D: HouseDocument<'a>>(
+    desk: &mut Desk<'a, D>,
     linked: &mut Linked,
     slot: usize,
     number: u32,
@@ -277,7 +292,12 @@ fn take_order(
 }
 
 // Does what is ordered, and what comes of it.
-fn do_order(desk: &mut Desk<'_>, linked: &mut Linked, number: u32, lines: &str) -> After {
+fn do_order<'a, D: HouseDocument<'a>>(
+    desk: &mut Desk<'a, D>,
+    linked: &mut Linked,
+    number: u32,
+    lines: &str,
+) -> After {
     let Ok(done) = make_order(desk, linked, number, lines) else {
         return no_memory();
     };
@@ -300,7 +320,7 @@ fn do_order(desk: &mut Desk<'_>, linked: &mut Linked, number: u32, lines: &str) 
 }
 
 // Passes a caret on to the others of the room.
-fn take_caret(desk: &mut Desk<'_>, linked: &Linked, slot: usize, words: &str) -> After {
+fn take_caret<D>(desk: &mut Desk<'_, D>, linked: &Linked, slot: usize, words: &str) -> After {
     let Ok(text) = caret_text(desk.alloc, linked.site, words) else {
         return no_memory();
     };
@@ -312,7 +332,12 @@ fn take_caret(desk: &mut Desk<'_>, linked: &Linked, slot: usize, words: &str) ->
 }
 
 // Does what a text says.
-fn take_text(desk: &mut Desk<'_>, linked: &mut Linked, slot: usize, text: &str) -> After {
+fn take_text<'a, D: HouseDocument<'a>>(
+    desk: &mut Desk<'a, D>,
+    linked: &mut Linked,
+    slot: usize,
+    text: &str,
+) -> After {
     match read_said(text) {
         Said::Order { number, lines } => take_order(desk, linked, slot, number, lines),
         Said::Caret(words) => take_caret(desk, linked, slot, words),
@@ -321,7 +346,11 @@ fn take_text(desk: &mut Desk<'_>, linked: &mut Linked, slot: usize, text: &str) 
 }
 
 // Reads the next message of a link, and does what it says.
-fn read_message(desk: &mut Desk<'_>, linked: &mut Linked, slot: usize) -> After {
+fn read_message<'a, D: HouseDocument<'a>>(
+    desk: &mut Desk<'a, D>,
+    linked: &mut Linked,
+    slot: usize,
+) -> After {
     match next_message(desk.alloc, &mut linked.socket) {
         Came::Frames(bytes) => take_frames(desk, linked, &bytes),
         Came::Text(text) => take_text(desk, linked, slot, text.as_str()),
@@ -331,7 +360,12 @@ fn read_message(desk: &mut Desk<'_>, linked: &mut Linked, slot: usize) -> After 
 }
 
 // Reads what came on a link, and says until when more has to come.
-fn read_linked(desk: &mut Desk<'_>, linked: &mut Linked, slot: usize, until: &mut u64) -> After {
+fn read_linked<'a, D: HouseDocument<'a>>(
+    desk: &mut Desk<'a, D>,
+    linked: &mut Linked,
+    slot: usize,
+    until: &mut u64,
+) -> After {
     for _ in 0..MOST_READ {
         match read_message(desk, linked, slot) {
             After::More => *until = desk.now.saturating_add(desk.limits.silent),
@@ -342,7 +376,7 @@ fn read_linked(desk: &mut Desk<'_>, linked: &mut Linked, slot: usize, until: &mu
 }
 
 // Whether a link has to be served again though no event will say so.
-fn has_more(desk: &mut Desk<'_>, linked: &Linked) -> bool {
+fn has_more<'a, D: HouseDocument<'a>>(desk: &mut Desk<'a, D>, linked: &Linked) -> bool {
     if linked.blocked.is_some() {
         return false;
     }
@@ -356,8 +390,8 @@ fn has_more(desk: &mut Desk<'_>, linked: &Linked) -> bool {
 }
 
 /// What is left of a link.
-pub(crate) fn left_of(
-    desk: &mut Desk<'_>,
+pub(crate) fn left_of<'a, D: HouseDocument<'a>>(
+    desk: &mut Desk<'a, D>,
     slot: usize,
     linked: Linked,
     after: After,
@@ -379,8 +413,8 @@ pub(crate) fn left_of(
 }
 
 /// Goes on with a link: sends what it is to be told, and reads what came.
-pub(crate) fn serve_linked(
-    desk: &mut Desk<'_>,
+pub(crate) fn serve_linked<'a, D: HouseDocument<'a>>(
+    desk: &mut Desk<'a, D>,
     slot: usize,
     mut linked: Linked,
     mut until: u64,

@@ -10,6 +10,7 @@ use crate::linking::serve_linked;
 use crate::room::Seat;
 use host_core::{LinkId, Role};
 use host_house::{Admitted, House};
+use host_interface::HouseDocument;
 use host_link::{
     Claim, Ending, Identity, NotOpening, Opening, device_text, read_opening, welcome_text,
 };
@@ -23,7 +24,7 @@ const MOST_AT_ONCE: u32 = 16;
 const NO_NAME: &str = "-";
 
 // Lets a link in to the house.
-fn enter_house(desk: &Desk<'_>, claim: &Claim) -> Result<Admitted, Ending>
+fn enter_house<D>(desk: &Desk<'_, D>, claim: &Claim) -> Result<Admitted, Ending>
     ensures key { IfOk result (λ admitted. HoldsKey admitted.person claim.now.site claim.now.secret desk.entry.now.house.changes) }
 {
     if claim.document.is_some() || claim.from != 0 {
@@ -44,7 +45,11 @@ fn enter_house(desk: &Desk<'_>, claim: &Claim) -> Result<Admitted, Ending>
 }
 
 // Lets a link in to the document of a number.
-fn enter_document(desk: &mut Desk<'_>, number: usize, claim: &Claim) -> Result<Admitted, Ending>
+fn enter_document<'a, D: HouseDocument<'a>>(
+    desk: &mut Desk<'a, D>,
+    number: usize,
+    claim: &Claim,
+) -> Result<Admitted, Ending>
     ensures key { IfOk result (λ admitted. HoldsKey admitted.person claim.now.site claim.now.secret desk.old.house.changes) }
     ensures others { desk.new ≡ record desk.old { house = desk.new.house; rooms = desk.new.rooms } }
 {
@@ -55,7 +60,11 @@ fn enter_document(desk: &mut Desk<'_>, number: usize, claim: &Claim) -> Result<A
 }
 
 // Lets a link in where it wants to.
-fn enter(desk: &mut Desk<'_>, place: Place, claim: &Claim) -> Result<Admitted, Ending>
+fn enter<'a, D: HouseDocument<'a>>(
+    desk: &mut Desk<'a, D>,
+    place: Place,
+    claim: &Claim,
+) -> Result<Admitted, Ending>
     ensures key { IfOk result (λ admitted. HoldsKey admitted.person claim.now.site claim.now.secret desk.old.house.changes) }
     ensures others { desk.new ≡ record desk.old { house = desk.new.house; rooms = desk.new.rooms } }
 {
@@ -66,8 +75,8 @@ fn enter(desk: &mut Desk<'_>, place: Place, claim: &Claim) -> Result<Admitted, E
 }
 
 // Lets a link in that comes from there, unless it has to wait: then nothing is looked at. A wrong key is counted.
-fn enter_from(
-    desk: &mut Desk<'_>,
+fn enter_from<'a, D: HouseDocument<'a>>(
+    desk: &mut Desk<'a, D>,
     from: Option<Network>,
     place: Place,
     claim: &Claim,
@@ -86,7 +95,7 @@ fn enter_from(
 }
 
 // What a welcome says of a place: its identity, and how many messages of its journal are saved.
-fn identity_of(desk: &mut Desk<'_>, place: Place) -> (Identity, u32) {
+fn identity_of<'a, D: HouseDocument<'a>>(desk: &mut Desk<'a, D>, place: Place) -> (Identity, u32) {
     let nothing = ([0; 16], 0);
     match place {
         Place::House => nothing,
@@ -98,8 +107,8 @@ fn identity_of(desk: &mut Desk<'_>, place: Place) -> (Identity, u32) {
 }
 
 // Tells a link that it is in.
-fn tell_welcome(
-    desk: &mut Desk<'_>,
+fn tell_welcome<'a, D: HouseDocument<'a>>(
+    desk: &mut Desk<'a, D>,
     socket: &mut Socket,
     place: Place,
     admitted: &Admitted,
@@ -120,7 +129,7 @@ fn tell_welcome(
 }
 
 // The name of a document.
-fn document_name<'d>(house: &'d House<'_>, number: usize) -> &'d str {
+fn document_name<'d, 'a, D: HouseDocument<'a>>(house: &'d House<'a, D>, number: usize) -> &'d str {
     match house.documents().get(number) {
         Some(document) => document.name(),
         None => NO_NAME,
@@ -128,7 +137,7 @@ fn document_name<'d>(house: &'d House<'_>, number: usize) -> &'d str {
 }
 
 // Notes that a link was welcomed.
-fn note_linked(desk: &mut Desk<'_>, place: Place, site: u16) {
+fn note_linked<'a, D: HouseDocument<'a>>(desk: &mut Desk<'a, D>, place: Place, site: u16) {
     let name = match place {
         Place::House => String::from_str(desk.alloc, NO_NAME),
         Place::Document(number) => {
@@ -141,7 +150,7 @@ fn note_linked(desk: &mut Desk<'_>, place: Place, site: u16) {
 }
 
 // The link of a socket that was let in.
-fn linked_of(desk: &Desk<'_>, unknown: Unknown, admitted: &Admitted) -> Linked
+fn linked_of<D>(desk: &Desk<'_, D>, unknown: Unknown, admitted: &Admitted) -> Linked
     ensures place { result.place ≡ unknown.place }
     ensures link { result.link ≡ admitted.now.link }
     ensures person { result.person ≡ admitted.now.person }
@@ -164,7 +173,11 @@ fn linked_of(desk: &Desk<'_>, unknown: Unknown, admitted: &Admitted) -> Linked
 }
 
 // Goes on with a link that was told that it is in, and has its seat.
-fn begin_linked(desk: &mut Desk<'_>, slot: usize, linked: Linked) -> Option<Conn> {
+fn begin_linked<'a, D: HouseDocument<'a>>(
+    desk: &mut Desk<'a, D>,
+    slot: usize,
+    linked: Linked,
+) -> Option<Conn> {
     desk.counts.links = desk.counts.links.saturating_add(1);
     note_linked(desk, linked.place, linked.site);
     let until = desk.now.saturating_add(desk.limits.silent);
@@ -172,8 +185,8 @@ fn begin_linked(desk: &mut Desk<'_>, slot: usize, linked: Linked) -> Option<Conn
 }
 
 // Welcomes a socket that was let in, and goes on with it.
-fn welcome(
-    desk: &mut Desk<'_>,
+fn welcome<'a, D: HouseDocument<'a>>(
+    desk: &mut Desk<'a, D>,
     slot: usize,
     mut unknown: Unknown,
     admitted: &Admitted,
@@ -198,8 +211,8 @@ fn welcome(
 
 // Makes a device of who comes from there and shows an invitation, unless he has to wait: then nothing is looked at. A wrong key is
 // counted.
-fn join_from(
-    desk: &mut Desk<'_>,
+fn join_from<D>(
+    desk: &mut Desk<'_, D>,
     from: Option<Network>,
     secret: &Secret,
 ) -> Result<(u16, Secret), Ending>
@@ -216,7 +229,7 @@ fn join_from(
 }
 
 // Makes a device, and tells its secret.
-fn join(desk: &mut Desk<'_>, unknown: &mut Unknown, secret: &Secret) -> After {
+fn join<D>(desk: &mut Desk<'_, D>, unknown: &mut Unknown, secret: &Secret) -> After {
     let (site, own) = match join_from(desk, unknown.from, secret) {
         Ok(made) => made,
         Err(why) => return After::Ends(why),
@@ -230,7 +243,7 @@ fn join(desk: &mut Desk<'_>, unknown: &mut Unknown, secret: &Secret) -> After {
 }
 
 // A socket that isn't let in. Who showed a wrong secret is told so later.
-fn turn_away(desk: &mut Desk<'_>, socket: Socket, why: Ending) -> Option<Conn> {
+fn turn_away<D>(desk: &mut Desk<'_, D>, socket: Socket, why: Ending) -> Option<Conn> {
     match why {
         Ending::WrongSecret => desk.ended_later(socket, why),
         _ => desk.ended(socket, why),
@@ -238,7 +251,7 @@ fn turn_away(desk: &mut Desk<'_>, socket: Socket, why: Ending) -> Option<Conn> {
 }
 
 // Makes a device of who shows an invitation. The socket has then as long again to say which device it is.
-fn do_join(desk: &mut Desk<'_>, mut unknown: Unknown, secret: &Secret) -> Option<Conn> {
+fn do_join<D>(desk: &mut Desk<'_, D>, mut unknown: Unknown, secret: &Secret) -> Option<Conn> {
     match join(desk, &mut unknown, secret) {
         After::Ends(why) => turn_away(desk, unknown.socket, why),
         After::Gone => {
@@ -253,7 +266,12 @@ fn do_join(desk: &mut Desk<'_>, mut unknown: Unknown, secret: &Secret) -> Option
 }
 
 // Lets a link in that says which device it is, or turns it away.
-fn do_hello(desk: &mut Desk<'_>, slot: usize, unknown: Unknown, claim: &Claim) -> Option<Conn> {
+fn do_hello<'a, D: HouseDocument<'a>>(
+    desk: &mut Desk<'a, D>,
+    slot: usize,
+    unknown: Unknown,
+    claim: &Claim,
+) -> Option<Conn> {
     match enter_from(desk, unknown.from, unknown.place, claim) {
         Ok(admitted) => welcome(desk, slot, unknown, &admitted),
         Err(why) => turn_away(desk, unknown.socket, why),
@@ -261,7 +279,12 @@ fn do_hello(desk: &mut Desk<'_>, slot: usize, unknown: Unknown, claim: &Claim) -
 }
 
 // Does what a first message asks for.
-fn do_opening(desk: &mut Desk<'_>, slot: usize, unknown: Unknown, text: &str) -> Option<Conn> {
+fn do_opening<'a, D: HouseDocument<'a>>(
+    desk: &mut Desk<'a, D>,
+    slot: usize,
+    unknown: Unknown,
+    text: &str,
+) -> Option<Conn> {
     match read_opening(text) {
         Err(NotOpening::OtherVersion) => desk.ended(unknown.socket, Ending::OtherVersion),
         Err(NotOpening::Bad) => desk.ended(unknown.socket, Ending::BadMessage),
@@ -271,7 +294,7 @@ fn do_opening(desk: &mut Desk<'_>, slot: usize, unknown: Unknown, text: &str) ->
 }
 
 // What comes first on a socket; nothing where it says too little for too often.
-fn next_said(desk: &Desk<'_>, socket: &mut Socket) -> Came {
+fn next_said<D>(desk: &Desk<'_, D>, socket: &mut Socket) -> Came {
     for _ in 0..MOST_AT_ONCE {
         match next_message(desk.alloc, socket) {
             Came::Nothing => {}
@@ -282,7 +305,7 @@ fn next_said(desk: &Desk<'_>, socket: &mut Socket) -> Came {
 }
 
 // What becomes of a socket on which nothing was said.
-fn unsaid(desk: &mut Desk<'_>, unknown: Unknown, after: After, until: u64) -> Option<Conn> {
+fn unsaid<D>(desk: &mut Desk<'_, D>, unknown: Unknown, after: After, until: u64) -> Option<Conn> {
     match after {
         After::Ends(why) => desk.ended(unknown.socket, why),
         After::Gone => {
@@ -294,8 +317,8 @@ fn unsaid(desk: &mut Desk<'_>, unknown: Unknown, after: After, until: u64) -> Op
 }
 
 /// Waits for the first message of a socket.
-pub(crate) fn serve_unknown(
-    desk: &mut Desk<'_>,
+pub(crate) fn serve_unknown<'a, D: HouseDocument<'a>>(
+    desk: &mut Desk<'a, D>,
     slot: usize,
     mut unknown: Unknown,
     until: u64,

@@ -13,7 +13,7 @@ use crate::linking::left_of;
 use crate::telling::tell_news;
 use edit_frame::{Frame, encode};
 use host_core::LinkId;
-use host_document::Document;
+use host_interface::HouseDocument;
 use host_link::{Ending, FRAMES_AT_ONCE};
 use host_socket::{After, Socket, flush, send_frames, send_text};
 use std::alloc::Global;
@@ -23,14 +23,14 @@ use std::mem;
 const MOST_SENT: u32 = 4;
 
 // Puts the frame of the next message for a link behind others, if it lacks one that is saved, and says whether it does.
-fn put_next(
+fn put_next<'a, D: HouseDocument<'a>>(
     alloc: Global,
-    document: &mut Document<'_>,
+    document: &mut D,
     link: LinkId,
     frames: &mut Vec<u8>,
 ) -> Result<bool, Ending>
     ensures put { IfOk result (λ is_put. is_put ≡ true
-        → (m : Message) × (document.new ≡ behind_gift link m document.old) × (frames.new.items ≡ frames.old.items ++ spelling (Item m))) }
+        → (m : Message) × (D.past document.new ≡ behind_gift link m (D.past document.old)) × (frames.new.items ≡ frames.old.items ++ spelling (Item m))) }
     ensures left { IfOk result (λ is_put. is_put ≡ false
         → (document.new ≡ document.old) × (frames.new.items ≡ frames.old.items)) }
 {
@@ -47,13 +47,13 @@ fn put_next(
 }
 
 // Puts the frames of the next messages for a link behind others, up to the size at which a message ends, and says how many.
-fn put_frames(
+fn put_frames<'a, D: HouseDocument<'a>>(
     alloc: Global,
-    document: &mut Document<'_>,
+    document: &mut D,
     link: LinkId,
     frames: &mut Vec<u8>,
 ) -> Result<usize, Ending>
-    ensures { IfOk result (λ count. GivesFrames link count document.old document.new frames.old.items frames.new.items) }
+    ensures { IfOk result (λ count. GivesFrames link count (D.past document.old) (D.past document.new) frames.old.items frames.new.items) }
 {
     for count in 0..FRAMES_AT_ONCE {
         if frames.len() >= FRAMES_AT_ONCE || !put_next(alloc, document, link, frames)? {
@@ -64,8 +64,8 @@ fn put_frames(
 }
 
 // The frames of the next messages for a link, behind others, and how many.
-fn next_frames(
-    desk: &mut Desk<'_>,
+fn next_frames<'a, D: HouseDocument<'a>>(
+    desk: &mut Desk<'a, D>,
     number: usize,
     link: LinkId,
     frames: &mut Vec<u8>,
@@ -80,7 +80,11 @@ fn next_frames(
 }
 
 // Sends a link a message of frames. `None` where it lacks nothing.
-fn push_frames(desk: &mut Desk<'_>, linked: &mut Linked, number: usize) -> Option<After>
+fn push_frames<'a, D: HouseDocument<'a>>(
+    desk: &mut Desk<'a, D>,
+    linked: &mut Linked,
+    number: usize,
+) -> Option<After>
     ensures { IfSome result (λ after. socket_stays after ≡ true → SendsGifts linked.old.link linked.old.socket linked.new.socket) }
 {
     let mut frames = Vec::new(desk.alloc);
@@ -95,7 +99,7 @@ fn push_frames(desk: &mut Desk<'_>, linked: &mut Linked, number: usize) -> Optio
 }
 
 // Sends a link what it lacks of what is saved, as long as its socket takes it.
-fn push_items(desk: &mut Desk<'_>, linked: &mut Linked) -> After {
+fn push_items<'a, D: HouseDocument<'a>>(desk: &mut Desk<'a, D>, linked: &mut Linked) -> After {
     let Place::Document(number) = linked.place else {
         return After::More;
     };
@@ -122,7 +126,7 @@ fn send_texts(alloc: Global, socket: &mut Socket, texts: &[String]) -> After {
 }
 
 /// Sends a link the answers that are kept for it. What they tell of is saved.
-pub(crate) fn send_answers(desk: &Desk<'_>, linked: &mut Linked) -> After {
+pub(crate) fn send_answers<D>(desk: &Desk<'_, D>, linked: &mut Linked) -> After {
     let answers = mem::replace(&mut linked.answers, Vec::new(desk.alloc));
     let after = send_texts(desk.alloc, &mut linked.socket, &answers);
     drop(answers);
@@ -131,7 +135,10 @@ pub(crate) fn send_answers(desk: &Desk<'_>, linked: &mut Linked) -> After {
 
 // Whether a link is told the answers that are kept for it: at a document once its host says that all is saved, at the house
 // behind the turn in which the last one came.
-fn may_tell(desk: &mut Desk<'_>, linked: &Linked) -> Result<bool, Ending>
+fn may_tell<'a, D: HouseDocument<'a>>(
+    desk: &mut Desk<'a, D>,
+    linked: &Linked,
+) -> Result<bool, Ending>
     ensures house { linked.now.place ≡ Place.House → result ≡ Ok (nat_lt linked.now.answered desk.old.turn) }
 {
     match linked.place {
@@ -144,7 +151,7 @@ fn may_tell(desk: &mut Desk<'_>, linked: &Linked) -> Result<bool, Ending>
 }
 
 // Sends the answers of orders that were saved.
-fn push_answers(desk: &mut Desk<'_>, linked: &mut Linked) -> After {
+fn push_answers<'a, D: HouseDocument<'a>>(desk: &mut Desk<'a, D>, linked: &mut Linked) -> After {
     if linked.answers.is_empty() {
         return After::More;
     }
@@ -156,7 +163,11 @@ fn push_answers(desk: &mut Desk<'_>, linked: &mut Linked) -> After {
 }
 
 // Sends a link all that it is to be told, unless its socket takes nothing.
-fn push_all(desk: &mut Desk<'_>, linked: &mut Linked, slot: usize) -> After {
+fn push_all<'a, D: HouseDocument<'a>>(
+    desk: &mut Desk<'a, D>,
+    linked: &mut Linked,
+    slot: usize,
+) -> After {
     if linked.blocked.is_some() {
         match flush(&mut linked.socket) {
             After::More => linked.blocked = None,
@@ -175,7 +186,11 @@ fn push_all(desk: &mut Desk<'_>, linked: &mut Linked, slot: usize) -> After {
 }
 
 /// Sends a link all that it is to be told, and notes since when its socket takes nothing.
-pub(crate) fn push(desk: &mut Desk<'_>, linked: &mut Linked, slot: usize) -> After {
+pub(crate) fn push<'a, D: HouseDocument<'a>>(
+    desk: &mut Desk<'a, D>,
+    linked: &mut Linked,
+    slot: usize,
+) -> After {
     let after = push_all(desk, linked, slot);
     if after == After::Waits && linked.blocked.is_none() {
         linked.blocked = Some(desk.now);
@@ -184,8 +199,8 @@ pub(crate) fn push(desk: &mut Desk<'_>, linked: &mut Linked, slot: usize) -> Aft
 }
 
 // Sends a link what it is to be told, and reads nothing.
-fn push_linked(
-    desk: &mut Desk<'_>,
+fn push_linked<'a, D: HouseDocument<'a>>(
+    desk: &mut Desk<'a, D>,
     slot: usize,
     mut linked: Linked,
     until: u64,
@@ -196,7 +211,11 @@ fn push_linked(
 }
 
 // Sends a connection what it is to be told, if it is a link.
-fn push_conn(desk: &mut Desk<'_>, slot: usize, conn: Conn) -> Option<Conn> {
+fn push_conn<'a, D: HouseDocument<'a>>(
+    desk: &mut Desk<'a, D>,
+    slot: usize,
+    conn: Conn,
+) -> Option<Conn> {
     let Conn {
         stage,
         until,
@@ -212,15 +231,7 @@ fn push_conn(desk: &mut Desk<'_>, slot: usize, conn: Conn) -> Option<Conn> {
     }
 }
 
-impl<'a> Desk<'a> {
-    // Sends the link of a slot what it is to be told.
-    fn push_slot(&mut self, slot: usize) {
-        if let Some(conn) = self.take_out(slot) {
-            let left = push_conn(self, slot, conn);
-            self.put_back(slot, left);
-        }
-    }
-
+impl<'a, D> Desk<'a, D> {
     // Whether the links at a place are to be told something. From now on they count as told.
     fn take_must_push(&mut self, place: Place) -> bool {
         match self.room(place) {
@@ -234,6 +245,16 @@ impl<'a> Desk<'a> {
         let alloc = self.alloc;
         if let Some(room) = self.room(place) {
             drop(mem::replace(&mut room.carets, Vec::new(alloc)));
+        }
+    }
+}
+
+impl<'a, D: HouseDocument<'a>> Desk<'a, D> {
+    // Sends the link of a slot what it is to be told.
+    fn push_slot(&mut self, slot: usize) {
+        if let Some(conn) = self.take_out(slot) {
+            let left = push_conn(self, slot, conn);
+            self.put_back(slot, left);
         }
     }
 

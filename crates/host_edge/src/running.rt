@@ -4,6 +4,7 @@ use crate::conn::Place;
 use crate::desk::Desk;
 use crate::entrance::{Entrance, LISTENER};
 use crate::serving::{expire_conn, serve_conn};
+use host_interface::HouseDocument;
 use log::{Log, info};
 use mio::Events;
 use std::net::SocketAddr;
@@ -20,7 +21,67 @@ const WAIT: u64 = 250;
 // How often each connection is looked at, in milliseconds.
 const SWEEP: u64 = 1_000;
 
-impl<'a> Desk<'a> {
+impl<'a, D> Desk<'a, D> {
+    // Makes news of a room's changes.
+    fn renew(&mut self, place: Place, people_changed: bool) {
+        if let Some(room) = self.room(place) {
+            room.renew();
+            room.must_push = room.must_push || people_changed;
+        }
+    }
+
+    // Makes news of what changed, once a while.
+    fn tell(&mut self) {
+        if self.now < self.told.saturating_add(self.limits.news) {
+            return;
+        }
+        self.told = self.now;
+        let people_changed = mem::replace(&mut self.people_changed, false);
+        if people_changed {
+            self.people = self.people.saturating_add(1);
+        }
+        for number in 0..self.rooms.len() {
+            self.renew(Place::Document(number), people_changed);
+        }
+        self.renew(Place::House, people_changed);
+    }
+
+    // The slots that became free in this turn can be used from now on. Where memory is wanting one is never used again.
+    fn free_slots(&mut self) {
+        let alloc = self.alloc;
+        for slot in mem::replace(&mut self.freed, Vec::new(alloc)) {
+            let _ = self.free.push(slot);
+        }
+    }
+
+    // Writes the log of a turn.
+    fn log_turn(&mut self, log: &impl Log) {
+        let alloc = self.alloc;
+        let happened = mem::replace(&mut self.happened, Vec::new(alloc));
+        for what in &happened {
+            info!(log; "{what}");
+        }
+        drop(happened);
+    }
+
+    // How long a turn may wait for events, in milliseconds.
+    fn pause(&self, entrance: &Entrance) -> u64 {
+        if !self.again.is_empty() || self.is_any_unsaved() || entrance.is_busy(self.now) {
+            0
+        } else {
+            WAIT
+        }
+    }
+
+    // The milliseconds since a start.
+    fn time_since(&self, start: Instant) -> io::Result<u64> {
+        let passed = Instant::now(self.rt)?.saturating_duration_since(start);
+        let seconds = passed.as_secs().saturating_mul(1_000);
+        Ok(seconds.saturating_add(u64::from(passed.subsec_millis())))
+    }
+}
+
+impl<'a, D: HouseDocument<'a>> Desk<'a, D> {
     // Goes on with the connection of a slot.
     fn serve(&mut self, slot: usize) {
         if let Some(conn) = self.take_out(slot) {
@@ -57,38 +118,6 @@ impl<'a> Desk<'a> {
         self.shut_idle();
     }
 
-    // Makes news of a room's changes.
-    fn renew(&mut self, place: Place, people_changed: bool) {
-        if let Some(room) = self.room(place) {
-            room.renew();
-            room.must_push = room.must_push || people_changed;
-        }
-    }
-
-    // Makes news of what changed, once a while.
-    fn tell(&mut self) {
-        if self.now < self.told.saturating_add(self.limits.news) {
-            return;
-        }
-        self.told = self.now;
-        let people_changed = mem::replace(&mut self.people_changed, false);
-        if people_changed {
-            self.people = self.people.saturating_add(1);
-        }
-        for number in 0..self.rooms.len() {
-            self.renew(Place::Document(number), people_changed);
-        }
-        self.renew(Place::House, people_changed);
-    }
-
-    // The slots that became free in this turn can be used from now on. Where memory is wanting one is never used again.
-    fn free_slots(&mut self) {
-        let alloc = self.alloc;
-        for slot in mem::replace(&mut self.freed, Vec::new(alloc)) {
-            let _ = self.free.push(slot);
-        }
-    }
-
     // What is done in a turn behind the events.
     fn end_turn(&mut self) {
         self.sweep();
@@ -98,16 +127,6 @@ impl<'a> Desk<'a> {
         self.seal();
         self.push_rooms();
         self.free_slots();
-    }
-
-    // Writes the log of a turn.
-    fn log_turn(&mut self, log: &impl Log) {
-        let alloc = self.alloc;
-        let happened = mem::replace(&mut self.happened, Vec::new(alloc));
-        for what in &happened {
-            info!(log; "{what}");
-        }
-        drop(happened);
     }
 
     // Does what the events say.
@@ -120,22 +139,6 @@ impl<'a> Desk<'a> {
                 self.serve(token.0);
             }
         }
-    }
-
-    // How long a turn may wait for events, in milliseconds.
-    fn pause(&self, entrance: &Entrance) -> u64 {
-        if !self.again.is_empty() || self.is_any_unsaved() || entrance.is_busy(self.now) {
-            0
-        } else {
-            WAIT
-        }
-    }
-
-    // The milliseconds since a start.
-    fn time_since(&self, start: Instant) -> io::Result<u64> {
-        let passed = Instant::now(self.rt)?.saturating_duration_since(start);
-        let seconds = passed.as_secs().saturating_mul(1_000);
-        Ok(seconds.saturating_add(u64::from(passed.subsec_millis())))
     }
 
     // Waits for what comes at an entrance, and takes it.

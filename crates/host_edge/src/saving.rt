@@ -3,6 +3,7 @@ ghost use Rattle.std.specs.Prelude.{◌≡◌};
 
 use crate::conn::Place;
 use crate::desk::Desk;
+use host_interface::HouseDocument;
 use host_link::Ending;
 use host_socket::Happening;
 use std::mem;
@@ -10,7 +11,7 @@ use std::mem;
 // How often what was saved is sealed, in milliseconds.
 const SEALING: u64 = 60_000;
 
-impl<'a> Desk<'a> {
+impl<'a, D> Desk<'a, D> {
     // Notes that a document has something that isn't saved.
     pub(crate) fn mark_unsaved(&mut self, number: usize)
         ensures { self.new ≡ record self.old { rooms = self.new.rooms } }
@@ -41,6 +42,24 @@ impl<'a> Desk<'a> {
         }
     }
 
+    // Whether a document has something to be saved. From now on it counts as saved.
+    fn take_unsaved(&mut self, number: usize) -> bool {
+        match self.rooms.get_mut(number) {
+            Some(room) => mem::replace(&mut room.is_unsaved, false),
+            None => false,
+        }
+    }
+
+    // Whether nobody was at a document for long.
+    fn is_idle(&self, number: usize) -> bool {
+        match self.rooms.get(number) {
+            Some(room) => room.is_idle(self.now, self.limits.idle),
+            None => false,
+        }
+    }
+}
+
+impl<'a, D: HouseDocument<'a>> Desk<'a, D> {
     // Saves a document. Where that fails for good, its links end and it is given up.
     fn commit_one(&mut self, number: usize) {
         let Some(document) = self.house.document(number) else {
@@ -64,20 +83,10 @@ impl<'a> Desk<'a> {
         let Some(document) = self.house.documents().get(number) else {
             return;
         };
-        let state = document.state_word();
-        if let Ok(name) = String::from_str(alloc, document.name()) {
-            self.note(Happening::Broken {
-                document: name,
-                state,
-            });
-        }
-    }
-
-    // Whether a document has something to be saved. From now on it counts as saved.
-    fn take_unsaved(&mut self, number: usize) -> bool {
-        match self.rooms.get_mut(number) {
-            Some(room) => mem::replace(&mut room.is_unsaved, false),
-            None => false,
+        let name = String::from_str(alloc, document.name());
+        let state = String::from_str(alloc, document.state_word());
+        if let (Ok(document), Ok(state)) = (name, state) {
+            self.note(Happening::Broken { document, state });
         }
     }
 
@@ -98,14 +107,6 @@ impl<'a> Desk<'a> {
         }
         self.sealed = self.now;
         self.house.seal();
-    }
-
-    // Whether nobody was at a document for long.
-    fn is_idle(&self, number: usize) -> bool {
-        match self.rooms.get(number) {
-            Some(room) => room.is_idle(self.now, self.limits.idle),
-            None => false,
-        }
     }
 
     // Closes the documents where nobody was for long.

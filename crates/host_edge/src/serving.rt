@@ -5,6 +5,7 @@ use crate::desk::Desk;
 use crate::linking::serve_linked;
 use crate::opening::serve_unknown;
 use crate::web::{serve_answering, serve_asking};
+use host_interface::HouseDocument;
 use host_link::Ending;
 use host_socket::{After, await_close, send_ping};
 
@@ -22,7 +23,11 @@ fn serve_closing(mut closing: Closing, until: u64) -> Option<Conn> {
 }
 
 /// Goes on with a connection that may be ready. None where it is gone.
-pub(crate) fn serve_conn(desk: &mut Desk<'_>, slot: usize, conn: Conn) -> Option<Conn> {
+pub(crate) fn serve_conn<'a, D: HouseDocument<'a>>(
+    desk: &mut Desk<'a, D>,
+    slot: usize,
+    conn: Conn,
+) -> Option<Conn> {
     let Conn {
         stage,
         until,
@@ -38,7 +43,7 @@ pub(crate) fn serve_conn(desk: &mut Desk<'_>, slot: usize, conn: Conn) -> Option
 }
 
 // Pings a link whose time for it has come, unless its socket takes nothing.
-fn ping(desk: &Desk<'_>, linked: &mut Linked) -> After {
+fn ping<D>(desk: &Desk<'_, D>, linked: &mut Linked) -> After {
     if desk.now < linked.ping_at || linked.blocked.is_some() {
         return After::More;
     }
@@ -51,7 +56,7 @@ fn ping(desk: &Desk<'_>, linked: &mut Linked) -> After {
 }
 
 // Whether the socket of a link has taken nothing for too long.
-fn is_slow(desk: &Desk<'_>, linked: &Linked) -> bool {
+fn is_slow<D>(desk: &Desk<'_, D>, linked: &Linked) -> bool {
     match linked.blocked {
         Some(since) => desk.now > since.saturating_add(desk.limits.slow),
         None => false,
@@ -59,8 +64,8 @@ fn is_slow(desk: &Desk<'_>, linked: &Linked) -> bool {
 }
 
 // Looks whether a link is silent or slow, and pings it.
-fn expire_linked(
-    desk: &mut Desk<'_>,
+fn expire_linked<'a, D: HouseDocument<'a>>(
+    desk: &mut Desk<'a, D>,
     slot: usize,
     mut linked: Linked,
     until: u64,
@@ -84,7 +89,7 @@ fn expire_linked(
 }
 
 // What a socket that ends becomes when its time is up.
-fn expire_closing(desk: &mut Desk<'_>, closing: Closing) -> Option<Conn> {
+fn expire_closing<D>(desk: &mut Desk<'_, D>, closing: Closing) -> Option<Conn> {
     let Closing { socket, why } = closing;
     match why {
         Some(why) => desk.ended(socket, why),
@@ -96,7 +101,7 @@ fn expire_closing(desk: &mut Desk<'_>, closing: Closing) -> Option<Conn> {
 }
 
 // What a connection that is no link becomes when its time is up.
-fn expired(desk: &mut Desk<'_>, stage: Stage) -> Option<Conn> {
+fn expired<D>(desk: &mut Desk<'_, D>, stage: Stage) -> Option<Conn> {
     match stage {
         Stage::Unknown(unknown) => desk.ended(unknown.socket, Ending::Silent),
         Stage::Closing(closing) => expire_closing(desk, closing),
@@ -108,7 +113,7 @@ fn expired(desk: &mut Desk<'_>, stage: Stage) -> Option<Conn> {
 }
 
 // Looks whether the time of a connection is up that is no link.
-fn expire_other(desk: &mut Desk<'_>, stage: Stage, until: u64, unread: bool) -> Option<Conn> {
+fn expire_other<D>(desk: &mut Desk<'_, D>, stage: Stage, until: u64, unread: bool) -> Option<Conn> {
     if desk.now <= until {
         return Some(Conn {
             stage,
@@ -120,7 +125,11 @@ fn expire_other(desk: &mut Desk<'_>, stage: Stage, until: u64, unread: bool) -> 
 }
 
 /// Looks at a connection once a second. None where it is gone.
-pub(crate) fn expire_conn(desk: &mut Desk<'_>, slot: usize, conn: Conn) -> Option<Conn> {
+pub(crate) fn expire_conn<'a, D: HouseDocument<'a>>(
+    desk: &mut Desk<'a, D>,
+    slot: usize,
+    conn: Conn,
+) -> Option<Conn> {
     let Conn {
         stage,
         until,

@@ -3,6 +3,7 @@
 use crate::conn::{Linked, Place};
 use crate::desk::Desk;
 use crate::room::Room;
+use host_interface::HouseDocument;
 use host_link::people_text;
 use host_socket::{After, no_memory, send_text};
 use std::alloc::{AllocError, Global};
@@ -19,7 +20,11 @@ fn here_text(alloc: Global, room: &Room) -> Result<String, AllocError> {
 }
 
 // Sends a text that was made.
-fn send_made(desk: &Desk<'_>, linked: &mut Linked, text: Result<String, AllocError>) -> After {
+fn send_made<D>(
+    desk: &Desk<'_, D>,
+    linked: &mut Linked,
+    text: Result<String, AllocError>,
+) -> After {
     match text {
         Ok(text) => send_text(desk.alloc, &mut linked.socket, text.as_str()),
         Err(_) => no_memory(),
@@ -27,7 +32,7 @@ fn send_made(desk: &Desk<'_>, linked: &mut Linked, text: Result<String, AllocErr
 }
 
 // Tells who there is and, at the house, which documents.
-fn tell_people(desk: &Desk<'_>, linked: &mut Linked) -> After {
+fn tell_people<'a, D: HouseDocument<'a>>(desk: &Desk<'a, D>, linked: &mut Linked) -> After {
     if linked.told_people == desk.people {
         return After::More;
     }
@@ -42,7 +47,7 @@ fn tell_people(desk: &Desk<'_>, linked: &mut Linked) -> After {
 }
 
 // Tells who is here.
-fn tell_here(desk: &mut Desk<'_>, linked: &mut Linked) -> After {
+fn tell_here<D>(desk: &mut Desk<'_, D>, linked: &mut Linked) -> After {
     let alloc = desk.alloc;
     let Some(room) = desk.room(linked.place) else {
         return After::More;
@@ -56,7 +61,7 @@ fn tell_here(desk: &mut Desk<'_>, linked: &mut Linked) -> After {
 }
 
 // Tells the carets of the others.
-fn tell_carets(desk: &mut Desk<'_>, linked: &mut Linked, slot: usize) -> After {
+fn tell_carets<D>(desk: &mut Desk<'_, D>, linked: &mut Linked, slot: usize) -> After {
     let alloc = desk.alloc;
     let Some(room) = desk.room(linked.place) else {
         return After::More;
@@ -74,7 +79,11 @@ fn tell_carets(desk: &mut Desk<'_>, linked: &mut Linked, slot: usize) -> After {
 }
 
 /// Tells a link the news that it wasn't told.
-pub(crate) fn tell_news(desk: &mut Desk<'_>, linked: &mut Linked, slot: usize) -> After {
+pub(crate) fn tell_news<'a, D: HouseDocument<'a>>(
+    desk: &mut Desk<'a, D>,
+    linked: &mut Linked,
+    slot: usize,
+) -> After {
     match tell_people(desk, linked) {
         After::More => {}
         after => return after,

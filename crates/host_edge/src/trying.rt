@@ -8,7 +8,7 @@ use host_link::Ending;
 use host_socket::{Limits, Network, WrongKey};
 use std::net::IpAddr;
 
-impl<'a> Desk<'a> {
+impl<'a, D> Desk<'a, D> {
     // Where a request comes from: from the address at the other end of its connection or, where a proxy's word is taken, from
     // the one that it is forwarded for. None of this machine, where nothing is counted.
     pub(crate) fn network_of(&self, peer: IpAddr, forwarded: Option<IpAddr>) -> Option<Network> {

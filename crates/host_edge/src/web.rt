@@ -7,6 +7,7 @@ use crate::opening::serve_unknown;
 use host_http::{
     Asked, MAX_HEAD, Part, Route, Status, body_head, moved_answer, read_head, status_answer,
 };
+use host_interface::HouseDocument;
 use host_socket::{Network, Socket, accepted, read_some, write_some};
 use mio::net::TcpStream;
 use std::alloc::{AllocError, Global};
@@ -38,13 +39,13 @@ fn refused(alloc: Global, status: Status) -> Result<Answer, AllocError> {
 }
 
 // What the host counts.
-fn metrics_answer(desk: &Desk<'_>) -> Result<Answer, AllocError> {
+fn metrics_answer<D>(desk: &Desk<'_, D>) -> Result<Answer, AllocError> {
     let text = desk.counts.text(desk.alloc, desk.open_count())?;
     with_body(desk.alloc, PLAIN, text.as_str().as_bytes())
 }
 
 // The file of a page.
-fn file_answer(desk: &Desk<'_>, number: usize) -> Result<Answer, AllocError> {
+fn file_answer<D>(desk: &Desk<'_, D>, number: usize) -> Result<Answer, AllocError> {
     let Some(file) = desk.pages.file(number) else {
         return refused(desk.alloc, Status::NotFound);
     };
@@ -53,13 +54,17 @@ fn file_answer(desk: &Desk<'_>, number: usize) -> Result<Answer, AllocError> {
 }
 
 // What a document's path without its last slash is answered by.
-fn page_answer(desk: &Desk<'_>, name: &str) -> Result<Answer, AllocError> {
+fn page_answer<D>(desk: &Desk<'_, D>, name: &str) -> Result<Answer, AllocError> {
     let path = format!(in desk.alloc; "{name}/")?;
     Ok(Answer::Whole(moved_answer(desk.alloc, path.as_str())?))
 }
 
 // A part of a document that is open.
-fn part_answer(desk: &mut Desk<'_>, number: usize, part: Part) -> Result<Answer, AllocError> {
+fn part_answer<'a, D: HouseDocument<'a>>(
+    desk: &mut Desk<'a, D>,
+    number: usize,
+    part: Part,
+) -> Result<Answer, AllocError> {
     let alloc = desk.alloc;
     let Some(document) = desk.house.document(number) else {
         return refused(alloc, Status::NotFound);
@@ -77,7 +82,10 @@ fn part_answer(desk: &mut Desk<'_>, number: usize, part: Part) -> Result<Answer,
 }
 
 // What is found at a route, as an answer.
-fn found_answer(desk: &mut Desk<'_>, found: Found<'_>) -> Result<Answer, AllocError> {
+fn found_answer<'a, D: HouseDocument<'a>>(
+    desk: &mut Desk<'a, D>,
+    found: Found<'_>,
+) -> Result<Answer, AllocError> {
     match found {
         Found::Health => with_body(desk.alloc, PLAIN, b"ok\n"),
         Found::Metrics => metrics_answer(desk),
@@ -88,7 +96,11 @@ fn found_answer(desk: &mut Desk<'_>, found: Found<'_>) -> Result<Answer, AllocEr
 }
 
 // What a request for a route is answered by.
-fn answer_of(desk: &mut Desk<'_>, route: &Route, asker: Asker) -> Result<Answer, AllocError> {
+fn answer_of<'a, D: HouseDocument<'a>>(
+    desk: &mut Desk<'a, D>,
+    route: &Route,
+    asker: Asker,
+) -> Result<Answer, AllocError> {
     match found_at(desk, route, asker) {
         Ok(found) => found_answer(desk, found),
         Err(status) => refused(desk.alloc, status),
@@ -96,7 +108,12 @@ fn answer_of(desk: &mut Desk<'_>, route: &Route, asker: Asker) -> Result<Answer,
 }
 
 // Begins an answer.
-fn begin_answer(desk: &Desk<'_>, stream: TcpStream, answer: Answer, until: u64) -> Option<Conn> {
+fn begin_answer<D>(
+    desk: &Desk<'_, D>,
+    stream: TcpStream,
+    answer: Answer,
+    until: u64,
+) -> Option<Conn> {
     let (bytes, file) = match answer {
         Answer::Whole(bytes) => (bytes, None),
         Answer::File(bytes, number) => (bytes, Some(number)),
@@ -111,7 +128,7 @@ fn begin_answer(desk: &Desk<'_>, stream: TcpStream, answer: Answer, until: u64) 
 }
 
 // Writes of an answer what its stream takes: its bytes, and then its file. True once all is written.
-fn write_answer(desk: &Desk<'_>, answering: &mut Answering) -> io::Result<bool> {
+fn write_answer<D>(desk: &Desk<'_, D>, answering: &mut Answering) -> io::Result<bool> {
     let size = answering.bytes.len();
     if !write_some(&mut answering.stream, &answering.bytes, &mut answering.at)? {
         return Ok(false);
@@ -129,8 +146,8 @@ fn write_answer(desk: &Desk<'_>, answering: &mut Answering) -> io::Result<bool> 
 }
 
 /// Goes on with an answer, and lets the stream go behind it.
-pub(crate) fn serve_answering(
-    desk: &Desk<'_>,
+pub(crate) fn serve_answering<D>(
+    desk: &Desk<'_, D>,
     mut answering: Answering,
     until: u64,
 ) -> Option<Conn> {
@@ -144,7 +161,7 @@ pub(crate) fn serve_answering(
 }
 
 // The place of a link's route; none where there is no such document.
-fn place_of(desk: &Desk<'_>, route: &Route) -> Option<Place> {
+fn place_of<'a, D: HouseDocument<'a>>(desk: &Desk<'a, D>, route: &Route) -> Option<Place> {
     match route {
         Route::House => Some(Place::House),
         Route::Document {
@@ -159,7 +176,7 @@ fn place_of(desk: &Desk<'_>, route: &Route) -> Option<Place> {
 }
 
 // A socket of a stream that asked for a link, with a head of this length.
-fn socket_of(desk: &Desk<'_>, asking: Asking, answer: &[u8], len: usize) -> Option<Socket> {
+fn socket_of<D>(desk: &Desk<'_, D>, asking: Asking, answer: &[u8], len: usize) -> Option<Socket> {
     let Asking { stream, head, .. } = asking;
     let rest = head.get(len..).unwrap_or(&[]);
     let socket = accepted(desk.alloc, stream, answer, rest);
@@ -168,8 +185,8 @@ fn socket_of(desk: &Desk<'_>, asking: Asking, answer: &[u8], len: usize) -> Opti
 }
 
 // Waits for what is said on a socket.
-fn begin_link(
-    desk: &mut Desk<'_>,
+fn begin_link<'a, D: HouseDocument<'a>>(
+    desk: &mut Desk<'a, D>,
     slot: usize,
     socket: Socket,
     place: Place,
@@ -185,8 +202,8 @@ fn begin_link(
 }
 
 // Answers a request.
-fn answer_request(
-    desk: &Desk<'_>,
+fn answer_request<D>(
+    desk: &Desk<'_, D>,
     asking: Asking,
     answer: Result<Answer, AllocError>,
     until: u64,
@@ -203,7 +220,7 @@ fn answer_request(
 }
 
 // Refuses a request.
-fn refuse(desk: &Desk<'_>, asking: Asking, status: Status, until: u64) -> Option<Conn> {
+fn refuse<D>(desk: &Desk<'_, D>, asking: Asking, status: Status, until: u64) -> Option<Conn> {
     let answer = refused(desk.alloc, status);
     answer_request(desk, asking, answer, until)
 }
@@ -219,8 +236,8 @@ fn await_rest(asking: Asking, is_open: bool, until: u64) -> Option<Conn> {
 }
 
 // Does what a request asks for, whose head may not be whole.
-fn do_asked(
-    desk: &mut Desk<'_>,
+fn do_asked<'a, D: HouseDocument<'a>>(
+    desk: &mut Desk<'a, D>,
     slot: usize,
     asking: Asking,
     asked: &Asked,
@@ -260,8 +277,8 @@ fn do_asked(
 }
 
 // Does what the head of a request asks for, which may not be whole.
-fn do_head(
-    desk: &mut Desk<'_>,
+fn do_head<'a, D: HouseDocument<'a>>(
+    desk: &mut Desk<'a, D>,
     slot: usize,
     asking: Asking,
     is_open: bool,
@@ -281,8 +298,8 @@ fn do_head(
 }
 
 /// Reads the head of a request, and goes on with what it asks for.
-pub(crate) fn serve_asking(
-    desk: &mut Desk<'_>,
+pub(crate) fn serve_asking<'a, D: HouseDocument<'a>>(
+    desk: &mut Desk<'a, D>,
     slot: usize,
     mut asking: Asking,
     until: u64,

@@ -8,10 +8,10 @@ use Rattle.host_people.specs.declared.change.Change.TheVariants.{Invited, Joined
 use Rattle.host_people.specs.declared.people.Holder.{Holder}
 use Rattle.host_people.specs.Holders.{device_holder}
 
--- the changes of its people, the newest first, and what has happened at the host of each document since that was opened
-pub record Household : Type 0 where
+-- the changes of its people, the newest first, and its documents
+pub record Household (D : Type 0) : Type 0 where
   pub changes : List Change
-  pub documents : List (Option (List HostEvent))
+  pub documents : List D
 
 -- who holds a key that is open, if this is its secret
 abbrev pub holder_by : List ℕ → Option Holder → Option Holder
@@ -31,18 +31,18 @@ HoldsKey person site secret changes =
     (holder : Holder) × (holder_by secret (device_holder site changes) ≡ Some holder) × (person ≡ holder.person)
 
 -- the documents of other numbers stay
-abbrev pub OthersStay : ℕ → List (Option (List HostEvent)) → List (Option (List HostEvent)) → Type 0
+abbrev pub OthersStay : {D : Type 0} → ℕ → List D → List D → Type 0
 OthersStay number old new = (k : ℕ) → k ≢ number → slice_get new k ≡ slice_get old k
 
--- the document of a number is open
-abbrev pub IsOpenAt : ℕ → List (Option (List HostEvent)) → Type 0
-IsOpenAt number documents = IsSomeAnd (slice_get documents number) IsSome
+-- the document of a number is open, by what has happened at each
+abbrev pub IsOpenAt : {D : Type 0} → (D → Option (List HostEvent)) → ℕ → List D → Type 0
+IsOpenAt past number documents = IsSomeAnd (slice_get documents number) (λ document. IsSome (past document))
 
 -- it stays open, if it was
-abbrev pub StaysOpen : ℕ → List (Option (List HostEvent)) → List (Option (List HostEvent)) → Type 0
-StaysOpen number old new = IsOpenAt number old → IsOpenAt number new
+abbrev pub StaysOpen : {D : Type 0} → (D → Option (List HostEvent)) → ℕ → List D → List D → Type 0
+StaysOpen past number old new = IsOpenAt past number old → IsOpenAt past number new
 
 -- nothing is another but the document of a number
-pub record TouchesDocument (number : ℕ) (old new : Household) : Type 0 where
+pub record TouchesDocument {D : Type 0} (number : ℕ) (old new : Household D) : Type 0 where
   pub changes : new.changes ≡ old.changes
   pub others : OthersStay number old.documents new.documents

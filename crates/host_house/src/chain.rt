@@ -2,7 +2,7 @@
 
 use crate::fault::HouseFault;
 use hex::encode;
-use host_document::Document;
+use host_interface::{HouseDocument, OpenFault};
 use host_renewal::Former;
 use sha2::{Digest, Sha256};
 use std::alloc::{AllocError, Global};
@@ -15,8 +15,8 @@ pub(crate) enum FormerState {
     Whole,
     /// Nothing.
     Lost,
-    /// A document that can't be opened or has other messages, by this word.
-    Others(&'static str),
+    /// A document that can't be opened or has other messages, for this reason.
+    Others(OpenFault),
     /// More messages than it had.
     More,
     /// Another certificate, or none.
@@ -29,7 +29,7 @@ impl FormerState {
         match self {
             FormerState::Whole => "whole",
             FormerState::Lost => "lost",
-            FormerState::Others(word) => word,
+            FormerState::Others(fault) => fault.word(),
             FormerState::More => "more-messages",
             FormerState::OtherCertificate => "other-certificate",
         }
@@ -74,42 +74,50 @@ fn has_certificate(rt: &HostRuntime, away: &str, name: &str, former: &Former) ->
 }
 
 // What is found of the messages of a former document in a folder of this name.
-fn messages_state(rt: &HostRuntime, away: &str, name: String, former: &Former) -> FormerState {
-    let mut document = Document::new(name, former.identity, Vec::new(rt.alloc()));
+fn messages_state<'a, D: HouseDocument<'a>>(
+    rt: &'a HostRuntime,
+    away: &str,
+    name: String,
+    former: &Former,
+) -> FormerState {
+    let mut document = D::new(name, former.identity, Vec::new(rt.alloc()));
     let opened = document.open(rt, away, Some(former.seal));
     let saved = document.saved();
-    let word = document.state_word();
     drop(document);
     match opened {
-        Err(_) => FormerState::Others(word),
+        Err(fault) => FormerState::Others(fault),
         Ok(()) if saved > former.seal.items => FormerState::More,
         Ok(()) => FormerState::Whole,
     }
 }
 
 // What is found of a former document.
-fn state_of(rt: &HostRuntime, folder: &str, former: &Former) -> Result<FormerState, HouseFault> {
+fn state_of<'a, D: HouseDocument<'a>>(
+    rt: &'a HostRuntime,
+    folder: &str,
+    former: &Former,
+) -> Result<FormerState, HouseFault> {
     let away = away_path(rt.alloc(), folder)?;
     let Some(name) = find_former(rt, away.as_str(), former)? else {
         return Ok(FormerState::Lost);
     };
     let is_certified = has_certificate(rt, away.as_str(), name.as_str(), former);
-    match messages_state(rt, away.as_str(), name, former) {
+    match messages_state::<D>(rt, away.as_str(), name, former) {
         FormerState::Whole if !is_certified => Ok(FormerState::OtherCertificate),
         state => Ok(state),
     }
 }
 
-/// Looks at a former document of the one of this name, puts a line of it behind others, `NAME before IDENTITY: STATE, COUNT messages`,
-/// and says whether it is what it was. COUNT is how many it had.
-pub(crate) fn put_former_line(
-    rt: &HostRuntime,
+/// Looks at a former document of the one of this name, as one of this type, puts a line of it behind others, `NAME before IDENTITY:
+/// STATE, COUNT messages`, and says whether it is what it was. COUNT is how many it had.
+pub(crate) fn put_former_line<'a, D: HouseDocument<'a>>(
+    rt: &'a HostRuntime,
     folder: &str,
     name: &str,
     former: &Former,
     text: &mut String,
 ) -> Result<bool, HouseFault> {
-    let state = state_of(rt, folder, former)?;
+    let state = state_of::<D>(rt, folder, former)?;
     let digits = encode(rt.alloc(), former.identity.as_slice())?;
     let word = state.word();
     let items = former.seal.items;

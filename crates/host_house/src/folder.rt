@@ -3,7 +3,7 @@
 
 use crate::formers::known_formers;
 use hex::{decode_to_slice, encode};
-use host_document::{Document, OpenFault};
+use host_interface::{HouseDocument, OpenFault};
 use host_link::{Identity, is_document_name};
 use host_renewal::Former;
 use std::alloc::{AllocError, Global};
@@ -68,25 +68,25 @@ fn find_identity(
 }
 
 // Puts a document, closed, to the others.
-fn put_document(
-    documents: &mut Vec<Document<'_>>,
+fn put_document<'a, D: HouseDocument<'a>>(
+    documents: &mut Vec<D>,
     name: String,
     identity: Result<Identity, OpenFault>,
     formers: Vec<Former>,
 ) -> io::Result<()> {
     let document = match identity {
-        Ok(identity) => Document::new(name, identity, formers),
-        Err(fault) => Document::lost(name, fault, formers),
+        Ok(identity) => D::new(name, identity, formers),
+        Err(fault) => D::lost(name, fault, formers),
     };
     documents.push(document)?;
     Ok(())
 }
 
 // Puts the documents that stand in a folder to the others.
-fn put_documents(
+fn put_documents<'a, D: HouseDocument<'a>>(
     rt: &HostRuntime,
     folder: &str,
-    documents: &mut Vec<Document<'_>>,
+    documents: &mut Vec<D>,
 ) -> io::Result<()> {
     for entry in fs::read_dir(rt, folder)? {
         let entry = entry?;
@@ -100,7 +100,10 @@ fn put_documents(
 }
 
 /// The documents that stand in a folder, closed. One that has steps and no identity is among them, and is never opened.
-pub(crate) fn find_documents<'a>(rt: &HostRuntime, folder: &str) -> io::Result<Vec<Document<'a>>> {
+pub(crate) fn find_documents<'a, D: HouseDocument<'a>>(
+    rt: &HostRuntime,
+    folder: &str,
+) -> io::Result<Vec<D>> {
     let mut documents = Vec::new(rt.alloc());
     match put_documents(rt, folder, &mut documents) {
         Ok(()) => Ok(documents),

@@ -13,7 +13,7 @@ use crate::fault::HouseFault;
 use crate::folder::{find_documents, make_folder, make_house, new_identity};
 use crate::renewal::end_renewals;
 use host_core::Role;
-use host_document::Document;
+use host_interface::HouseDocument;
 use host_link::{Identity, is_document_name};
 use host_people::{Book, Change, People};
 use peer_disk::FileDisk;
@@ -35,9 +35,9 @@ const FIRST_NAME: &str = "Owner";
 // The name of the first document, where the folder's is none for a document.
 const FIRST_DOCUMENT: &str = "text";
 
-/// A folder of documents, with its people. Contracts see the changes of its people, and each document.
+/// A folder of documents of a type, with its people. Contracts see the changes of its people, and each document.
 #[derive(Drop)]
-pub struct House<'a> {
+pub struct House<'a, D> {
     rt: &'a HostRuntime,
     alloc: Global,
     folder: String,
@@ -45,13 +45,13 @@ pub struct House<'a> {
     address: String,
     book: Book,
     disk: FileDisk<'a>,
-    documents: Vec<Document<'a>>,
+    documents: Vec<D>,
 }
 
-impl<'a> Model for House<'a> {
+impl<'a, D> Model for House<'a, D> {
     ghost use Rattle.host_house.specs.Household.{Household};
 
-    ghost Value = { Household };
+    ghost Value = { Household D };
 
     ghost view = { λ h. record { changes = h.book.changes; documents = h.documents.items } };
 }
@@ -71,7 +71,10 @@ fn first_document_name(folder: &str) -> &str {
 }
 
 // The documents that stand in a folder, behind the renewals that a crash broke off.
-fn settled_documents<'a>(rt: &HostRuntime, folder: &str) -> io::Result<Vec<Document<'a>>> {
+fn settled_documents<'a, D: HouseDocument<'a>>(
+    rt: &HostRuntime,
+    folder: &str,
+) -> io::Result<Vec<D>> {
     end_renewals(rt, folder)?;
     find_documents(rt, folder)
 }
@@ -90,14 +93,59 @@ fn open_book<'a>(rt: &'a HostRuntime, folder: &str) -> Result<(Book, FileDisk<'a
     }
 }
 
-impl<'a> House<'a> {
+impl<'a, D> House<'a, D> {
+    // Makes the owner.
+    fn make_owner(&mut self) -> Result<(), HouseFault> {
+        let name = String::from_str(self.alloc, FIRST_NAME)?;
+        self.add(Change::Made {
+            person: FIRST_PERSON,
+            role: Role::Owner,
+            name,
+        })
+    }
+
+    /// Its people.
+    pub fn people(&self) -> &People
+        ensures { result.now ≡ self.now.changes }
+    {
+        self.book.people()
+    }
+
+    /// Its documents.
+    pub fn documents(&self) -> &[D]
+        ensures { result.now ≡ self.now.documents }
+    {
+        &self.documents
+    }
+
+    /// The document of a number.
+    pub fn document(&mut self, number: usize) -> Option<&mut D> {
+        self.documents.get_mut(number)
+    }
+
+    // Keeps a change of people.
+    fn add(&mut self, change: Change) -> Result<(), HouseFault>
+        ensures added { OnOk result (self.new.changes ≡ change ∷ self.old.changes) }
+        ensures left { IfErr result (λ fault. (fault ≡ HouseFault.Book BookFault.DiskFault) ⊎ (self.new.changes ≡ self.old.changes)) }
+        ensures documents { self.new.documents ≡ self.old.documents }
+    {
+        let added = self.book.add(&mut self.disk, &change);
+        drop(change);
+        match added {
+            Ok(()) => Ok(()),
+            Err(fault) => Err(HouseFault::Book(fault)),
+        }
+    }
+}
+
+impl<'a, D: HouseDocument<'a>> House<'a, D> {
     /// Opens the house of a folder, which is made where it isn't there. The address is that of its first page. A renewal of a
     /// document that counts and that a crash broke off is ended.
     pub fn open(
         rt: &'a HostRuntime,
         folder: &str,
         address: String,
-    ) -> Result<House<'a>, HouseFault> {
+    ) -> Result<House<'a, D>, HouseFault> {
         make_house(rt, folder)?;
         let owned = String::from_str(rt.alloc(), folder)?;
         let (book, disk) = open_book(rt, folder)?;
@@ -117,16 +165,6 @@ impl<'a> House<'a> {
                 Err(HouseFault::from(error))
             }
         }
-    }
-
-    // Makes the owner.
-    fn make_owner(&mut self) -> Result<(), HouseFault> {
-        let name = String::from_str(self.alloc, FIRST_NAME)?;
-        self.add(Change::Made {
-            person: FIRST_PERSON,
-            role: Role::Owner,
-            name,
-        })
     }
 
     // Makes the first document where there is none.
@@ -149,44 +187,14 @@ impl<'a> House<'a> {
         Ok(Some(invitation))
     }
 
-    /// Its people.
-    pub fn people(&self) -> &People
-        ensures { result.now ≡ self.now.changes }
-    {
-        self.book.people()
-    }
-
-    /// Its documents.
-    pub fn documents(&self) -> &[Document<'a>]
-        ensures { result.now ≡ self.now.documents }
-    {
-        &self.documents
-    }
-
-    /// The document of a number.
-    pub fn document(&mut self, number: usize) -> Option<&mut Document<'a>> {
-        self.documents.get_mut(number)
-    }
-
     /// The number of the document of this name.
     pub fn find(&self, name: &str) -> Option<usize> {
-        self.documents
-            .iter()
-            .position(|it| !it.is_gone() && it.name() == name)
-    }
-
-    // Keeps a change of people.
-    fn add(&mut self, change: Change) -> Result<(), HouseFault>
-        ensures added { OnOk result (self.new.changes ≡ change ∷ self.old.changes) }
-        ensures left { IfErr result (λ fault. (fault ≡ HouseFault.Book BookFault.DiskFault) ⊎ (self.new.changes ≡ self.old.changes)) }
-        ensures documents { self.new.documents ≡ self.old.documents }
-    {
-        let added = self.book.add(&mut self.disk, &change);
-        drop(change);
-        match added {
-            Ok(()) => Ok(()),
-            Err(fault) => Err(HouseFault::Book(fault)),
+        for (number, document) in self.documents.iter().enumerate() {
+            if !document.is_gone() && document.name() == name {
+                return Some(number);
+            }
         }
+        None
     }
 
     // Makes the first document, of the folder's name.
@@ -211,7 +219,7 @@ impl<'a> House<'a> {
         let identity = new_identity(self.rt)?;
         let owned = String::from_str(self.alloc, name)?;
         self.documents
-            .push(Document::new(owned, identity, Vec::new(self.alloc)))?;
+            .push(D::new(owned, identity, Vec::new(self.alloc)))?;
         self.make_last(name, &identity)
     }
 }

@@ -1,7 +1,8 @@
 //! A folder of documents with its people: documents that are opened when somebody comes and sealed as they are saved, devices
 //! that show secrets, orders of owners.
 //!
-//! It knows files, people and documents. It must not know sockets and clocks.
+//! It knows files, people and what it asks of documents, of whatever type they are. It must not know what a document is made of,
+//! sockets and clocks.
 #![tactic(auto)]
 
 mod chain;
@@ -18,5 +19,5 @@ mod shelf;
 
 pub use done::{Consequence, Done};
 pub use fault::HouseFault;
-pub use host_document::{Document, MAX_ROW, OpenFault};
+pub use host_interface::{HouseDocument, OpenFault};
 pub use house::{Admitted, House, Verified};

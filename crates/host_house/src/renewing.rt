@@ -10,7 +10,7 @@ use crate::renewal::{
     write_certificate, write_coming,
 };
 use crate::seals::{open_sealed, seal_document};
-use host_document::{Document, OpenFault};
+use host_interface::{HouseDocument, OpenFault};
 use host_link::Ending;
 use host_renewal::{Former, RenewalFault};
 use host_seal::Seal;
@@ -18,12 +18,12 @@ use sha2::{Digest, Sha256};
 use std::io;
 
 // Opens a document, unless it is open, and saves it.
-fn open_saved<'a>(
+fn open_saved<'a, D: HouseDocument<'a>>(
     rt: &'a HostRuntime,
     folder: &str,
-    document: &mut Document<'a>,
+    document: &mut D,
 ) -> Result<(), HouseFault>
-    ensures { IsSome document.old → IsSome document.new }
+    ensures { IsSome (D.past document.old) → IsSome (D.past document.new) }
 {
     if open_sealed(rt, folder, document).is_err() {
         return Err(HouseFault::Renewal(RenewalFault::NotOpen));
@@ -36,10 +36,10 @@ fn open_saved<'a>(
 }
 
 // Writes the certificate of a document into its folder, and gives its digest.
-fn certificate_digest(
+fn certificate_digest<'a, D: HouseDocument<'a>>(
     rt: &HostRuntime,
     folder: &str,
-    document: &Document<'_>,
+    document: &D,
 ) -> Result<[u8; 32], HouseFault> {
     let certificate = document.journal(rt.alloc(), true)?;
     write_certificate(rt, folder, document.name(), &certificate)?;
@@ -47,10 +47,10 @@ fn certificate_digest(
 }
 
 // What is told of a document whose renewal takes its place. Its certificate is written into its folder.
-fn certified(
+fn certified<'a, D: HouseDocument<'a>>(
     rt: &HostRuntime,
     folder: &str,
-    document: &mut Document<'_>,
+    document: &mut D,
 ) -> Result<Former, HouseFault>
     ensures { document.new ≡ document.old }
 {
@@ -66,13 +66,21 @@ fn certified(
 }
 
 // Makes the steps of the renewal of a document, and gives their seal.
-fn made_steps(rt: &HostRuntime, folder: &str, document: &Document<'_>) -> Result<Seal, HouseFault> {
+fn made_steps<'a, D: HouseDocument<'a>>(
+    rt: &HostRuntime,
+    folder: &str,
+    document: &D,
+) -> Result<Seal, HouseFault> {
     let steps = make_coming(rt, folder, document.name(), &document.identity())?;
     Ok(document.make_renewal(rt, steps)?)
 }
 
 // Makes the renewal of a document that is open and saved: its steps, and what it is besides.
-fn made(rt: &HostRuntime, folder: &str, document: &mut Document<'_>) -> Result<Renewal, HouseFault>
+fn made<'a, D: HouseDocument<'a>>(
+    rt: &HostRuntime,
+    folder: &str,
+    document: &mut D,
+) -> Result<Renewal, HouseFault>
     ensures { document.new ≡ document.old }
 {
     let identity = new_identity(rt)?;
@@ -87,10 +95,10 @@ fn made(rt: &HostRuntime, folder: &str, document: &mut Document<'_>) -> Result<R
 }
 
 // Writes a renewal that was made, has it count, and then take its document's place.
-fn placed(
+fn placed<'a, D: HouseDocument<'a>>(
     rt: &HostRuntime,
     folder: &str,
-    document: &mut Document<'_>,
+    document: &mut D,
     renewal: &Renewal,
 ) -> io::Result<Renewed>
     ensures { document.new ≡ document.old }
@@ -102,10 +110,10 @@ fn placed(
 }
 
 // Makes the renewal of a document that is open and saved, and has it take its place.
-fn made_placed(
+fn made_placed<'a, D: HouseDocument<'a>>(
     rt: &HostRuntime,
     folder: &str,
-    document: &mut Document<'_>,
+    document: &mut D,
 ) -> Result<(Renewal, Renewed), HouseFault>
     ensures { document.new ≡ document.old }
 {
@@ -115,12 +123,12 @@ fn made_placed(
 }
 
 // The same of one that may be closed. Where it fails nothing is left of the renewal, and the document is open if it could be opened.
-fn made_whole<'a>(
+fn made_whole<'a, D: HouseDocument<'a>>(
     rt: &'a HostRuntime,
     folder: &str,
-    document: &mut Document<'a>,
+    document: &mut D,
 ) -> Result<(Renewal, Renewed), HouseFault>
-    ensures { IsSome document.old → IsSome document.new }
+    ensures { IsSome (D.past document.old) → IsSome (D.past document.new) }
 {
     open_saved(rt, folder, document)?;
     match made_placed(rt, folder, document) {
@@ -134,7 +142,7 @@ fn made_whole<'a>(
 }
 
 // Closes a document that was renewed. Where its renewal isn't in its place yet it is never opened again, as it doesn't count any more.
-fn give_way(document: &mut Document<'_>, renewal: Renewal, renewed: Renewed) {
+fn give_way<'a, D: HouseDocument<'a>>(document: &mut D, renewal: Renewal, renewed: Renewed) {
     match renewed {
         Renewed::InPlace => document.give_way(renewal.identity, renewal.formers),
         Renewed::AtNextStart => {
@@ -145,12 +153,12 @@ fn give_way(document: &mut Document<'_>, renewal: Renewal, renewed: Renewed) {
 }
 
 // Renews a document. One that was closed is so again where it isn't renewed, and one that was open stays open.
-fn renew_document<'a>(
+fn renew_document<'a, D: HouseDocument<'a>>(
     rt: &'a HostRuntime,
     folder: &str,
-    document: &mut Document<'a>,
+    document: &mut D,
 ) -> Result<Renewed, HouseFault>
-    ensures { OnErr result (IsSome document.old → IsSome document.new) }
+    ensures { OnErr result (IsSome (D.past document.old) → IsSome (D.past document.new)) }
 {
     let was_open = document.is_open();
     match made_whole(rt, folder, document) {
@@ -168,14 +176,14 @@ fn renew_document<'a>(
 }
 
 /// Renews the document of a number, which is closed then. Where it isn't renewed it stays open, if it was.
-pub(crate) fn renew_at<'a>(
+pub(crate) fn renew_at<'a, D: HouseDocument<'a>>(
     rt: &'a HostRuntime,
     folder: &str,
-    documents: &mut [Document<'a>],
+    documents: &mut [D],
     number: usize,
 ) -> Result<Renewed, HouseFault>
     ensures others { OthersStay number documents.old documents.new }
-    ensures open { OnErr result (StaysOpen number documents.old documents.new) }
+    ensures open { OnErr result (StaysOpen D.past number documents.old documents.new) }
 {
     if number >= documents.len() {
         return Err(HouseFault::NoDocument);

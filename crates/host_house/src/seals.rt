@@ -3,7 +3,7 @@
 ghost use Rattle.std.specs.Prelude.{◌≡◌, IsSome};
 
 use crate::folder::write_file;
-use host_document::{Document, OpenFault};
+use host_interface::{HouseDocument, OpenFault};
 use host_seal::Seal;
 use std::fs;
 use std::io::{self, ErrorKind};
@@ -54,12 +54,12 @@ pub(crate) fn write_seal(
 }
 
 /// Opens a document, unless it is open, if what is saved of it begins with what was sealed.
-pub(crate) fn open_sealed<'a>(
+pub(crate) fn open_sealed<'a, D: HouseDocument<'a>>(
     rt: &'a HostRuntime,
     folder: &str,
-    document: &mut Document<'a>,
+    document: &mut D,
 ) -> Result<(), OpenFault>
-    ensures { IsSome document.old → document.new ≡ document.old }
+    ensures { IsSome (D.past document.old) → document.new ≡ document.old }
 {
     if document.is_open() {
         return Ok(());
@@ -75,7 +75,11 @@ pub(crate) fn open_sealed<'a>(
 
 /// Seals what is saved of a document, if it is open and the last seal lacks some of that. Where the seal can't be written the
 /// former one stays, which says less.
-pub(crate) fn seal_document(rt: &HostRuntime, folder: &str, document: &mut Document<'_>)
+pub(crate) fn seal_document<'a, D: HouseDocument<'a>>(
+    rt: &HostRuntime,
+    folder: &str,
+    document: &mut D,
+)
     ensures { document.new ≡ document.old }
 {
     let Ok(Some(seal)) = document.next_seal(rt.alloc()) else {

@@ -4,7 +4,7 @@ ghost use Rattle.host_house.specs.Household.{OthersStay, StaysOpen};
 
 use crate::seals::{open_sealed, seal_document};
 use host_core::{LinkId, Role};
-use host_document::{Document, OpenFault};
+use host_interface::{HouseDocument, OpenFault};
 use host_link::{Claim, Ending};
 use host_people::People;
 
@@ -18,10 +18,10 @@ pub(crate) struct Entrant<'c> {
 }
 
 /// Opens the document of a number, unless it is open.
-pub(crate) fn open_at<'a>(
+pub(crate) fn open_at<'a, D: HouseDocument<'a>>(
     rt: &'a HostRuntime,
     folder: &str,
-    documents: &mut [Document<'a>],
+    documents: &mut [D],
     number: usize,
 ) -> Result<(), OpenFault>
     ensures { OthersStay number documents.old documents.new }
@@ -33,10 +33,10 @@ pub(crate) fn open_at<'a>(
 }
 
 // Opens a document, unless it is open, and admits a device.
-fn let_in<'a>(
+fn let_in<'a, D: HouseDocument<'a>>(
     rt: &'a HostRuntime,
     folder: &str,
-    document: &mut Document<'a>,
+    document: &mut D,
     entrant: &Entrant<'_>,
 ) -> Result<LinkId, Ending> {
     if open_sealed(rt, folder, document).is_err() {
@@ -46,10 +46,10 @@ fn let_in<'a>(
 }
 
 /// Admits a device to the document of a number, which is opened.
-pub(crate) fn admit_at<'a>(
+pub(crate) fn admit_at<'a, D: HouseDocument<'a>>(
     rt: &'a HostRuntime,
     folder: &str,
-    documents: &mut [Document<'a>],
+    documents: &mut [D],
     number: usize,
     entrant: &Entrant<'_>,
 ) -> Result<LinkId, Ending>
@@ -62,8 +62,12 @@ pub(crate) fn admit_at<'a>(
 }
 
 // Saves and seals a document, if it can be saved.
-fn save_and_seal(rt: &HostRuntime, folder: &str, document: &mut Document<'_>) -> Result<(), Ending>
-    ensures { IsSome document.old → IsSome document.new }
+fn save_and_seal<'a, D: HouseDocument<'a>>(
+    rt: &HostRuntime,
+    folder: &str,
+    document: &mut D,
+) -> Result<(), Ending>
+    ensures { IsSome (D.past document.old) → IsSome (D.past document.new) }
 {
     match document.commit() {
         Ok(_) => {
@@ -75,14 +79,14 @@ fn save_and_seal(rt: &HostRuntime, folder: &str, document: &mut Document<'_>) ->
 }
 
 /// Saves and seals the document of a number, if it can be saved. It stays open, if it was.
-pub(crate) fn save_at(
+pub(crate) fn save_at<'a, D: HouseDocument<'a>>(
     rt: &HostRuntime,
     folder: &str,
-    documents: &mut [Document<'_>],
+    documents: &mut [D],
     number: usize,
 ) -> Result<(), Ending>
     ensures others { OthersStay number documents.old documents.new }
-    ensures open { StaysOpen number documents.old documents.new }
+    ensures open { StaysOpen D.past number documents.old documents.new }
 {
     if number >= documents.len() {
         return Err(Ending::NoDocument);
@@ -91,10 +95,10 @@ pub(crate) fn save_at(
 }
 
 // Saves, seals and closes a document, if it can be saved.
-fn save_and_shut(
+fn save_and_shut<'a, D: HouseDocument<'a>>(
     rt: &HostRuntime,
     folder: &str,
-    document: &mut Document<'_>,
+    document: &mut D,
 ) -> Result<(), Ending> {
     match save_and_seal(rt, folder, document) {
         Ok(()) => {
@@ -106,10 +110,10 @@ fn save_and_shut(
 }
 
 /// Saves, seals and closes the document of a number, if it can be saved.
-pub(crate) fn shut_at(
+pub(crate) fn shut_at<'a, D: HouseDocument<'a>>(
     rt: &HostRuntime,
     folder: &str,
-    documents: &mut [Document<'_>],
+    documents: &mut [D],
     number: usize,
 ) -> Result<(), Ending>
     ensures { OthersStay number documents.old documents.new }
@@ -121,7 +125,11 @@ pub(crate) fn shut_at(
 }
 
 /// Seals what is saved of the documents that are open.
-pub(crate) fn seal_all(rt: &HostRuntime, folder: &str, documents: &mut [Document<'_>])
+pub(crate) fn seal_all<'a, D: HouseDocument<'a>>(
+    rt: &HostRuntime,
+    folder: &str,
+    documents: &mut [D],
+)
     ensures { documents.new ≡ documents.old }
 {
     for number in 0..documents.len() {
@@ -130,7 +138,11 @@ pub(crate) fn seal_all(rt: &HostRuntime, folder: &str, documents: &mut [Document
 }
 
 /// Closes the document of a number as one that can't be opened.
-pub(crate) fn give_up_at(documents: &mut [Document<'_>], number: usize, fault: OpenFault)
+pub(crate) fn give_up_at<'a, D: HouseDocument<'a>>(
+    documents: &mut [D],
+    number: usize,
+    fault: OpenFault,
+)
     ensures { OthersStay number documents.old documents.new }
 {
     if number < documents.len() {

@@ -2,18 +2,43 @@
 
 use std::{fs, io};
 
+// What a file of a page is. It is no `&'static str`: who holds that isn't proved to call what a lifetime bounds.
+#[derive(Clone, Copy)]
+enum Kind {
+    Document,
+    Style,
+    Script,
+    Module,
+    Drawing,
+    Picture,
+}
+
+impl Kind {
+    // As a browser names it.
+    fn words(self) -> &'static str {
+        match self {
+            Kind::Document => "text/html; charset=utf-8",
+            Kind::Style => "text/css; charset=utf-8",
+            Kind::Script => "text/javascript; charset=utf-8",
+            Kind::Module => "application/wasm",
+            Kind::Drawing => "image/svg+xml",
+            Kind::Picture => "image/png",
+        }
+    }
+}
+
 /// A file of a page.
 #[derive(Drop)]
 pub struct PageFile {
     name: String,
-    kind: &'static str,
+    kind: Kind,
     bytes: Vec<u8>,
 }
 
 impl PageFile {
     /// What it is, as a browser names it.
     pub fn kind(&self) -> &'static str {
-        self.kind
+        self.kind.words()
     }
 
     /// Its bytes.
@@ -23,15 +48,15 @@ impl PageFile {
 }
 
 // What a file of this name is; none where it is no part of a page.
-fn kind_of(name: &str) -> Option<&'static str> {
+fn kind_of(name: &str) -> Option<Kind> {
     let (_, ending) = name.rsplit_once('.')?;
     match ending.as_bytes() {
-        b"html" => Some("text/html; charset=utf-8"),
-        b"css" => Some("text/css; charset=utf-8"),
-        b"mjs" => Some("text/javascript; charset=utf-8"),
-        b"wasm" => Some("application/wasm"),
-        b"svg" => Some("image/svg+xml"),
-        b"png" => Some("image/png"),
+        b"html" => Some(Kind::Document),
+        b"css" => Some(Kind::Style),
+        b"mjs" => Some(Kind::Script),
+        b"wasm" => Some(Kind::Module),
+        b"svg" => Some(Kind::Drawing),
+        b"png" => Some(Kind::Picture),
         _ => None,
     }
 }

@@ -8,9 +8,11 @@ mod setting;
 
 use anyhow::{Result, anyhow};
 use command::all_words;
+use host_document::Document;
 use host_edge::Desk;
 use host_house::{House, HouseFault, Verified};
 use host_http::{Origins, Pages, Routes};
+use host_interface::HouseDocument;
 use host_people::BookFault;
 use host_socket::{Limits, WrongKeys};
 use log::sink::Console;
@@ -18,6 +20,11 @@ use setting::{Setting, Task, task_of};
 use std::net::{SocketAddr, TcpListener};
 use std::sync::Wait;
 use std::{env, fs};
+
+// A house as this program has it, and its desk. All below is written for documents of any type.
+type TextHouse<'a> = House<'a, Document<'a>>;
+
+type TextDesk<'a> = Desk<'a, Document<'a>>;
 
 // The number of the owner who was made first.
 const FIRST_PERSON: u16 = 1;
@@ -41,9 +48,9 @@ fn words(rt: &HostRuntime) -> Result<Vec<String>> {
 }
 
 // The house of a folder, whose first page has this address.
-fn open_house<'a>(rt: &'a HostRuntime, folder: &String, address: &str) -> Result<House<'a>> {
+fn open_house<'a>(rt: &'a HostRuntime, folder: &String, address: &str) -> Result<TextHouse<'a>> {
     let address = String::from_str(rt.alloc(), address)?;
-    match House::open(rt, folder.as_str(), address) {
+    match TextHouse::open(rt, folder.as_str(), address) {
         Ok(house) => Ok(house),
         Err(fault) => Err(told(folder, fault)),
     }
@@ -64,7 +71,7 @@ fn told(folder: &String, fault: HouseFault) -> anyhow::Error {
 }
 
 // The invitation of the owner, with its number in front, where the house is new or he asked for another.
-fn invitation(house: &mut House<'_>, set: &Setting) -> Result<Option<String>, HouseFault> {
+fn invitation(house: &mut TextHouse<'_>, set: &Setting) -> Result<Option<String>, HouseFault> {
     match house.begin()? {
         None if set.new_owner_key => Ok(Some(house.invite(FIRST_PERSON)?)),
         made => Ok(made),
@@ -80,7 +87,7 @@ fn address_in(invitation: &str) -> &str {
 }
 
 // Prints the address of the owner's invitation, where there is one.
-fn greet(rt: &HostRuntime, house: &mut House<'_>, set: &Setting) -> Result<()> {
+fn greet(rt: &HostRuntime, house: &mut TextHouse<'_>, set: &Setting) -> Result<()> {
     match invitation(house, set) {
         Ok(Some(made)) => {
             let address = address_in(made.as_str());
@@ -130,7 +137,12 @@ fn shown(rt: &HostRuntime, set: &Setting) -> Result<(WrongKeys, Origins, Pages)>
 }
 
 // Listens, and serves until the system fails. What happens is told on standard error.
-fn run_desk(rt: &HostRuntime, wait: &impl Wait, set: &Setting, desk: &mut Desk<'_>) -> Result<()> {
+fn run_desk(
+    rt: &HostRuntime,
+    wait: &impl Wait,
+    set: &Setting,
+    desk: &mut TextDesk<'_>,
+) -> Result<()> {
     desk.run(wait, &Console(rt), set.listen)?;
     Ok(())
 }
@@ -140,7 +152,7 @@ fn serve_house(
     rt: &HostRuntime,
     wait: &impl Wait,
     set: &Setting,
-    house: House<'_>,
+    house: TextHouse<'_>,
     front: Front,
 ) -> Result<()> {
     let Front {
@@ -163,7 +175,7 @@ fn serve_greeted(
     rt: &HostRuntime,
     wait: &impl Wait,
     set: &Setting,
-    mut house: House<'_>,
+    mut house: TextHouse<'_>,
     front: Front,
 ) -> Result<()> {
     match greet(rt, &mut house, set) {
@@ -222,7 +234,7 @@ fn has_house(rt: &HostRuntime, folder: &str) -> Result<bool> {
 }
 
 // Tells what was found in a house of which some document may not be open.
-fn tell_found(rt: &HostRuntime, house: &House<'_>, found: &Verified) -> Result<()> {
+fn tell_found(rt: &HostRuntime, house: &TextHouse<'_>, found: &Verified) -> Result<()> {
     let text = found.text.as_str();
     print!(rt; "{text}")?;
     if house
@@ -239,7 +251,7 @@ fn tell_found(rt: &HostRuntime, house: &House<'_>, found: &Verified) -> Result<(
 }
 
 // Looks at the documents of a house.
-fn verify_house(rt: &HostRuntime, folder: &String, house: &mut House<'_>) -> Result<()> {
+fn verify_house(rt: &HostRuntime, folder: &String, house: &mut TextHouse<'_>) -> Result<()> {
     match house.verify() {
         Ok(found) => tell_found(rt, house, &found),
         Err(fault) => Err(told(folder, fault)),

@@ -7,29 +7,15 @@ use std::fmt;
 #[derive(Debug, Drop)]
 pub enum Happening {
     /// A link of a site to a document was welcomed.
-    Linked {
-        document: String,
-        site: u16,
-    },
+    Linked { document: String, site: u16 },
     /// A link of a site ended, if the host ended it with the reason.
-    Left {
-        site: u16,
-        why: Option<Ending>,
-    },
+    Left { site: u16, why: Option<Ending> },
     /// A device was made for a person.
-    Joined {
-        site: u16,
-    },
+    Joined { site: u16 },
     /// An owner ordered something.
-    Ordered {
-        site: u16,
-        number: u32,
-    },
+    Ordered { site: u16, number: u32 },
     /// A document can't be used: its state.
-    Broken {
-        document: String,
-        state: &'static str,
-    },
+    Broken { document: String, state: String },
     /// Nobody is taken in for a while: the system has no descriptor left.
     Paused,
 }
@@ -54,6 +40,7 @@ impl fmt::Display for Happening {
             Happening::Ordered { site, number } => write!(f, "ordered site={site} number={number}"),
             Happening::Broken { document, state } => {
                 let document = document.as_str();
+                let state = state.as_str();
                 write!(f, "broken document={document} state={state}")
             }
             Happening::Paused => write!(f, "paused: no descriptor is left"),

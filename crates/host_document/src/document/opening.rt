@@ -1,10 +1,10 @@
-//! How a document is opened, or found to be one that can't be.
-ghost use Rattle.std.specs.Prelude.{◌≡◌, None, Some, OnOk, OnErr, IfOk, IsSome};
-ghost use Rattle.host_document.specs.Sealing.{IsOpenedBy};
+//! Where a document is opened from, and why one isn't.
+ghost use Rattle.std.specs.Prelude.{◌≡◌, None, Some, IfOk, IsSome};
+ghost use Rattle.host_interface.specs.Sealing.{IsOpenedBy};
 
 use super::{Document, Standing};
-use crate::fault::OpenFault;
 use crate::opened::Opened;
+use host_interface::OpenFault;
 use host_seal::Seal;
 use std::alloc::{AllocError, Global};
 
@@ -15,7 +15,7 @@ fn steps_path(alloc: Global, folder: &str, name: &str) -> Result<String, AllocEr
 
 impl<'a> Document<'a> {
     // The host of its text, which stands in the folder.
-    fn open_text(
+    pub(super) fn open_text(
         &self,
         rt: &'a HostRuntime,
         folder: &str,
@@ -30,7 +30,7 @@ impl<'a> Document<'a> {
     }
 
     // Why it is never opened, if it isn't.
-    fn bar(&self) -> Option<OpenFault>
+    pub(super) fn bar(&self) -> Option<OpenFault>
         ensures { IsSome result → self.now ≡ None }
     {
         match &self.opened {
@@ -40,48 +40,6 @@ impl<'a> Document<'a> {
                 Standing::Lost(fault) => Some(fault),
                 _ => None,
             },
-        }
-    }
-
-    /// Opens it, unless it is open. It takes the time of its steps. What was put away, or has no identity, isn't opened, nor
-    /// is one whose saved messages don't begin with what was sealed, if that is known.
-    pub fn open(
-        &mut self,
-        rt: &'a HostRuntime,
-        folder: &str,
-        seal: Option<Seal>,
-    ) -> Result<(), OpenFault>
-        ensures opened { OnOk result (IsSome self.new) }
-        ensures sealed { OnOk result (self.old ≡ None → IsOpenedBy seal self.new) }
-        ensures closed { OnErr result (self.new ≡ None) }
-        ensures stays_open { IsSome self.old → self.new ≡ self.old }
-    {
-        if self.is_open() {
-            return Ok(());
-        }
-        if let Some(fault) = self.bar() {
-            return Err(fault);
-        }
-        match self.open_text(rt, folder, seal) {
-            Ok(opened) => {
-                self.replace_host(Some(opened));
-                self.standing = Standing::Closed;
-                Ok(())
-            }
-            Err(fault) => {
-                self.give_up(fault);
-                Err(fault)
-            }
-        }
-    }
-
-    /// Closes it as one that can't be opened.
-    pub fn give_up(&mut self, fault: OpenFault)
-        ensures { self.new ≡ None }
-    {
-        self.shut();
-        if self.bar().is_none() {
-            self.standing = Standing::Broken(fault);
         }
     }
 }

@@ -1,6 +1,6 @@
 //! Links of devices that come to a document.
 ghost use Rattle.std.specs.Prelude.{IfOk};
-ghost use Rattle.host_document.specs.Admitted.{IsAdmitted};
+ghost use Rattle.host_interface.specs.Admitted.{IsAdmitted};
 
 use super::Opened;
 use crate::endings::ending_of;

@@ -2,7 +2,7 @@
 ghost use Rattle.std.specs.Prelude.{◌≡◌, ◌<◌, ◌++◌, ℕ, unwrap_or, flat_map, OnOk, IfOk, IfSome};
 ghost use Rattle.std.specs.Ordering.{nat_cmp};
 ghost use Rattle.std.specs.BTreeMap.{get, IsOrdered};
-ghost use Rattle.host_document.specs.Foreseen.{names_by, user_line, AreUserLines};
+ghost use Rattle.host_interface.specs.Foreseen.{names_by, user_line, AreUserLines};
 
 use element_name::{Name, NoMemory};
 use line_write::{put, put_number_word};

@@ -2,16 +2,29 @@
 ghost use Rattle.std.specs.Prelude.{◌≡◌, ◌⊎◌, Some, IfOk, IfErr, IfSome, OnOk};
 ghost use Rattle.host_core.specs.Past.{saved_journal};
 ghost use Rattle.host_seal.specs.Seals.{IsSealed};
-ghost use Rattle.host_document.specs.declared.fault.OpenFault.{OpenFault};
-ghost use Rattle.host_document.specs.Sealing.{seal_open_fault, IsOpenedBy, IsSealOf};
+ghost use Rattle.host_interface.specs.declared.fault.OpenFault.{OpenFault};
+ghost use Rattle.host_interface.specs.Sealing.{IsOpenedBy, IsSealOf};
+ghost use Rattle.host_document.specs.Sealing.{open_fault, seal_open_fault};
 
 use super::Opened;
-use crate::fault::{OpenFault, open_fault};
 use element_name::NoMemory;
+use host_interface::OpenFault;
 use host_link::Identity;
-use host_seal::{Seal, Sealer};
+use host_seal::{Seal, SealFault, Sealer};
 use std::alloc::Global;
 use std::mem;
+
+// Why a document isn't opened whose journal isn't taken for the one that was sealed, by how many messages were found and
+// how many were sealed.
+fn open_fault(found: u32, sealed: u32, fault: SealFault) -> OpenFault
+    ensures { result ≡ open_fault found sealed fault }
+{
+    match fault {
+        SealFault::Fewer => OpenFault::Fewer { found, sealed },
+        SealFault::Others => OpenFault::Others { found, sealed },
+        SealFault::NoMemory => OpenFault::NoMemory,
+    }
+}
 
 impl<'a> Opened<'a> {
     // Looks whether what is saved begins with what was sealed, and goes on from there.

@@ -8,6 +8,7 @@ use crate::fault::HouseFault;
 use crate::folder::{archive_folder, move_folder};
 use crate::renewal::refuse_awaited;
 use crate::shelf::save_at;
+use host_interface::HouseDocument;
 use host_link::{Ending, HouseOrder};
 use std::alloc::AllocError;
 
@@ -30,7 +31,7 @@ fn told(text: Result<String, AllocError>) -> Result<(String, Consequence), House
     }
 }
 
-impl<'a> House<'a> {
+impl<'a, D: HouseDocument<'a>> House<'a, D> {
     // Makes a document of a name that none has.
     fn make_named(&mut self, name: &str) -> Result<String, HouseFault> {
         if self.find(name).is_some() {
@@ -51,7 +52,7 @@ impl<'a> House<'a> {
 
     // Saves and seals a document, so that its folder can be moved. It stays open until that has moved.
     fn settle_document(&mut self, number: usize) -> Result<(), HouseFault>
-        ensures { StaysOpen number self.old.documents self.new.documents }
+        ensures { StaysOpen D.past number self.old.documents self.new.documents }
     {
         self.refuse_renewed(number)?;
         match save_at(self.rt, self.folder.as_str(), &mut self.documents, number) {
@@ -63,7 +64,7 @@ impl<'a> House<'a> {
 
     // Gives the folder of a document another name. The document stays open where that fails.
     fn move_settled(&mut self, number: usize, to: String) -> Result<(), HouseFault>
-        ensures { OnErr result (StaysOpen number self.old.documents self.new.documents) }
+        ensures { OnErr result (StaysOpen D.past number self.old.documents self.new.documents) }
     {
         let Some(document) = self.documents.get_mut(number) else {
             return Err(HouseFault::NoDocument);
@@ -76,7 +77,7 @@ impl<'a> House<'a> {
 
     // Gives a document another name, which no other has.
     fn move_named(&mut self, number: usize, to: &str) -> Result<String, HouseFault>
-        ensures { OnErr result (StaysOpen number self.old.documents self.new.documents) }
+        ensures { OnErr result (StaysOpen D.past number self.old.documents self.new.documents) }
     {
         if self.find(to).is_some() {
             return Err(HouseFault::NoDocument);
@@ -90,7 +91,7 @@ impl<'a> House<'a> {
 
     // Puts a document away. It stays open where its folder can't be moved.
     fn archive_settled(&mut self, number: usize) -> Result<(), HouseFault>
-        ensures { OnErr result (StaysOpen number self.old.documents self.new.documents) }
+        ensures { OnErr result (StaysOpen D.past number self.old.documents self.new.documents) }
     {
         let Some(document) = self.documents.get_mut(number) else {
             return Err(HouseFault::NoDocument);
@@ -103,7 +104,7 @@ impl<'a> House<'a> {
 
     // Puts a document away.
     fn archive_named(&mut self, number: usize) -> Result<String, HouseFault>
-        ensures { OnErr result (StaysOpen number self.old.documents self.new.documents) }
+        ensures { OnErr result (StaysOpen D.past number self.old.documents self.new.documents) }
     {
         let text = String::from_str(self.alloc, "archived")?;
         self.settle_document(number)?;

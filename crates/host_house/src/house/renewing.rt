@@ -8,9 +8,10 @@ use crate::done::Consequence;
 use crate::fault::HouseFault;
 use crate::renewal::Renewed;
 use crate::renewing::renew_at;
+use host_interface::HouseDocument;
 use std::alloc::AllocError;
 
-impl<'a> House<'a> {
+impl<'a, D: HouseDocument<'a>> House<'a, D> {
     // What is told of a document that is renewed, and of one that is so from the next start on.
     fn renewal_texts(&self, number: usize) -> Result<(String, String), AllocError> {
         let name = match self.documents.get(number) {
@@ -28,7 +29,7 @@ impl<'a> House<'a> {
         number: usize,
     ) -> Result<(String, Consequence), HouseFault>
         ensures others { TouchesDocument number self.old self.new }
-        ensures open { OnErr result (StaysOpen number self.old.documents self.new.documents) }
+        ensures open { OnErr result (StaysOpen D.past number self.old.documents self.new.documents) }
         ensures links { IfOk result (λ told. EndsLinksTo number told.1) }
     {
         let (text, later) = self.renewal_texts(number)?;

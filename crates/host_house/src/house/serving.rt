@@ -9,7 +9,7 @@ use crate::keys::{digest_of, is_same, new_secret};
 use crate::shelf::{Entrant, admit_at, give_up_at, open_at, seal_all, shut_at};
 use hex::encode;
 use host_core::{LinkId, Role};
-use host_document::OpenFault;
+use host_interface::{HouseDocument, OpenFault};
 use host_link::{Claim, Ending};
 use host_people::{BookFault, Change, Digest, Holder, Secret};
 use std::alloc::AllocError;
@@ -32,7 +32,7 @@ fn ending_by(fault: HouseFault) -> Ending {
     }
 }
 
-impl<'a> House<'a> {
+impl<'a, D> House<'a, D> {
     // The number and the address of an invitation with this secret, behind these words.
     fn invitation_text(
         &self,
@@ -144,7 +144,9 @@ impl<'a> House<'a> {
     {
         self.people().role(person)
     }
+}
 
+impl<'a, D: HouseDocument<'a>> House<'a, D> {
     /// Opens a document, unless it is open, if what is saved of it begins with what was sealed.
     pub fn open_document(&mut self, number: usize) -> Result<(), OpenFault>
         ensures { TouchesDocument number self.old self.new }

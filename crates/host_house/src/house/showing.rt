@@ -5,7 +5,7 @@ use crate::chain::put_former_line;
 use crate::fault::HouseFault;
 use crate::formers::{FormersFile, read_formers};
 use hex::encode;
-use host_document::Document;
+use host_interface::HouseDocument;
 use host_people::Holder;
 use host_renewal::Former;
 use std::alloc::{AllocError, Global};
@@ -42,14 +42,28 @@ fn put_keys(
 }
 
 // The line of a document, behind a line end.
-fn document_line(alloc: Global, document: &Document<'_>) -> Result<String, AllocError> {
+fn document_line<'a, D: HouseDocument<'a>>(
+    alloc: Global,
+    document: &D,
+) -> Result<String, AllocError> {
     let name = document.name();
     let digits = encode(alloc, document.identity().as_slice())?;
     let state = document.state_word();
     format!(in alloc; "\ndocument {name} {digits} {state}")
 }
 
-impl<'a> House<'a> {
+impl<'a, D> House<'a, D> {
+    // `keys`, with a line for each invitation and each device, with its number and its person.
+    pub(super) fn keys(&self) -> Result<String, AllocError> {
+        let mut text = String::from_str(self.alloc, "keys")?;
+        let people = self.people();
+        put_keys(self.alloc, "invitation", people.invitations(), &mut text)?;
+        put_keys(self.alloc, "device", people.devices(), &mut text)?;
+        Ok(text)
+    }
+}
+
+impl<'a, D: HouseDocument<'a>> House<'a, D> {
     // Opens a document, tells what it has, and closes it. Nothing is saved.
     fn verify_document(&mut self, number: usize) -> Result<String, HouseFault> {
         let _ = self.open_document(number);
@@ -73,7 +87,7 @@ impl<'a> House<'a> {
         let mut is_whole = true;
         for former in formers {
             let folder = self.folder.as_str();
-            let is_same = put_former_line(self.rt, folder, name, former, text)?;
+            let is_same = put_former_line::<D>(self.rt, folder, name, former, text)?;
             is_whole = is_whole && is_same;
         }
         Ok(is_whole)
@@ -115,15 +129,6 @@ impl<'a> House<'a> {
             self.verify_all_of(number, &mut found)?;
         }
         Ok(found)
-    }
-
-    // `keys`, with a line for each invitation and each device, with its number and its person.
-    pub(super) fn keys(&self) -> Result<String, AllocError> {
-        let mut text = String::from_str(self.alloc, "keys")?;
-        let people = self.people();
-        put_keys(self.alloc, "invitation", people.invitations(), &mut text)?;
-        put_keys(self.alloc, "device", people.devices(), &mut text)?;
-        Ok(text)
     }
 
     /// `documents`, with a line `document NAME IDENTITY STATE` for each.

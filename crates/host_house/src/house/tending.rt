@@ -5,7 +5,7 @@ use super::making::with;
 use crate::done::{Consequence, Done};
 use crate::fault::HouseFault;
 use host_core::{LinkId, Role};
-use host_document::{Document, RowFault};
+use host_interface::{HouseDocument, RowFault};
 use host_link::{HouseOrder, read_house_order};
 use host_people::{BookFault, Change};
 use std::alloc::{AllocError, Global};
@@ -20,9 +20,9 @@ fn lines_of(answers: &[u8]) -> &str {
 }
 
 // Makes a row of orders to a document, or asks what one would do.
-fn tend_document(
+fn tend_document<'a, D: HouseDocument<'a>>(
     alloc: Global,
-    document: &mut Document<'_>,
+    document: &mut D,
     link: LinkId,
     lines: &str,
 ) -> Result<Vec<u8>, RowFault> {
@@ -59,7 +59,7 @@ fn order_done(
     }
 }
 
-impl<'a> House<'a> {
+impl<'a, D> House<'a, D> {
     // Makes a person, and gives its number.
     fn make_person(&mut self, role: Role, name: &str) -> Result<String, HouseFault> {
         let Some(person) = self.people().next_person() else {
@@ -121,6 +121,13 @@ impl<'a> House<'a> {
         self.change(Change::Uninvited { invitation }, "closed")
     }
 
+    /// What answers a person who orders and isn't an owner.
+    pub fn refuse_order(&self, number: u32) -> Result<Done, AllocError> {
+        Done::refused(self.alloc, number, "not an owner")
+    }
+}
+
+impl<'a, D: HouseDocument<'a>> House<'a, D> {
     // Closes a device that is there, also in the documents that are open.
     fn close_device(&mut self, site: u16) -> Result<String, HouseFault> {
         if self.people().device(site).is_none() {
@@ -214,10 +221,5 @@ impl<'a> House<'a> {
             Some((document, link)) => self.tend_text(number, document, link, lines),
             None => Done::refused(self.alloc, number, "bad line 1"),
         }
-    }
-
-    /// What answers a person who orders and isn't an owner.
-    pub fn refuse_order(&self, number: u32) -> Result<Done, AllocError> {
-        Done::refused(self.alloc, number, "not an owner")
     }
 }

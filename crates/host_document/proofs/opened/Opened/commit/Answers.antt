@@ -2,7 +2,7 @@ use Rattle.std.proofs.Common.{List, refl, sym, subst}
 use Rattle.host_core.specs.declared.event.HostEvent.{HostEvent}
 use Rattle.host_core.specs.Past.{saved_journal}
 use Rattle.host_seal.specs.Seals.{IsBeginning}
-use Rattle.host_document.specs.Settled.{IsSettled}
+use Rattle.host_interface.specs.Settled.{IsSettled}
 use Rattle.host_document.proofs.Sealing.{still_begins}
 use Rattle.host_document.proofs.opened.Opened.commit.Goals as goal
 

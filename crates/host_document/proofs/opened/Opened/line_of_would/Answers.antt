@@ -5,7 +5,7 @@ use Rattle.line_spelling.specs.Answers.{answer_line}
 use Rattle.host_core.specs.declared.event.HostEvent.{HostEvent}
 use Rattle.host_core.specs.Past.{host_peer}
 use Rattle.peer_outlook.specs.Outlook.{names_undone}
-use Rattle.host_document.specs.Foreseen.{IsOutlook}
+use Rattle.host_interface.specs.Foreseen.{IsOutlook}
 use Rattle.host_document.proofs.Users.{outlook_said}
 use Rattle.host_document.proofs.opened.Opened.line_of_would.Goals as goal
 

@@ -1,5 +1,5 @@
 use Rattle.std.proofs.Common.{◌≡◌, ◌++◌, false, drop}
-use Rattle.host_document.specs.Rows.{past_behind, answers_to}
+use Rattle.host_interface.specs.Rows.{past_behind, answers_to}
 use Rattle.host_document.proofs.opened.Opened.make_row.Given as goal
 
 -- unless a step was made nothing has happened; and what the rest of the row makes of this, and is answered, completes the row

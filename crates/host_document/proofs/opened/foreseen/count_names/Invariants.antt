@@ -1,7 +1,7 @@
 use Rattle.std.proofs.Common.{◌≡◌, ℕ, ◌<◌, take, IfSome, nat_cmp}
 use Rattle.std.specs.Prelude.{unwrap_or}
 use Rattle.std.specs.BTreeMap.{get}
-use Rattle.host_document.specs.Foreseen.{names_by}
+use Rattle.host_interface.specs.Foreseen.{names_by}
 use Rattle.host_document.proofs.opened.foreseen.count_names.Given as goal
 
 -- of the names so far

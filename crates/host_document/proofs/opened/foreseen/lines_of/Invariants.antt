@@ -1,5 +1,5 @@
 use Rattle.std.proofs.Common.{◌≡◌, ◌++◌, flat_map}
-use Rattle.host_document.specs.Foreseen.{user_line}
+use Rattle.host_interface.specs.Foreseen.{user_line}
 use Rattle.host_document.proofs.opened.foreseen.lines_of.Given as goal
 
 -- with those of the rest the lines are whole

@@ -1,6 +1,6 @@
 use Rattle.std.proofs.Common.{◌≡◌, flat_map}
 use Rattle.std.proofs.lemmas.Result.{IfOk-weaker}
-use Rattle.host_document.specs.Foreseen.{user_line, AreUserLines}
+use Rattle.host_interface.specs.Foreseen.{user_line, AreUserLines}
 use Rattle.host_document.proofs.Users.{lines_of_counts}
 use Rattle.host_document.proofs.opened.foreseen.user_lines.Goals as goal
 

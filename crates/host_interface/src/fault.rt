@@ -1,11 +1,8 @@
 //! Why a document isn't opened, and why orders to it aren't made.
-ghost use Rattle.std.specs.Prelude.{◌≡◌};
-ghost use Rattle.host_document.specs.Sealing.{open_fault};
 
 use edit_message::Missing;
 use element_name::NoMemory;
 use host_link::Ending;
-use host_seal::SealFault;
 use policy_book::EntryFault;
 use std::alloc::{AllocError, AllocFailed, Global};
 
@@ -27,26 +24,14 @@ pub enum OpenFault {
     NoMemory,
 }
 
-/// Why a document isn't opened whose journal isn't taken for the one that was sealed, by how many messages were found and
-/// how many were sealed.
-pub(crate) fn open_fault(found: u32, sealed: u32, fault: SealFault) -> OpenFault
-    ensures { result ≡ open_fault found sealed fault }
-{
-    match fault {
-        SealFault::Fewer => OpenFault::Fewer { found, sealed },
-        SealFault::Others => OpenFault::Others { found, sealed },
-        SealFault::NoMemory => OpenFault::NoMemory,
-    }
-}
-
 // How many messages were found and how many were sealed, and what is to be done.
 fn counts(alloc: Global, found: u32, sealed: u32) -> Result<String, AllocError> {
     format!(in alloc; "{found} messages, {sealed} sealed: restore a copy")
 }
 
 impl OpenFault {
-    // The word for it.
-    pub(crate) fn word(self) -> &'static str {
+    /// The word for it.
+    pub fn word(self) -> &'static str {
         match self {
             OpenFault::Damaged => "damaged",
             OpenFault::Fewer { .. } => "fewer-messages",
@@ -67,8 +52,8 @@ impl OpenFault {
         }
     }
 
-    // Its word, and what was found.
-    pub(crate) fn told(self, alloc: Global) -> Result<String, AllocError> {
+    /// Its word, and what was found.
+    pub fn told(self, alloc: Global) -> Result<String, AllocError> {
         let word = self.word();
         let found = self.found(alloc)?;
         format!(in alloc; "{word}, {found}")

@@ -3,7 +3,7 @@ use Rattle.peer_core.specs.Peer.{Peer}
 use Rattle.host_core.specs.declared.event.HostEvent.{HostEvent}
 use Rattle.host_core.specs.Past.{host_peer}
 use Rattle.host_renewal.specs.Room.{IsTooLong}
-use Rattle.host_document.proofs.document.Document.make_renewal.Goals as goal
+use Rattle.host_document.proofs.document.house.DocumentHouseDocument.make_renewal.Goals as goal
 
 pub returns-in-Some-clause-too_many_pieces : goal.returns-in-Some-clause-too_many_pieces
 returns-in-Some-clause-too_many_pieces c = λ too_long.
