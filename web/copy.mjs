@@ -98,15 +98,18 @@ export class Copy {
   }
 
   /**
-   * Notes whose the letters of an element are, if it shows.
+   * Notes whose an element is that was changed, and whose its letters are, if it shows. A change that leaves the letters as they are is in no
+   * row, nor is one that is undone so, and may be another one's all the same.
    *
    * @param {Pieces} pieces
    * @param {string} name
    */
   giveAuthors(pieces, name) {
     const place = this.placeOf(name);
+    if (place === null) return;
     const changes = this.changes.get(name) ?? [];
-    if (place !== null) pieces.giveAuthors(place, changes.length ? this.authorsAt(name, changes) : null);
+    pieces.users[place] = this.peer.writerAt(place) ?? 0;
+    pieces.giveAuthors(place, changes.length ? this.authorsAt(name, changes) : null);
   }
 
   /**

@@ -122,6 +122,24 @@ test('authors', () => {
   }
 });
 
+// A change that leaves the letters as they are, and one that is undone so, are in no row: whose the piece is changes all the same.
+test('whose a piece is whose letters stay', () => {
+  const [administrator, user] = administratorAndUser('Tea.');
+  const sides = [administrator, user];
+  const writers = () => sides.map(({ copy }) => [...copy.pieces.users.slice(0, copy.pieces.count)]);
+  assert.deepEqual(writers(), [[0], [0]]);
+  user.copy.update(0, 'Tea.');
+  exchange(...sides);
+  assert.deepEqual(writers(), [[1], [1]]);
+  user.copy.update(0, 'Milk.');
+  user.copy.update(0, 'Tea.');
+  exchange(...sides);
+  administrator.copy.step('admin addauth 0 - 1 idu 0');
+  exchange(...sides);
+  assert.deepEqual(sides.map(({ text }) => text), ['Tea.', 'Tea.']);
+  assert.deepEqual(writers(), [[0], [0]]);
+});
+
 // What would be undone is what is undone.
 test('what would be undone', () => {
   const [administrator, user] = administratorAndUser('Tea.');
