@@ -148,11 +148,11 @@ fn run_desk(
 }
 
 // Serves what stands in a house that was opened.
-fn serve_house(
-    rt: &HostRuntime,
+fn serve_house<'a>(
+    rt: &'a HostRuntime,
     wait: &impl Wait,
     set: &Setting,
-    house: TextHouse<'_>,
+    house: TextHouse<'a>,
     front: Front,
 ) -> Result<()> {
     let Front {
@@ -171,11 +171,11 @@ fn serve_house(
 }
 
 // Greets the owner, and serves. What is large goes by a call: it takes long to prove what its end does, at each place anew.
-fn serve_greeted(
-    rt: &HostRuntime,
+fn serve_greeted<'a>(
+    rt: &'a HostRuntime,
     wait: &impl Wait,
     set: &Setting,
-    mut house: TextHouse<'_>,
+    mut house: TextHouse<'a>,
     front: Front,
 ) -> Result<()> {
     match greet(rt, &mut house, set) {
