@@ -6,7 +6,7 @@ use Rattle.peer_core.specs.Carets.{shown_up_to}
 use Rattle.line_read.specs.Numbers.{read_name}
 use Rattle.peer_outlook.specs.Outlook.{names_undone_by}
 use Rattle.editor_lib.specs.Told.{kept_state_line, element_word, count_word}
-use Rattle.editor_lib.specs.Would.{steps_of, name_line}
+use Rattle.editor_lib.specs.Would.{steps_said, name_line}
 use Rattle.editor_lib.specs.Writers.{writer_of, writers_bytes}
 
 -- the bytes of the text
@@ -47,4 +47,4 @@ count_answer peer word = option_map (λ name. count_word (shown_up_to peer name)
 
 -- the names of the requests that the steps of these lines would undo, in order of integration, a line each; none where a line is no step line
 unfoldable pub would_answer : Peer → List ℕ → Option (List ℕ)
-would_answer peer lines = option_map (λ steps. flat_map name_line (names_undone_by peer steps)) (steps_of lines)
+would_answer peer lines = option_map (λ steps. flat_map name_line (names_undone_by peer steps)) (steps_said lines)

@@ -9,9 +9,9 @@ use Rattle.line_read.specs.Words.{parts, each_some}
 use Rattle.line_read.specs.Step.{step_line}
 
 -- the steps of lines, with a line end between two of them, if each line says one; none of no bytes
-abbrev pub steps_of : List ℕ → Option (List Step)
-steps_of [] = Some []
-steps_of text = each_some (map step_line (parts LINE_END text))
+abbrev pub steps_said : List ℕ → Option (List Step)
+steps_said [] = Some []
+steps_said text = each_some (map step_line (parts LINE_END text))
 
 -- the line of a name
 abbrev pub name_line : Name → List ℕ

@@ -14,7 +14,7 @@ use crate::shown::{piece_bytes, writer_at, writers};
 use crate::told::{
     LastTold, count_word, element_word, kept_state_line, piece_sizes, site_word, text_bytes,
 };
-use crate::would::{steps_of, undone_lines};
+use crate::would::{steps_said, undone_lines};
 use edit_frame::{DecodeFail, Frame, decode};
 use element_name::NoMemory;
 use line_read::{read_name, step_line};
@@ -220,7 +220,7 @@ impl Desk {
     pub fn would(&mut self, alloc: Global, lines: &[u8]) -> Code
         ensures { Asked result (would_answer self.old.peer lines.now) self.old self.new }
     {
-        let steps = match steps_of(alloc, lines) {
+        let steps = match steps_said(alloc, lines) {
             Ok(steps) => steps,
             Err(LineFail::Bad) => return Code::Bad,
             Err(LineFail::NoMemory) => return Code::NoMemory,

@@ -4,7 +4,7 @@ ghost use Rattle.line_read.specs.ReadsAs.{ReadFails, ReadsItems};
 ghost use Rattle.line_read.specs.Step.{step_line};
 ghost use Rattle.line_read.specs.Words.{bytes_of, each_some, parts};
 ghost use Rattle.peer_outlook.specs.Outlook.{names_undone_by};
-ghost use Rattle.editor_lib.specs.Would.{steps_of, name_line};
+ghost use Rattle.editor_lib.specs.Would.{steps_said, name_line};
 
 use crate::told::element_word;
 use element_name::{Name, NoMemory};
@@ -53,8 +53,8 @@ fn read_steps(alloc: Global, lines: &[&[u8]]) -> Result<Vec<Step>, LineFail>
 /// The steps that step lines say, with a line end between two of them; none of no bytes. Takes time in their number.
 ///
 /// `Bad` says that one of the lines isn't in the grammar.
-pub fn steps_of(alloc: Global, text: &[u8]) -> Result<Vec<Step>, LineFail>
-    ensures { ReadsItems result (steps_of text.now) }
+pub fn steps_said(alloc: Global, text: &[u8]) -> Result<Vec<Step>, LineFail>
+    ensures { ReadsItems result (steps_said text.now) }
 {
     if text.is_empty() {
         return Ok(Vec::new(alloc));
