@@ -1,6 +1,6 @@
 -- What is answered to steps, which of them change the peer, and whether a store had room for them.
 use Rattle.std.specs.Prelude.{◌≡◌, ⊤, ℕ, ◌+◌, Bool, false, not, ◌&&◌, List, [], ◌∷◌, ◌++◌, None, nat_lt}
-use Rattle.record_file.specs.Records.{gate_place}
+use Rattle.peer_disk.specs.Records.{gate_place}
 use Rattle.peer_store.specs.Body.{body_of}
 use Rattle.peer_step.specs.declared.step.Step.{Step}
 use Rattle.peer_core.specs.Peer.{Peer, fresh_peer, front}

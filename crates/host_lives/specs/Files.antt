@@ -2,7 +2,7 @@
 use Rattle.std.specs.Prelude.{ℕ, List, Contains}
 use Rattle.edit_message.specs.declared.message.Message.{Message}
 use Rattle.peer_step.specs.declared.step.Step.{Step}
-use Rattle.record_file.specs.Records.{HasBodies}
+use Rattle.peer_disk.specs.Records.{HasBodies}
 use Rattle.peer_store.specs.Steps.{replay_of}
 use Rattle.peer_store.specs.Store.{StandsFor}
 use Rattle.host_people.specs.declared.change.Change.{Change}

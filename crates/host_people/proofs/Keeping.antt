@@ -2,7 +2,7 @@
 use Rattle.std.proofs.Common.{◌≡◌, inl, ℕ, List, [], ◌∷◌, ◌++◌, sym, subst}
 use Rattle.std.specs.declared.option.Option.{Option}
 use Rattle.peer_disk.specs.Disk.{LeavesOnly}
-use Rattle.record_file.specs.Records.{Keeps, HasBodies, IsBeforeOrAfter}
+use Rattle.peer_disk.specs.Records.{Keeps, HasBodies, IsBeforeOrAfter}
 use Rattle.host_people.specs.declared.change.Change.{Change}
 use Rattle.host_people.specs.Bodies.{change_body, change_bodies}
 use Rattle.host_people.specs.Kept.{Kept, KeepsChanges, HasChangesOrOneMore}

@@ -1,6 +1,6 @@
 -- What a book is, and what it keeps.
 use Rattle.std.specs.Prelude.{◌≡◌, ℕ, ◌<◌, Bool, true, List, Option, IfSome, length}
-use Rattle.record_file.specs.Records.{Keeps, IsBeforeOrAfter}
+use Rattle.peer_disk.specs.Records.{Keeps, IsBeforeOrAfter}
 use Rattle.host_people.specs.declared.change.Change.{Change}
 use Rattle.host_people.specs.declared.fault.BookFault.{BookFault}
 use Rattle.host_people.specs.declared.fault.BookFault.TheVariants.{DiskFault, NotABook, Spent, Full, NoMemory}

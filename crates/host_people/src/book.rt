@@ -1,8 +1,8 @@
 //! People in a file.
 ghost use Rattle.std.specs.Prelude.{◌≡◌, ◌<◌, ◌^◌, ◌∷◌, ◌++◌, [], false, IfOk, IfErr, IfSome, OnOk, IsSome, IsTrue};
 ghost use Rattle.peer_disk.specs.Disk.{LeavesOnly};
-ghost use Rattle.record_file.specs.declared.walk.Ending.{Ending};
-ghost use Rattle.record_file.specs.Records.{gate_place, bytes_of_each};
+ghost use Rattle.peer_disk.specs.declared.walk.Ending.{Ending};
+ghost use Rattle.peer_disk.specs.Records.{gate_place, bytes_of_each};
 ghost use Rattle.host_people.specs.Bodies.{change_bodies};
 ghost use Rattle.host_people.specs.Kept.{KeepsChanges, HasChangesOrOneMore, HasLastGate, IsNotKeptFor};
 
@@ -11,8 +11,7 @@ use crate::change::Change;
 use crate::fault::BookFault;
 use crate::people::People;
 use element_name::NoMemory;
-use peer_disk::Disk;
-use record_file::{BESIDE_BODY, Ending, FIRST_GATE, Loaded, Record};
+use peer_disk::{BESIDE_BODY, Disk, Ending, FIRST_GATE, Loaded, Record};
 use std::alloc::Global;
 use std::marker::Model;
 
@@ -93,7 +92,7 @@ impl Book {
         ensures gate { IfOk result (λ book. HasLastGate book (D.seen disk.new)) }
     {
         let people = People::new(alloc);
-        let Ok(place) = record_file::create(disk, SITE) else {
+        let Ok(place) = peer_disk::create(disk, SITE) else {
             return Err(BookFault::DiskFault);
         };
         Ok(Book {
@@ -118,7 +117,7 @@ impl Book {
         if size == 0 {
             return Book::create(alloc, disk);
         }
-        let loaded = record_file::load(alloc, disk, SITE)?;
+        let loaded = peer_disk::load(alloc, disk, SITE)?;
         let (people, place) = read_people(alloc, &loaded)?;
         Ok(Book {
             alloc,
@@ -166,7 +165,7 @@ impl Book {
         if self.people.apply(change).is_err() {
             return Err(BookFault::NoMemory);
         }
-        match record_file::put(disk, self.place, &record) {
+        match peer_disk::put(disk, self.place, &record) {
             Ok(place) => {
                 self.place = place;
                 Ok(())

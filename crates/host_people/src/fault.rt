@@ -1,7 +1,7 @@
 //! Why a book gives up.
 
 use element_name::NoMemory;
-use record_file::LoadFault;
+use peer_disk::LoadFault;
 use std::alloc::{AllocError, AllocFailed};
 
 /// Why a book gives up.

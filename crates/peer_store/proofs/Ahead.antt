@@ -5,7 +5,7 @@ use Rattle.std.proofs.lemmas.List.{take_at}
 use Rattle.std.proofs.lemmas.List.Sums.{fold_push, fold-append}
 use Rattle.peer_disk.specs.Disk.{LeavesOnly}
 use Rattle.peer_disk.proofs.Moments.{started, weakened}
-use Rattle.record_file.specs.Records.{records, gate_place, HasBodies, Keeps, IsBeforeOrAll}
+use Rattle.peer_disk.specs.Records.{records, gate_place, HasBodies, Keeps, IsBeforeOrAll}
 use Rattle.edit_message.specs.declared.message.Message.{Message}
 use Rattle.peer_step.specs.declared.step.Step.{Step}
 use Rattle.peer_core.specs.Peer.{Peer, fresh_peer}

@@ -3,14 +3,14 @@ use Rattle.std.proofs.Common.{◌≡◌, inl, inr, ℕ, ◌+◌, ◌<◌, List, 
 use Rattle.std.proofs.lemmas.List.Elements.{All-take, All-tail}
 use Rattle.std.proofs.lemmas.List.{take_at}
 use Rattle.peer_disk.specs.Disk.{Only}
-use Rattle.record_file.specs.declared.walk.Ending.{Ending}
-use Rattle.record_file.specs.declared.walk.Ending.TheVariants.{Closed, Broken}
-use Rattle.record_file.specs.Records.{HasHead, file_head, record_of, records, gate_place, bytes_of_each, FitsRecord, HasBodies, BreaksAfter}
-use Rattle.record_file.specs.declared.walk.Loaded.{Loaded}
-use Rattle.record_file.specs.declared.fault.LoadFault.{LoadFault}
-use Rattle.record_file.specs.declared.fault.LoadFault.TheVariants as loads
+use Rattle.peer_disk.specs.declared.walk.Ending.{Ending}
+use Rattle.peer_disk.specs.declared.walk.Ending.TheVariants.{Closed, Broken}
+use Rattle.peer_disk.specs.Records.{HasHead, file_head, record_of, records, gate_place, bytes_of_each, FitsRecord, HasBodies, BreaksAfter}
+use Rattle.peer_disk.specs.declared.walk.Loaded.{Loaded}
+use Rattle.peer_disk.specs.declared.fault.LoadFault.{LoadFault}
+use Rattle.peer_disk.specs.declared.fault.LoadFault.TheVariants as loads
 use Rattle.edit_io.specs.Causes.{Rose}
-use Rattle.record_file.specs.Loading.{EndsSo, Loads}
+use Rattle.peer_disk.specs.Loading.{EndsSo, Loads}
 use Rattle.peer_store.specs.declared.fault.StoreFault.{StoreFault}
 use Rattle.peer_store.specs.declared.fault.StoreFault.TheVariants.{DiskFault, NotAStore, Spent, StoreFull, NoMemory}
 use Rattle.peer_store.specs.Faults.{fault_of_load, MayFailOpening}

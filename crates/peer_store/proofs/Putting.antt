@@ -7,9 +7,9 @@ use Rattle.element_name.specs.Cases.{when, first_of}
 use Rattle.std.proofs.lemmas.List.{append-nil}
 use Rattle.peer_disk.specs.Disk.{Only, LeavesOnly}
 use Rattle.peer_disk.proofs.Moments.{started, weakened}
-use Rattle.record_file.specs.Records.{records, record_of, HasNoneIfAny}
-use Rattle.record_file.proofs.Appending.{records-push}
-use Rattle.record_file.proofs.Bodies.{none_in_four}
+use Rattle.peer_disk.specs.Records.{records, record_of, HasNoneIfAny}
+use Rattle.peer_disk.proofs.Appending.{records-push}
+use Rattle.peer_disk.proofs.Bodies.{none_in_four}
 use Rattle.peer_step.specs.declared.step.Step.{Step}
 use Rattle.peer_step.specs.declared.answer.Answer.{Answer}
 use Rattle.peer_core.specs.Peer.{Peer, front}

@@ -3,9 +3,9 @@ use Rattle.std.proofs.Common.{◌≡◌, inl, inr, ⊎_elim, ℕ, ◌+◌, List,
 use Rattle.std.specs.Prelude.{fold}
 use Rattle.std.proofs.lemmas.Bool.{both_ways}
 use Rattle.std.proofs.lemmas.List.Elements.{All-push}
-use Rattle.record_file.specs.declared.layout.TheConstants.{FIRST_GATE}
-use Rattle.record_file.specs.Records.{file_head, HasHead, records, FitsRecord, HasBodies, BreaksAfter, IsNoRecord}
-use Rattle.record_file.proofs.Readings.{continues}
+use Rattle.peer_disk.specs.declared.layout.TheConstants.{FIRST_GATE}
+use Rattle.peer_disk.specs.Records.{file_head, HasHead, records, FitsRecord, HasBodies, BreaksAfter, IsNoRecord}
+use Rattle.peer_disk.proofs.Readings.{continues}
 use Rattle.peer_store.specs.Body.{IsBody}
 use Rattle.peer_step.specs.declared.step.Step.{Step}
 use Rattle.peer_core.specs.Peer.{Peer, fresh_peer, front}

@@ -3,9 +3,9 @@ use Rattle.std.proofs.Common.{◌≡◌, ℕ, suc, ◌+◌, ◌≤◌, ◌<◌, 
 use Rattle.std.proofs.Math.Seq.{drop-cons}
 use Rattle.std.proofs.lemmas.List.{take-append-drop}
 use Rattle.std.proofs.lemmas.List.Sums.{fold_push}
-use Rattle.record_file.specs.Records.{file_head, record_of, records, gate_place, bytes_of_each}
-use Rattle.record_file.proofs.Appending.{records-append, each-append}
-use Rattle.record_file.proofs.Buffers.{one_more, gate_behind, gate_within}
+use Rattle.peer_disk.specs.Records.{file_head, record_of, records, gate_place, bytes_of_each}
+use Rattle.peer_disk.proofs.Appending.{records-append, each-append}
+use Rattle.peer_disk.proofs.Buffers.{one_more, gate_behind, gate_within}
 use Rattle.peer_core.specs.Peer.{Peer}
 use Rattle.peer_core.specs.After.{peer_after}
 use Rattle.peer_store.specs.Steps.{changes}

@@ -1,7 +1,7 @@
 -- What a disk keeps of steps, by what it keeps of their bodies.
 use Rattle.std.proofs.Common.{◌≡◌, ℕ, true, false, List, [], ◌∷◌, ◌++◌, refl, sym, ap, subst, Option}
 use Rattle.std.specs.Prelude.{fold, if◌then◌else◌}
-use Rattle.record_file.specs.Records.{HasBodies, HasNoneIfAny}
+use Rattle.peer_disk.specs.Records.{HasBodies, HasNoneIfAny}
 use Rattle.peer_step.specs.declared.step.Step.{Step}
 use Rattle.peer_core.specs.Peer.{Peer, fresh_peer}
 use Rattle.peer_core.specs.After.{peer_after}

@@ -2,8 +2,8 @@
 use Rattle.std.specs.Prelude.{◌≡◌, ⊤, ℕ, List, [], ◌∷◌, Option, Some, None, IfSome, true}
 use Rattle.element_name.specs.Cases.{when, first_of}
 use Rattle.edit_io.specs.Causes.{Rose}
-use Rattle.record_file.specs.declared.fault.LoadFault.{LoadFault}
-use Rattle.record_file.specs.declared.fault.LoadFault.TheVariants as loads
+use Rattle.peer_disk.specs.declared.fault.LoadFault.{LoadFault}
+use Rattle.peer_disk.specs.declared.fault.LoadFault.TheVariants as loads
 use Rattle.peer_step.specs.declared.step.Step.{Step}
 use Rattle.peer_core.specs.After.{peer_after}
 use Rattle.peer_store.specs.declared.fault.StoreFault.{StoreFault}

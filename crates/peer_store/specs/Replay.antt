@@ -1,8 +1,8 @@
 -- What a peer is after the steps of bodies.
 use Rattle.std.specs.Prelude.{◌≡◌, ⊤, ℕ, true, List, ◌∷◌, ◌++◌, fold}
-use Rattle.record_file.specs.declared.walk.Loaded.{Loaded}
-use Rattle.record_file.specs.Records.{gate_place}
-use Rattle.record_file.specs.Loading.{Loads}
+use Rattle.peer_disk.specs.declared.walk.Loaded.{Loaded}
+use Rattle.peer_disk.specs.Records.{gate_place}
+use Rattle.peer_disk.specs.Loading.{Loads}
 use Rattle.peer_step.specs.declared.step.Step.{Step}
 use Rattle.peer_core.specs.Peer.{Peer}
 use Rattle.peer_core.specs.After.{peer_after}

@@ -4,7 +4,7 @@ use Rattle.edit_message.specs.declared.message.Message.{Message}
 use Rattle.peer_step.specs.declared.step.Step.{Step}
 use Rattle.peer_core.specs.Peer.{Peer, fresh_peer, front}
 use Rattle.peer_core.specs.After.{peer_after}
-use Rattle.record_file.specs.Records.{file_head, HasHead, record_of, records, gate_place, FitsRecord, HasBodies, IsNoRecord, Keeps}
+use Rattle.peer_disk.specs.Records.{file_head, HasHead, record_of, records, gate_place, FitsRecord, HasBodies, IsNoRecord, Keeps}
 use Rattle.peer_store.specs.Body.{IsBody}
 use Rattle.peer_store.specs.declared.limits.TheConstants.{MAX_GATE}
 use Rattle.peer_store.specs.Steps.{replay_of, changes, is_look}

@@ -5,7 +5,7 @@ ghost use Rattle.peer_store.specs.Faults.{fault_of_load};
 
 use edit_io::Failed;
 use element_name::NoMemory;
-use record_file::LoadFault;
+use peer_disk::LoadFault;
 
 /// Why a store can't be made or opened, or a step can't be put.
 #[derive(Clone, Copy, Debug, PartialEq, Eq)]

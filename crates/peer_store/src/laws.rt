@@ -29,7 +29,7 @@ pub fn changing_steps()
 pub fn one_list()
     ensures { (site : ℕ) (file : List ℕ) (first second : List Step) → StandsFor site first file → StandsFor site second file → first ≡ second }
 {
-    record_file::laws::one_reading();
+    peer_disk::laws::one_reading();
     one_step();
 }
 
@@ -37,7 +37,7 @@ pub fn one_list()
 pub fn no_store()
     ensures { (site offset : ℕ) (file : List ℕ) (steps : List Step) → IsNoStoreFrom site offset file → StandsFor site steps file → ⊥ }
 {
-    record_file::laws::broken_has_none();
+    peer_disk::laws::broken_has_none();
     one_step();
 }
 

@@ -1,7 +1,7 @@
 //! Peers from the bodies of their steps.
 ghost use Rattle.std.specs.Prelude.{◌≡◌, ◌<◌, ◌^◌, false, IfOk, IfErr, IsTrue};
-ghost use Rattle.record_file.specs.declared.walk.Ending.{Ending};
-ghost use Rattle.record_file.specs.Records.{gate_place, bytes_of_each};
+ghost use Rattle.peer_disk.specs.declared.walk.Ending.{Ending};
+ghost use Rattle.peer_disk.specs.Records.{gate_place, bytes_of_each};
 ghost use Rattle.peer_core.specs.Peer.{fresh_peer};
 ghost use Rattle.peer_store.specs.Store.{IsNoStep};
 ghost use Rattle.peer_store.specs.Replay.{MakesBody, IsReplay, IsStoppedBy, IsRefusedBy};
@@ -12,7 +12,7 @@ use crate::spelled::next_version;
 use crate::stepped::{Stepped, make_step};
 use element_name::NoMemory;
 use peer_core::Peer;
-use record_file::{BESIDE_BODY, Ending, FIRST_GATE, Loaded};
+use peer_disk::{BESIDE_BODY, Ending, FIRST_GATE, Loaded};
 use std::alloc::Global;
 
 // Makes the step of a body, and says whether it is one that changes the peer.

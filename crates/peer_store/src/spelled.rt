@@ -7,8 +7,8 @@ ghost use Rattle.peer_store.specs.Store.{IsBodyFor};
 use crate::body::body_of;
 use element_name::NoMemory;
 use peer_core::Peer;
+use peer_disk::Record;
 use peer_step::Step;
-use record_file::Record;
 use std::alloc::Global;
 
 /// The version that an operation of this peer would make.

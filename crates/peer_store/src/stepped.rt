@@ -8,8 +8,8 @@ ghost use Rattle.peer_store.specs.Store.{IsKeptIn};
 use crate::spelled::step_record;
 use element_name::NoMemory;
 use peer_core::Peer;
+use peer_disk::Records;
 use peer_step::{Answer, Step};
-use record_file::Records;
 use std::alloc::Global;
 
 /// A step that was made.

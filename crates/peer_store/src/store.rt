@@ -3,7 +3,7 @@ ghost use Rattle.std.specs.Prelude.{◌≡◌, ◌<◌, ◌≤◌, ◌++◌, ◌
 ghost use Rattle.std.specs.declared.option.Option.{Option};
 ghost use Rattle.edit_io.specs.Causes.{Rose};
 ghost use Rattle.peer_disk.specs.Disk.{Only, LeavesOnly};
-ghost use Rattle.record_file.specs.Records.{records};
+ghost use Rattle.peer_disk.specs.Records.{records};
 ghost use Rattle.peer_step.specs.declared.step.Step.{Step};
 ghost use Rattle.peer_core.specs.Peer.{fresh_peer};
 ghost use Rattle.peer_core.specs.Answers.{answer_of};
@@ -19,9 +19,8 @@ use crate::stepped::keep_step;
 use edit_io::Failed;
 use element_name::NoMemory;
 use peer_core::Peer;
-use peer_disk::Disk;
+use peer_disk::{Disk, Records};
 use peer_step::{Answer, Step};
-use record_file::Records;
 use std::alloc::Global;
 use std::marker::Model;
 
@@ -61,7 +60,7 @@ impl Drop for Store {
 
 impl Model for Store {
     ghost use Rattle.std.specs.Prelude.{◌+◌, length};
-    ghost use Rattle.record_file.specs.Records.{records};
+    ghost use Rattle.peer_disk.specs.Records.{records};
     ghost use Rattle.peer_store.specs.Store.{Saved, FitsInFile};
 
     ghost Value = { Saved };
@@ -125,7 +124,7 @@ impl Store {
     {
         let unsaved = no_records(alloc)?;
         let peer = Peer::new(alloc, site)?;
-        match record_file::create(disk, site) {
+        match peer_disk::create(disk, site) {
             Ok(place) => Ok(store_over(alloc, peer, place, unsaved)),
             Err(Failed) => {
                 drop(peer);
@@ -150,7 +149,7 @@ impl Store {
         ensures failed { IfErr result (λ fault. MayFailOpening fault site (D.seen disk.old) (D.faults disk.old) (D.faults disk.new)) }
         ensures faults { D.faults disk.old ≤ D.faults disk.new }
     {
-        let loaded = record_file::load(alloc, disk, site)?;
+        let loaded = peer_disk::load(alloc, disk, site)?;
         let unsaved = no_records(alloc)?;
         let Replayed { peer, place } = replay_file(alloc, site, &loaded)?;
         Ok(store_over(alloc, peer, place, unsaved))
@@ -238,7 +237,7 @@ impl Store {
         if self.unsaved.is_empty() {
             return Ok(());
         }
-        match record_file::put_all(disk, self.place, &self.unsaved) {
+        match peer_disk::put_all(disk, self.place, &self.unsaved) {
             Ok(next) => {
                 self.place = next;
                 self.unsaved.clear();

@@ -8,7 +8,7 @@
 #[cfg(test)]
 mod of_peer_store;
 #[cfg(test)]
-mod of_record_file;
+mod of_records;
 #[cfg(test)]
 mod of_sequences;
 #[cfg(test)]

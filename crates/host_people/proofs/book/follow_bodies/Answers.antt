@@ -1,6 +1,6 @@
 use Rattle.std.proofs.Common.{ℕ, List, [], ◌∷◌, ◌++◌, length, take, ap, arith, sym, ◌∙◌}
-use Rattle.record_file.specs.Records.{bytes_of_each}
-use Rattle.record_file.proofs.Buffers.{one_more, gate_behind, gate_within}
+use Rattle.peer_disk.specs.Records.{bytes_of_each}
+use Rattle.peer_disk.proofs.Buffers.{one_more, gate_behind, gate_within}
 use Rattle.host_people.proofs.book.follow_bodies.Goals as goal
 
 pub overflow_add-place-in-loop-body : goal.overflow_add-place-in-loop-body

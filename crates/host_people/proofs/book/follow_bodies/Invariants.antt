@@ -1,5 +1,5 @@
 use Rattle.std.proofs.Common.{◌≡◌, take}
-use Rattle.record_file.specs.Records.{gate_place, bytes_of_each}
+use Rattle.peer_disk.specs.Records.{gate_place, bytes_of_each}
 use Rattle.host_people.specs.Bodies.{change_bodies}
 use Rattle.host_people.proofs.book.follow_bodies.Given as goal
 

@@ -1,6 +1,6 @@
 use Rattle.std.proofs.Common.{ℕ, List, length, refl, ap, ◌∙◌, subst, arith}
-use Rattle.record_file.specs.Records.{gate_place}
-use Rattle.record_file.proofs.Buffers.{all_taken}
+use Rattle.peer_disk.specs.Records.{gate_place}
+use Rattle.peer_disk.proofs.Buffers.{all_taken}
 use Rattle.peer_store.specs.Replay.{IsReplay}
 use Rattle.peer_store.proofs.Replays.{nothing_made, next_replay, next_place, place_below, stops_at_item}
 use Rattle.peer_store.proofs.replay.replay.Goals as goal

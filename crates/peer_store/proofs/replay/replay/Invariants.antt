@@ -1,5 +1,5 @@
 use Rattle.std.proofs.Common.{◌≡◌, take}
-use Rattle.record_file.specs.Records.{gate_place, bytes_of_each}
+use Rattle.peer_disk.specs.Records.{gate_place, bytes_of_each}
 use Rattle.peer_store.specs.Replay.{IsReplay}
 use Rattle.peer_store.proofs.replay.replay.Given as goal
 

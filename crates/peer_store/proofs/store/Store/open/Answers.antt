@@ -1,5 +1,5 @@
 use Rattle.std.proofs.Common.{List, [], false, length, refl, sym, subst}
-use Rattle.record_file.specs.Records.{bytes_of_each}
+use Rattle.peer_disk.specs.Records.{bytes_of_each}
 use Rattle.peer_step.specs.declared.step.Step.{Step}
 use Rattle.peer_store.specs.Store.{Saved, IsSaved, HasGate}
 use Rattle.peer_store.proofs.Opening.{saved_again, has_gate, closed_loads}

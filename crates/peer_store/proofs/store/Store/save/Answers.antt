@@ -1,5 +1,5 @@
 use Rattle.std.proofs.Common.{◌≡◌, ℕ, ◌+◌, ◌++◌, List, length, arith, refl, sym, ap, ◌∙◌, subst}
-use Rattle.record_file.specs.Records.{records, Keeps}
+use Rattle.peer_disk.specs.Records.{records, Keeps}
 use Rattle.peer_store.specs.Store.{Saved}
 use Rattle.peer_store.proofs.Ahead.{nothing_saved, inside_put, messages_left, none_saved, all_saved, keeps_there}
 use Rattle.peer_store.proofs.store.Store.save.Goals as goal

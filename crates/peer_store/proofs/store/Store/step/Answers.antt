@@ -1,5 +1,5 @@
 use Rattle.std.proofs.Common.{◌≡◌, ◌+◌, ◌<◌, ◌++◌, true, length, refl, sym, ap, ◌∙◌, subst}
-use Rattle.record_file.specs.Records.{records}
+use Rattle.peer_disk.specs.Records.{records}
 use Rattle.peer_store.specs.Steps.{changes, if_changing}
 use Rattle.peer_store.specs.Store.{Saved, IsAhead}
 use Rattle.peer_store.specs.Faults.{refusal_of}
