@@ -20,15 +20,15 @@ pub record GivesFrom (file : List ℕ) (from n : ℕ) (buf : List ℕ) : Type 0 
   pub none : (n ≡ 0) ↔ ((buf ≡ []) ⊎ (length file ≤ from))
 
 -- what a read gives after a write that answered so: the bytes were written, or are any from their place on
-abbrev pub IsWritten : Result (Unit {0}) Failed → ℕ → List ℕ → List ℕ → List ℕ → Type 0
-IsWritten (Ok done) from bytes old new = new ≡ overwritten old from bytes
-IsWritten (Err fail) from bytes old new = Torn from (length bytes) old new
+abbrev pub IsWrittenOrTorn : Result (Unit {0}) Failed → ℕ → List ℕ → List ℕ → List ℕ → Type 0
+IsWrittenOrTorn (Ok done) from bytes old new = new ≡ overwritten old from bytes
+IsWrittenOrTorn (Err fail) from bytes old new = Torn from (length bytes) old new
 
 -- the same of a disk that may tell what a read gives, and tells it then as before
 abbrev pub Writes : Result (Unit {0}) Failed → ℕ → List ℕ → Option (List ℕ) → Option (List ℕ) → Type 0
 Writes result from bytes None new = new ≡ None
 Writes result from bytes (Some old) None = ⊥
-Writes result from bytes (Some old) (Some new) = IsWritten result from bytes old new
+Writes result from bytes (Some old) (Some new) = IsWrittenOrTorn result from bytes old new
 
 -- nothing has changed of what a read gives and a crash may leave
 pub record IsUntouched (seen_before seen_now : Option (List ℕ)) (before now : List ℕ → Type 0) : Type 0 where

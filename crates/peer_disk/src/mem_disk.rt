@@ -2,7 +2,7 @@
 ghost use Rattle.std.specs.Prelude.{◌≡◌, ◌≤◌, ◌↔◌, ◌++◌, ◌∷◌, [], ℕ, List, Some, IsTrue, IsErr, IfOk, OnOk, OnErr, length};
 ghost use Rattle.std.specs.Io.{ReadsAtMost};
 ghost use Rattle.edit_io.specs.Causes.{HasCause, next_count};
-ghost use Rattle.peer_disk.specs.Disk.{overwritten, GivesFrom, Torn, IsWritten, IsUntouched, LeavesAfter, Only, Elapses};
+ghost use Rattle.peer_disk.specs.Disk.{overwritten, GivesFrom, Torn, IsWrittenOrTorn, IsUntouched, LeavesAfter, Only, Elapses};
 ghost use Rattle.peer_disk.specs.History.{bytes_after_all, may_leave_of, left_since_of, NextFails, called, bytes_held};
 ghost use Rattle.peer_disk.specs.HistoryLaws.{bytes_stay, left_now, left_only};
 
@@ -242,7 +242,7 @@ impl Disk for MemDisk {
 
     fn write_at(&mut self, from: u64, bytes: &[u8]) -> Result<(), Failed>
         requires { from ≤ length (bytes_after_all self.old.first self.old.history) }
-        ensures written { IsWritten result from bytes.now (bytes_after_all self.old.first self.old.history) (bytes_after_all self.new.first self.new.history) }
+        ensures written { IsWrittenOrTorn result from bytes.now (bytes_after_all self.old.first self.old.history) (bytes_after_all self.new.first self.new.history) }
         ensures crash { LeavesAfter (Torn from (length bytes.now)) (may_leave_of self.old.first self.old.history) (may_leave_of self.new.first self.new.history) }
         ensures time { Elapses (length self.old.history) (length self.new.history) (left_since_of self.old.first self.old.history) (left_since_of self.new.first self.new.history) (may_leave_of self.new.first self.new.history) }
         ensures cause { HasCause self.old.faults self.new.faults result }
