@@ -5,7 +5,7 @@ use Rattle.line_engine.specs.declared.status.Status.TheVariants.{ReadFault, Writ
 use Rattle.line_engine.specs.Engine.{StatusCause}
 use Rattle.peer_step.specs.declared.step.Step.{Step}
 use Rattle.peer_lock.specs.declared.call.Call.{Call}
-use Rattle.form_race.specs.Race.{RanRace}
+use Rattle.race_run.specs.Form.{RanRace}
 use Rattle.form_watch.specs.Watch.{Watches}
 use Rattle.line_input.specs.declared.reading.InputEnd.{InputEnd}
 use Rattle.line_input.specs.Steps.{ReadSteps, EndCause}

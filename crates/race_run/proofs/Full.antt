@@ -12,8 +12,8 @@ use Rattle.peer_lock.specs.Answers.{IsSame, KnowsFull, UnitesPasses, ClosesRun}
 use Rattle.peer_lock.specs.Laws.{steps_below}
 use Rattle.peer_lock.proofs.Lists.{times-append}
 use Rattle.peer_lock.proofs.ByCaller.{had_room}
-use Rattle.race_run.specs.declared.worker.Ended.{Ended}
-use Rattle.race_run.specs.declared.worker.Ended.TheVariants.{Done, Full, Short}
+use Rattle.race_run.specs.declared.working.Ended.{Ended}
+use Rattle.race_run.specs.declared.working.Ended.TheVariants.{Done, Full, Short}
 use Rattle.race_run.specs.Work.{MadeSome, Works}
 
 -- the steps that a worker has made are at most those of its list, and fewer where the run was full

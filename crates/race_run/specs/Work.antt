@@ -4,8 +4,8 @@ use Rattle.peer_step.specs.declared.step.Step.{Step}
 use Rattle.peer_lock.specs.declared.view.View.{View}
 use Rattle.peer_lock.specs.Answers.{KnowsFull}
 use Rattle.peer_lock.specs.Made.{Made}
-use Rattle.race_run.specs.declared.worker.Ended.{Ended}
-use Rattle.race_run.specs.declared.worker.Ended.TheVariants.{Done, Full, Short}
+use Rattle.race_run.specs.declared.working.Ended.{Ended}
+use Rattle.race_run.specs.declared.working.Ended.TheVariants.{Done, Full, Short}
 
 -- it has made the first steps of a list, and not all
 abbrev pub MadeSome : View → View → List Step → Type 0

@@ -10,7 +10,7 @@ ghost use Rattle.race_run.specs.Race.{IsRaceOf};
 ghost use Rattle.race_run.specs.Work.{Works};
 
 use crate::gate::Gate;
-use crate::worker::{Ended, work};
+use crate::working::{Ended, work};
 use element_name::NoMemory;
 use peer_core::Peer;
 use peer_lock::{History, Pass, SharedPeer};

@@ -1,55 +1,27 @@
-//! One worker.
-ghost use Rattle.std.specs.Prelude.{◌≡◌, ◌≤◌, length};
-ghost use Rattle.peer_lock.specs.declared.limits.TheConstants.{MAX_RUN};
-ghost use Rattle.peer_lock.specs.Answers.{IsSame};
-ghost use Rattle.race_run.specs.Work.{Works};
+//! Who runs a step.
+ghost use Rattle.std.specs.Prelude.{◌≡◌};
+ghost use Rattle.race_run.specs.Lists.{worker_of};
 
-use crate::gate::Gate;
-use peer_lock::{Pass, SharedPeer, StepFail};
-use peer_step::PackedStep;
-use std::alloc::Global;
-use std::sync::Wait;
-use std::thread::Threads;
+use peer_step::Step;
 
-/// How a worker ended.
-#[derive(Clone, Copy, Drop)]
-pub(crate) enum Ended {
-    /// It made all its steps.
-    Done,
-    /// The run was full.
-    Full,
-    /// Memory was wanting.
-    Short,
+/// A worker of a race.
+#[derive(Clone, Copy, Debug, PartialEq, Eq)]
+pub enum Worker {
+    /// It edits, and looks at what is there.
+    Editor,
+    /// It takes what arrives.
+    Receiver,
+    /// It changes the policy.
+    Administrator,
 }
 
-/// Makes all steps of a list, in their order, and tells the gate of each.
-pub(crate) fn work<R: Threads + Wait + Sync, G: Gate>(
-    rt: &R,
-    alloc: Global,
-    shared: &SharedPeer,
-    mut pass: Pass,
-    steps: &[PackedStep],
-    gate: &G,
-) -> (Pass, Ended)
-    requires own { pass.table ≡ shared.now }
-    requires few { length steps.now ≤ MAX_RUN }
-    ensures same { IsSame pass result.0 }
-    ensures works { Works pass.view result.0.view steps.now result.1 }
+/// The worker that runs a step.
+pub fn worker_of(step: &Step) -> Worker
+    ensures { result ≡ worker_of step.now }
 {
-    let worker = pass.number();
-    let mut made = 0;
-    for step in steps {
-        gate.pass(worker, made);
-        let Ok(step) = step.copied() else {
-            return (pass, Ended::Short);
-        };
-        match shared.step(rt, alloc, &mut pass, step) {
-            Ok(answer) => drop(answer),
-            Err(StepFail::RunFull) => return (pass, Ended::Full),
-            Err(StepFail::NoMemory) => return (pass, Ended::Short),
-        }
-        made += 1;
+    match step {
+        Step::Edit(_) | Step::Look { .. } | Step::Show => Worker::Editor,
+        Step::Receive(_) | Step::Settle => Worker::Receiver,
+        Step::Administer(_) | Step::ValidateNext => Worker::Administrator,
     }
-    gate.pass(worker, made);
-    (pass, Ended::Done)
 }

@@ -2,7 +2,7 @@ use denote.Param.Send.{sendable}
 use Rattle.std.proofs.Crossing.{sync}
 use Rattle.std.proofs.Common.{◌≡◌, ◌⊎◌, inl, inr}
 use Rattle.peer_lock.proofs.Crossing.{of_shared_peers}
-use Rattle.race_run.specs.declared.worker.Ended.TheVariants.{Full}
+use Rattle.race_run.specs.declared.working.Ended.TheVariants.{Full}
 use Rattle.race_run.proofs.Crossing.{PackedStep-sync}
 use Rattle.race_run.proofs.Full.{never_full}
 use Rattle.race_run.proofs.racing.race_lists.Goals as goal

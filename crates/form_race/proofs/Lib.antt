@@ -1,4 +1,0 @@
-mod Phases
-mod InTurn
-mod Races
-pub mod Silence

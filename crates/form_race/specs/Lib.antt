@@ -1,4 +1,0 @@
-pub mod Race
-pub mod Laws
-pub mod Lists
-pub mod SilenceLaws

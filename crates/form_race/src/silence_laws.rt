@@ -1,8 +1,0 @@
-//! What reading an input comes to. The functions do nothing: each stands for its statement.
-ghost use Rattle.form_race.specs.SilenceLaws.{SilentLaw, SilentFaultLaw};
-
-/// Nothing is written of an input but the line that ends its reading.
-pub fn silence()
-    ensures outputs { SilentLaw }
-    ensures parts { SilentFaultLaw }
-{}
