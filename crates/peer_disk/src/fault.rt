@@ -1,4 +1,7 @@
 //! Why a file of records couldn't be read.
+ghost use Rattle.std.specs.Prelude.{◌≡◌};
+ghost use Rattle.peer_disk.specs.declared.fault.LoadFault.TheVariants as faults;
+
 use edit_io::Failed;
 use std::alloc::{AllocError, AllocFailed};
 
@@ -14,10 +17,7 @@ pub enum LoadFault {
 }
 
 impl From<AllocError> for LoadFault {
-    ghost use Rattle.std.specs.Prelude.{◌≡◌};
-    ghost use Rattle.peer_disk.specs.declared.fault.LoadFault.TheVariants.{NoMemory};
-
-    ghost from_gives = { λ _ e. e ≡ NoMemory };
+    ghost from_gives = { λ _ f. f ≡ faults.NoMemory };
 
     fn from(_: AllocError) -> Self {
         LoadFault::NoMemory
@@ -25,10 +25,7 @@ impl From<AllocError> for LoadFault {
 }
 
 impl<T: Drop> From<AllocFailed<T>> for LoadFault {
-    ghost use Rattle.std.specs.Prelude.{◌≡◌};
-    ghost use Rattle.peer_disk.specs.declared.fault.LoadFault.TheVariants.{NoMemory};
-
-    ghost from_gives = { λ _ e. e ≡ NoMemory };
+    ghost from_gives = { λ _ f. f ≡ faults.NoMemory };
 
     fn from(_: AllocFailed<T>) -> Self {
         LoadFault::NoMemory
@@ -36,10 +33,7 @@ impl<T: Drop> From<AllocFailed<T>> for LoadFault {
 }
 
 impl From<Failed> for LoadFault {
-    ghost use Rattle.std.specs.Prelude.{◌≡◌};
-    ghost use Rattle.peer_disk.specs.declared.fault.LoadFault.TheVariants.{DiskFault};
-
-    ghost from_gives = { λ _ e. e ≡ DiskFault };
+    ghost from_gives = { λ _ f. f ≡ faults.DiskFault };
 
     fn from(_: Failed) -> Self {
         LoadFault::DiskFault
