@@ -1,3 +1,2 @@
 pub mod PieceRow
 pub mod Histories
-pub mod PaddedRows

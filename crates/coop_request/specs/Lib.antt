@@ -5,3 +5,4 @@ pub mod History
 pub mod ShortRow
 pub mod PackedBytes
 pub mod PackedEdit
+pub mod LentEdit

@@ -6,6 +6,9 @@
 
 mod edit;
 pub mod laws;
+mod lent_edit;
+mod lent_piece;
+mod lent_request;
 mod packed_piece;
 mod packed_request;
 mod piece;
@@ -13,6 +16,9 @@ mod request;
 mod row;
 
 pub use edit::{Edit, Right};
+pub use lent_edit::LentEdit;
+pub use lent_piece::LentPiece;
+pub use lent_request::LentRequest;
 pub use packed_piece::{PackedPiece, SHORT_PIECE};
 pub use packed_request::PackedRequest;
 pub use piece::{MAX_PIECE, Piece, is_text};

@@ -1,8 +1,7 @@
 //! Packed pieces.
 ghost use Rattle.std.specs.Prelude.{◌≡◌, ◌≤◌, length, IfOk, IsOk};
-ghost use Rattle.element_name.specs.Rows.{row_items};
-ghost use Rattle.coop_request.specs.ShortRow.{HoldsShort};
 
+use crate::lent_piece::LentPiece;
 use crate::piece::Piece;
 use crate::row::padded;
 use element_name::NoMemory;
@@ -42,10 +41,18 @@ impl PackedPiece {
         ensures packed { IfOk result (λ p. p ≡ piece) }
         ensures short { length piece ≤ SHORT_PIECE → IsOk result }
     {
+        PackedPiece::of_lent(alloc, &piece.lent())
+    }
+
+    /// A lent piece, packed. A short one takes no memory.
+    pub fn of_lent(alloc: Global, piece: &LentPiece<'_>) -> Result<PackedPiece, NoMemory>
+        ensures packed { IfOk result (λ p. p ≡ piece.now) }
+        ensures short { length piece.now ≤ SHORT_PIECE → IsOk result }
+    {
         let bytes = piece.bytes();
         if bytes.len() > SHORT_PIECE {
             return Ok(PackedPiece {
-                bytes: Bytes::Long(Box::new(alloc, piece)?),
+                bytes: Bytes::Long(Box::new(alloc, piece.piece())?),
             });
         }
         Ok(PackedPiece {
@@ -60,16 +67,16 @@ impl PackedPiece {
     pub fn piece(&self) -> Piece
         ensures { result ≡ self.now }
     {
+        self.lent().piece()
+    }
+
+    /// The piece, lent.
+    pub fn lent(&self) -> LentPiece<'_>
+        ensures { result ≡ self.now }
+    {
         match &self.bytes {
-            Bytes::Short { row, len } => unpacked(row, *len),
-            Bytes::Long(piece) => **piece,
+            Bytes::Short { row, len } => LentPiece::from_known(&row[..*len as usize]),
+            Bytes::Long(piece) => piece.lent(),
         }
     }
-}
-
-fn unpacked(row: &[u8; 15], len: u8) -> Piece
-    requires { HoldsShort row.now len }
-    ensures { result ≡ row_items row.now len }
-{
-    Piece::from_known(&row[..len as usize])
 }

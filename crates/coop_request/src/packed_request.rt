@@ -1,9 +1,11 @@
 //! Packed requests.
 ghost use Rattle.std.specs.Prelude.{◌≡◌, IfOk};
 ghost use Rattle.coop_request.specs.Edit.{anchor_or_target};
+ghost use Rattle.coop_request.specs.LentEdit.{edit_lent};
 ghost use Rattle.coop_request.specs.PackedEdit.{edit_in};
 
-use crate::edit::Edit;
+use crate::lent_edit::LentEdit;
+use crate::lent_request::LentRequest;
 use crate::packed_piece::PackedPiece;
 use crate::request::Request;
 use element_name::{Name, NoMemory};
@@ -44,34 +46,34 @@ impl Model for PackedRequest {
         (record { stamp = q.other_stamp; site = q.other_site }) q.version q.edit };
 }
 
-fn packed_edit(alloc: Global, edit: Edit) -> Result<PackedEdit, NoMemory>
-    ensures { IfOk result (λ e. edit_in (anchor_or_target edit) e ≡ edit) }
+fn packed_edit(alloc: Global, edit: &LentEdit<'_>) -> Result<PackedEdit, NoMemory>
+    ensures { IfOk result (λ e. edit_in (anchor_or_target (edit_lent edit.now)) e ≡ edit_lent edit.now) }
 {
     match edit {
-        Edit::Insert { letter, .. } => {
-            let letter = PackedPiece::of(alloc, letter)?;
+        LentEdit::Insert { letter, .. } => {
+            let letter = PackedPiece::of_lent(alloc, letter)?;
             Ok(PackedEdit::Insert { letter })
         }
-        Edit::Delete { .. } => Ok(PackedEdit::Delete),
-        Edit::Update { letter, .. } => {
-            let letter = PackedPiece::of(alloc, letter)?;
+        LentEdit::Delete { .. } => Ok(PackedEdit::Delete),
+        LentEdit::Update { letter, .. } => {
+            let letter = PackedPiece::of_lent(alloc, letter)?;
             Ok(PackedEdit::Update { letter })
         }
     }
 }
 
-fn edit_of(other: Name, edit: &PackedEdit) -> Edit
-    ensures { result ≡ edit_in other edit.now }
+fn edit_of(other: Name, edit: &PackedEdit) -> LentEdit<'_>
+    ensures { edit_lent result ≡ edit_in other edit.now }
 {
     match edit {
-        PackedEdit::Insert { letter } => Edit::Insert {
+        PackedEdit::Insert { letter } => LentEdit::Insert {
             after: other,
-            letter: letter.piece(),
+            letter: letter.lent(),
         },
-        PackedEdit::Delete => Edit::Delete { target: other },
-        PackedEdit::Update { letter } => Edit::Update {
+        PackedEdit::Delete => LentEdit::Delete { target: other },
+        PackedEdit::Update { letter } => LentEdit::Update {
             target: other,
-            letter: letter.piece(),
+            letter: letter.lent(),
         },
     }
 }
@@ -80,6 +82,13 @@ impl PackedRequest {
     /// A request, packed.
     pub fn of(alloc: Global, request: Request) -> Result<PackedRequest, NoMemory>
         ensures { IfOk result (λ q. q ≡ request) }
+    {
+        PackedRequest::of_lent(alloc, &request.lent())
+    }
+
+    /// A lent request, packed.
+    pub fn of_lent(alloc: Global, request: &LentRequest<'_>) -> Result<PackedRequest, NoMemory>
+        ensures { IfOk result (λ q. q ≡ request.now) }
     {
         let id = request.id();
         let other = request.edit().anchor_or_target();
@@ -97,8 +106,15 @@ impl PackedRequest {
     pub fn request(&self) -> Request
         ensures { result ≡ self.now }
     {
+        self.lent().request()
+    }
+
+    /// The request, its piece lent.
+    pub fn lent(&self) -> LentRequest<'_>
+        ensures { result ≡ self.now }
+    {
         let id = Name::from_known(self.stamp, self.site);
         let other = Name::from_known(self.other_stamp, self.other_site);
-        Request::from_known(id, self.version, edit_of(other, &self.edit))
+        LentRequest::from_known(id, self.version, edit_of(other, &self.edit))
     }
 }

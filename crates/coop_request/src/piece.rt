@@ -5,6 +5,7 @@ ghost use Rattle.std.specs.Char.{encode_utf8};
 ghost use Rattle.element_name.specs.Cases.{when};
 ghost use Rattle.coop_request.specs.Piece.{is_piece};
 
+use crate::lent_piece::LentPiece;
 use crate::row::padded;
 use std::fmt;
 use std::marker::Model;
@@ -52,10 +53,10 @@ impl Piece {
     pub fn checked(bytes: &[u8]) -> Option<Piece>
         ensures { result ≡ when (is_piece bytes.now) bytes.now }
     {
-        if bytes.is_empty() || bytes.len() > MAX_PIECE || !is_text(bytes) {
-            return None;
+        match LentPiece::checked(bytes) {
+            Some(piece) => Some(piece.piece()),
+            None => None,
         }
-        Some(Piece::from_known(bytes))
     }
 
     /// The piece of bytes that are known to be one's.
@@ -84,6 +85,13 @@ impl Piece {
         ensures piece { IsTrue (is_piece self.now) }
     {
         &self.row[..self.len as usize]
+    }
+
+    /// The same piece, lent.
+    pub fn lent(&self) -> LentPiece<'_>
+        ensures { result ≡ self.now }
+    {
+        LentPiece::from_known(self.bytes())
     }
 }
 

@@ -4,7 +4,8 @@ ghost use Rattle.coop_request.specs.Edit.{right_of};
 ghost use Rattle.coop_request.specs.Request.{request_fault, element_of, new_element_of, user_of, IsAccepted};
 
 use crate::edit::{Edit, Right};
-use element_name::{MAX_VERSION, Name};
+use crate::lent_request::LentRequest;
+use element_name::Name;
 use std::marker::Model;
 
 /// The greatest number of requests in a history.
@@ -50,16 +51,10 @@ impl Request {
             (λ q. (q ≡ record { id = id; version = version; edit = edit }) × IsAccepted q)
             (λ fault. request_fault (record { id = id; version = version; edit = edit }) ≡ Some fault) }
     {
-        if version > MAX_VERSION {
-            return Err(RequestFault::BadVersion);
+        match LentRequest::checked(id, version, edit.lent()) {
+            Ok(_) => Ok(Request { id, version, edit }),
+            Err(fault) => Err(fault),
         }
-        if edit.targets_start() {
-            return Err(RequestFault::StartTarget);
-        }
-        if id.stamp() <= edit.anchor_or_target().stamp() {
-            return Err(RequestFault::StampOrder);
-        }
-        Ok(Request { id, version, edit })
     }
 
     /// The request of parts that are known to be one's.
@@ -68,6 +63,13 @@ impl Request {
         ensures { result ≡ record { id = id; version = version; edit = edit } }
     {
         Request { id, version, edit }
+    }
+
+    /// The same request, its piece lent.
+    pub fn lent(&self) -> LentRequest<'_>
+        ensures { result ≡ self.now }
+    {
+        LentRequest::from_known(self.id, self.version, self.edit.lent())
     }
 
     /// Its name. The element that an insert makes has the same.

@@ -8,8 +8,6 @@ pub(crate) fn padded<const N: usize>(bytes: &[u8]) -> [u8; N]
     ensures { result ≡ row_from N bytes.now }
 {
     let mut row = [0; N];
-    for (i, byte) in bytes.iter().enumerate() {
-        row[i] = *byte;
-    }
+    row[..bytes.len()].copy_from_slice(bytes);
     row
 }
