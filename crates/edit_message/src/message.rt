@@ -4,8 +4,9 @@ ghost use Rattle.edit_message.specs.Message.{key_of};
 ghost use Rattle.edit_message.specs.Formed.{is_message, is_request, is_edit};
 ghost use Rattle.edit_message.specs.Same.{message_eq};
 ghost use Rattle.policy_book.specs.Lists.{is_name};
+ghost use Rattle.coop_request.specs.LentEdit.{edit_lent};
 
-use coop_request::{Edit, Request};
+use coop_request::{LentEdit, LentRequest, Request};
 use element_name::{Name, NoMemory};
 use policy_book::Entry;
 
@@ -34,6 +35,17 @@ pub enum Missing {
     Version(u32),
 }
 
+impl Key {
+    /// That of a request.
+    pub fn of_request(request: &LentRequest<'_>) -> Key
+        ensures value { result ≡ key_of (Message.Coop request.now) }
+        ensures message { IsTrue (is_message (Message.Coop request.now)) }
+    {
+        request_in_range(request);
+        Key::Coop(request.id())
+    }
+}
+
 impl Message {
     /// Its key.
     pub fn key(&self) -> Key
@@ -41,10 +53,7 @@ impl Message {
         ensures message { IsTrue (is_message self.now) }
     {
         match self {
-            Message::Coop(request) => {
-                request_in_range(*request);
-                Key::Coop(request.id())
-            }
+            Message::Coop(request) => Key::of_request(&request.lent()),
             Message::Admin(entry) => Key::Admin(entry.version()),
         }
     }
@@ -80,24 +89,24 @@ fn is_same_request(a: Request, b: Request) -> bool
 }
 
 // Each of these three looks at the parts of a value, whose types keep them in their ranges, and does nothing else.
-fn request_in_range(request: Request)
-    ensures { IsTrue (is_request request) }
+fn request_in_range(request: &LentRequest<'_>)
+    ensures { IsTrue (is_request request.now) }
 {
     name_in_range(request.id());
     edit_in_range(request.edit());
 }
 
-fn edit_in_range(edit: Edit)
-    ensures { IsTrue (is_edit edit) }
+fn edit_in_range(edit: &LentEdit<'_>)
+    ensures { IsTrue (is_edit (edit_lent edit.now)) }
 {
     match edit {
-        Edit::Insert { after, letter } => {
-            name_in_range(after);
+        LentEdit::Insert { after, letter } => {
+            name_in_range(*after);
             let _ = letter.bytes();
         }
-        Edit::Delete { target } => name_in_range(target),
-        Edit::Update { target, letter } => {
-            name_in_range(target);
+        LentEdit::Delete { target } => name_in_range(*target),
+        LentEdit::Update { target, letter } => {
+            name_in_range(*target);
             let _ = letter.bytes();
         }
     }

@@ -62,7 +62,7 @@ impl PackedMessage {
         ensures message { IsTrue (is_message self.now) }
     {
         match &self.packed {
-            Packed::Coop(request) => Message::Coop(request.request()).key(),
+            Packed::Coop(request) => Key::of_request(&request.lent()),
             Packed::Admin(entry) => Key::Admin(entry.version()),
         }
     }
