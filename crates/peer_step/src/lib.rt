@@ -5,11 +5,13 @@
 #![tactic(auto)]
 
 mod answer;
+mod lent;
 mod packed_step;
 mod step;
 mod text;
 
 pub use answer::{Answer, Outcome};
+pub use lent::{EditAnswer, LentLocalEdit};
 pub use packed_step::PackedStep;
 pub use step::{LocalEdit, Step};
 pub use text::Text;

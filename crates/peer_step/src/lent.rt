@@ -1,0 +1,52 @@
+//! A peer's own edits whose pieces lie elsewhere, and their answers without their requests.
+ghost use Rattle.std.specs.Prelude.{◌≡◌};
+ghost use Rattle.peer_step.specs.Lent.{local_edit_lent};
+
+use crate::step::LocalEdit;
+use coop_request::LentPiece;
+use element_name::Name;
+
+/// An edit at a place of the shown text, from 0, whose piece lies elsewhere.
+#[derive(Drop)]
+pub enum LentLocalEdit<'a> {
+    /// The piece is put in front of the one at this place, or last where the text ends there.
+    Insert { at: u32, letter: LentPiece<'a> },
+    /// The piece at this place is taken out.
+    Delete { at: u32 },
+    /// The piece at this place becomes this one.
+    Update { at: u32, letter: LentPiece<'a> },
+}
+
+/// The answer to an own edit, where a made request is told by its name and its version alone.
+#[derive(Clone, Copy)]
+pub enum EditAnswer {
+    /// The text is only as long as this.
+    BadPlace(u32),
+    /// The history has the greatest stamp.
+    ClockEnd,
+    /// The history has as many requests as it may.
+    HistoryFull,
+    /// The policy of this version denies the edit, by the authorization of that number or since none matches.
+    Denied { version: u32, by: Option<u32> },
+    /// The edit was made by the request of this name and version.
+    Done { id: Name, version: u32 },
+}
+
+impl LocalEdit {
+    /// The edit, whose piece stays here. Takes constant time.
+    pub fn lent(&self) -> LentLocalEdit<'_>
+        ensures { local_edit_lent result ≡ self.now }
+    {
+        match self {
+            LocalEdit::Insert { at, letter } => LentLocalEdit::Insert {
+                at: *at,
+                letter: letter.lent(),
+            },
+            LocalEdit::Delete { at } => LentLocalEdit::Delete { at: *at },
+            LocalEdit::Update { at, letter } => LentLocalEdit::Update {
+                at: *at,
+                letter: letter.lent(),
+            },
+        }
+    }
+}
