@@ -41,7 +41,7 @@ impl<'a> JournalItem<'a> {
         ensures { result ≡ key_of self.now }
     {
         match &self.part {
-            Part::Request(request) => Key::Coop(request.request().id()),
+            Part::Request(request) => Key::Coop(request.lent().id()),
             Part::Entry(entry) => Key::Admin(entry.version()),
         }
     }

@@ -11,88 +11,92 @@ ghost use Rattle.elem_show.specs.Table.{shows_by};
 
 use admin_log::AdminLog;
 use auth_match::Judged;
-use check_remote::check_remote;
-use coop_request::{Edit, Request};
+use check_remote::check_remote_lent;
+use coop_request::{LentEdit, LentRequest};
 use elem_show::ElemTable;
 use element_name::{Name, NoMemory};
 use request_state::{State, StateTable};
 use tomb_seq::{Shows, TombSeq};
 
 /// What a request is judged on: the new element, or its target.
-pub(crate) fn judged(request: Request) -> Judged
-    ensures { result ≡ judged_by request.id request.edit }
+pub(crate) fn judged(request: &LentRequest<'_>) -> Judged
+    ensures { result ≡ judged_by request.now.id request.now.edit }
 {
     match request.edit() {
-        Edit::Insert { after, .. } => Judged::Fresh {
+        LentEdit::Insert { after, .. } => Judged::Fresh {
             name: request.id(),
-            after,
+            after: *after,
         },
-        Edit::Delete { target } => Judged::There(target),
-        Edit::Update { target, .. } => Judged::There(target),
+        LentEdit::Delete { target } => Judged::There(*target),
+        LentEdit::Update { target, .. } => Judged::There(*target),
     }
 }
 
 // An insert's element goes to its place.
-fn place(seq: &mut TombSeq, request: Request) -> Result<(), NoMemory>
-    requires { IsPlaceable (names_in seq.old) request.id request.edit }
-    ensures slots { OnOk result (seq.new ≡ slots_after seq.old request.id request.edit) }
-    ensures names { OnOk result (names_in seq.new ≡ names_after (names_in seq.old) request.id request.edit) }
+fn place(seq: &mut TombSeq, request: &LentRequest<'_>) -> Result<(), NoMemory>
+    requires { IsPlaceable (names_in seq.old) request.now.id request.now.edit }
+    ensures slots { OnOk result (seq.new ≡ slots_after seq.old request.now.id request.now.edit) }
+    ensures names { OnOk result (names_in seq.new ≡ names_after (names_in seq.old) request.now.id request.now.edit) }
     ensures unchanged { OnErr result (seq.new ≡ seq.old) }
 {
-    let Edit::Insert { after, .. } = request.edit() else {
+    let LentEdit::Insert { after, .. } = request.edit() else {
         return Ok(());
     };
-    seq.enter_new(request.id(), after)
+    seq.enter_new(request.id(), *after)
 }
 
 // It leaves its place again.
-fn take_back(seq: &mut TombSeq, request: Request)
-    requires { has_name (names_in seq.old) (element_of request) ≡ true }
-    ensures { (slots : List Slot) → IsPlaceable (names_in slots) request.id request.edit
-        → seq.old ≡ slots_after slots request.id request.edit → seq.new ≡ slots }
+fn take_back(seq: &mut TombSeq, request: &LentRequest<'_>)
+    requires { has_name (names_in seq.old) (element_of request.now) ≡ true }
+    ensures { (slots : List Slot) → IsPlaceable (names_in slots) request.now.id request.now.edit
+        → seq.old ≡ slots_after slots request.now.id request.now.edit → seq.new ≡ slots }
 {
-    if let Edit::Insert { .. } = request.edit() {
+    if let LentEdit::Insert { .. } = request.edit() {
         seq.remove(request.id());
     }
 }
 
 // The cell of an insert's element is made, and doesn't count.
-fn add_cell(cells: &mut ElemTable, request: Request) -> Result<(), NoMemory>
-    requires { IsTrue (is_addable cells.old request.id request.edit) }
-    ensures added { OnOk result (cells.new ≡ with_element cells.old request) }
+fn add_cell(cells: &mut ElemTable, request: &LentRequest<'_>) -> Result<(), NoMemory>
+    requires { IsTrue (is_addable cells.old request.now.id request.now.edit) }
+    ensures added { OnOk result (cells.new ≡ with_element cells.old request.now) }
     ensures unchanged { OnErr result (cells.new ≡ cells.old) }
 {
     match request.edit() {
-        Edit::Insert { .. } => cells.add(request),
-        Edit::Delete { .. } => Ok(()),
-        Edit::Update { .. } => Ok(()),
+        LentEdit::Insert { .. } => cells.add_lent(request),
+        LentEdit::Delete { .. } => Ok(()),
+        LentEdit::Update { .. } => Ok(()),
     }
 }
 
 // The request counts in the cell of its element, which is made for an insert. Says whether the element shows then.
-fn count(cells: &mut ElemTable, request: Request) -> Result<bool, NoMemory>
-    requires joinable { IsJoinable cells.old request }
-    requires addable { IsTrue (is_addable cells.old request.id request.edit) }
-    ensures counted { OnOk result (cells.new ≡ with_counted (with_element cells.old request) request) }
-    ensures shows { IfOk result (λ shows. shows ≡ shows_by cells.new (element_of request)) }
+fn count(cells: &mut ElemTable, request: &LentRequest<'_>) -> Result<bool, NoMemory>
+    requires joinable { IsJoinable cells.old request.now }
+    requires addable { IsTrue (is_addable cells.old request.now.id request.now.edit) }
+    ensures counted { OnOk result (cells.new ≡ with_counted (with_element cells.old request.now) request.now) }
+    ensures shows { IfOk result (λ shows. shows ≡ shows_by cells.new (element_of request.now)) }
     ensures unchanged { OnErr result (cells.new ≡ cells.old) }
 {
     match request.edit() {
-        Edit::Insert { .. } => {
-            cells.add_granted(request)?;
+        LentEdit::Insert { .. } => {
+            cells.add_granted_lent(request)?;
             Ok(true)
         }
-        Edit::Delete { .. } => cells.grant(request),
-        Edit::Update { .. } => cells.grant(request),
+        LentEdit::Delete { .. } => cells.grant_lent(request),
+        LentEdit::Update { .. } => cells.grant_lent(request),
     }
 }
 
 // The request joins the cells, and counts unless its state is Invalid. Says whether its element shows then.
-fn join_cells(cells: &mut ElemTable, request: Request, state: State) -> Result<bool, NoMemory>
-    requires joinable { IsJoinable cells.old request }
-    requires addable { IsTrue (is_addable cells.old request.id request.edit) }
-    ensures cells { OnOk result (cells.new ≡ cells_joined cells.old request state) }
-    ensures shows { IfOk result (λ shows. shows ≡ shows_by cells.new (element_of request)) }
+fn join_cells(
+    cells: &mut ElemTable,
+    request: &LentRequest<'_>,
+    state: State,
+) -> Result<bool, NoMemory>
+    requires joinable { IsJoinable cells.old request.now }
+    requires addable { IsTrue (is_addable cells.old request.now.id request.now.edit) }
+    ensures cells { OnOk result (cells.new ≡ cells_joined cells.old request.now state) }
+    ensures shows { IfOk result (λ shows. shows ≡ shows_by cells.new (element_of request.now)) }
     ensures unchanged { OnErr result (cells.new ≡ cells.old) }
 {
     match state {
@@ -109,19 +113,19 @@ fn join_cells(cells: &mut ElemTable, request: Request, state: State) -> Result<b
 fn join_tables(
     cells: &mut ElemTable,
     states: &mut StateTable,
-    request: Request,
+    request: &LentRequest<'_>,
     state: State,
 ) -> Result<bool, NoMemory>
-    requires joinable { IsJoinable cells.old request }
-    requires addable { IsTrue (is_addable cells.old request.id request.edit) }
-    requires new { kept_of states.old request.id ≡ None }
-    ensures states { OnOk result (states.new ≡ with_request states.old request state) }
-    ensures cells { OnOk result (cells.new ≡ cells_joined cells.old request state) }
-    ensures shows { IfOk result (λ shows. shows ≡ shows_by cells.new (element_of request)) }
+    requires joinable { IsJoinable cells.old request.now }
+    requires addable { IsTrue (is_addable cells.old request.now.id request.now.edit) }
+    requires new { kept_of states.old request.now.id ≡ None }
+    ensures states { OnOk result (states.new ≡ with_request states.old request.now state) }
+    ensures cells { OnOk result (cells.new ≡ cells_joined cells.old request.now state) }
+    ensures shows { IfOk result (λ shows. shows ≡ shows_by cells.new (element_of request.now)) }
     ensures same_cells { OnErr result (cells.new ≡ cells.old) }
     ensures same_states { OnErr result (states.new ≡ states.old) }
 {
-    states.add(request, state)?;
+    states.add_lent(request, state)?;
     match join_cells(cells, request, state) {
         Ok(shows) => Ok(shows),
         Err(NoMemory) => {
@@ -135,17 +139,17 @@ fn join_tables(
 fn state_given(
     log: &AdminLog,
     seq: &TombSeq,
-    request: Request,
+    request: &LentRequest<'_>,
     given: Option<State>,
 ) -> Result<State, NoMemory>
-    requires carried { request.version ≤ length log.now }
-    requires element { has_name (names_in seq.now) (element_of request) ≡ true }
-    requires given { IsGivenState given (names_in seq.now) log.now request }
-    ensures { IfOk result (λ state. state ≡ state_of (names_in seq.now) log.now request) }
+    requires carried { request.now.version ≤ length log.now }
+    requires element { has_name (names_in seq.now) (element_of request.now) ≡ true }
+    requires given { IsGivenState given (names_in seq.now) log.now request.now }
+    ensures { IfOk result (λ state. state ≡ state_of (names_in seq.now) log.now request.now) }
 {
     match given {
         Some(state) => Ok(state),
-        None => check_remote(log, request, seq),
+        None => check_remote_lent(log, request, seq),
     }
 }
 
@@ -172,19 +176,19 @@ fn judge(
     seq: &TombSeq,
     cells: &mut ElemTable,
     states: &mut StateTable,
-    request: Request,
+    request: &LentRequest<'_>,
     given: Option<State>,
 ) -> Result<Joined, NoMemory>
-    requires carried { request.version ≤ length log.now }
-    requires element { has_name (names_in seq.now) (element_of request) ≡ true }
-    requires joinable { IsJoinable cells.old request }
-    requires addable { IsTrue (is_addable cells.old request.id request.edit) }
-    requires new { kept_of states.old request.id ≡ None }
-    requires given { IsGivenState given (names_in seq.now) log.now request }
-    ensures state { IfOk result (λ joined. joined.state ≡ state_of (names_in seq.now) log.now request) }
-    ensures shows { IfOk result (λ joined. joined.shows ≡ shows_by cells.new (element_of request)) }
-    ensures states { IfOk result (λ joined. states.new ≡ with_request states.old request joined.state) }
-    ensures cells { IfOk result (λ joined. cells.new ≡ cells_joined cells.old request joined.state) }
+    requires carried { request.now.version ≤ length log.now }
+    requires element { has_name (names_in seq.now) (element_of request.now) ≡ true }
+    requires joinable { IsJoinable cells.old request.now }
+    requires addable { IsTrue (is_addable cells.old request.now.id request.now.edit) }
+    requires new { kept_of states.old request.now.id ≡ None }
+    requires given { IsGivenState given (names_in seq.now) log.now request.now }
+    ensures state { IfOk result (λ joined. joined.state ≡ state_of (names_in seq.now) log.now request.now) }
+    ensures shows { IfOk result (λ joined. joined.shows ≡ shows_by cells.new (element_of request.now)) }
+    ensures states { IfOk result (λ joined. states.new ≡ with_request states.old request.now joined.state) }
+    ensures cells { IfOk result (λ joined. cells.new ≡ cells_joined cells.old request.now joined.state) }
     ensures same_cells { OnErr result (cells.new ≡ cells.old) }
     ensures same_states { OnErr result (states.new ≡ states.old) }
 {
@@ -224,19 +228,19 @@ pub(crate) fn join(
     seq: &mut TombSeq,
     cells: &mut ElemTable,
     states: &mut StateTable,
-    request: Request,
+    request: &LentRequest<'_>,
     given: Option<State>,
 ) -> Result<State, NoMemory>
-    requires carried { request.version ≤ length log.now }
-    requires placeable { IsPlaceable (names_in seq.old) request.id request.edit }
-    requires joinable { IsJoinable cells.old request }
-    requires addable { IsTrue (is_addable cells.old request.id request.edit) }
-    requires new { kept_of states.old request.id ≡ None }
-    requires given { IsGivenState given (names_after (names_in seq.old) request.id request.edit) log.now request }
-    ensures state { IfOk result (λ state. state ≡ state_of (names_after (names_in seq.old) request.id request.edit) log.now request) }
-    ensures slots { OnOk result (seq.new ≡ with_mark (slots_after seq.old request.id request.edit) (element_of request) (shows_by cells.new (element_of request))) }
-    ensures states { IfOk result (λ state. states.new ≡ with_request states.old request state) }
-    ensures cells { IfOk result (λ state. cells.new ≡ cells_joined cells.old request state) }
+    requires carried { request.now.version ≤ length log.now }
+    requires placeable { IsPlaceable (names_in seq.old) request.now.id request.now.edit }
+    requires joinable { IsJoinable cells.old request.now }
+    requires addable { IsTrue (is_addable cells.old request.now.id request.now.edit) }
+    requires new { kept_of states.old request.now.id ≡ None }
+    requires given { IsGivenState given (names_after (names_in seq.old) request.now.id request.now.edit) log.now request.now }
+    ensures state { IfOk result (λ state. state ≡ state_of (names_after (names_in seq.old) request.now.id request.now.edit) log.now request.now) }
+    ensures slots { OnOk result (seq.new ≡ with_mark (slots_after seq.old request.now.id request.now.edit) (element_of request.now) (shows_by cells.new (element_of request.now))) }
+    ensures states { IfOk result (λ state. states.new ≡ with_request states.old request.now state) }
+    ensures cells { IfOk result (λ state. cells.new ≡ cells_joined cells.old request.now state) }
     ensures same_seq { OnErr result (seq.new ≡ seq.old) }
     ensures same_cells { OnErr result (cells.new ≡ cells.old) }
     ensures same_states { OnErr result (states.new ≡ states.old) }

@@ -32,7 +32,7 @@ use crate::text::text_of;
 use admin_log::AdminLog;
 use auth_match::{Verdict, covers};
 use check_local::{LocalVerdict, check_local};
-use coop_request::{MAX_REQUESTS, Request};
+use coop_request::{LentRequest, MAX_REQUESTS};
 use edit_message::{Key, Message, Missing};
 use elem_show::{Cell, ElemTable};
 use element_name::{Name, NoMemory};
@@ -235,10 +235,10 @@ impl Journal {
     }
 
     /// The verdict of the front on a request that may be made, at the place that its element will have.
-    pub fn verdict(&self, request: Request) -> LocalVerdict
-        requires { FollowsHistory (requests_of self.now) request }
+    pub fn verdict(&self, request: &LentRequest<'_>) -> LocalVerdict
+        requires { FollowsHistory (requests_of self.now) request.now }
         ensures { result ≡ with_version (length (entries_of self.now))
-            (verdict_at (text_order (requests_of self.now ++ request ∷ [])) (entries_of self.now) request (length (entries_of self.now))) }
+            (verdict_at (text_order (requests_of self.now ++ request.now ∷ [])) (entries_of self.now) request.now (length (entries_of self.now))) }
     {
         check_local(
             self.log.policy(),
@@ -251,10 +251,10 @@ impl Journal {
     }
 
     /// The state of a request that may be made and that the front grants: its range is the front alone.
-    pub fn granted_state(&self, request: Request) -> State
-        requires here { request.version ≡ length (entries_of self.now) }
-        requires granted { verdict_at (text_order (requests_of self.now ++ request ∷ [])) (entries_of self.now) request (length (entries_of self.now)) ≡ Verdict.Granted }
-        ensures { result ≡ state_in (requests_of self.now ++ request ∷ []) (entries_of self.now) request }
+    pub fn granted_state(&self, request: &LentRequest<'_>) -> State
+        requires here { request.now.version ≡ length (entries_of self.now) }
+        requires granted { verdict_at (text_order (requests_of self.now ++ request.now ∷ [])) (entries_of self.now) request.now (length (entries_of self.now)) ≡ Verdict.Granted }
+        ensures { result ≡ state_in (requests_of self.now ++ request.now ∷ []) (entries_of self.now) request.now }
     {
         validated_state(self.log.validated(request.id()))
     }
@@ -293,14 +293,14 @@ impl Journal {
     /// Puts a request last, judging it where its state isn't given, and answers its state.
     pub fn push_request(
         &mut self,
-        request: Request,
+        request: &LentRequest<'_>,
         given: Option<State>,
     ) -> Result<State, NoMemory>
-        requires follows { FollowsJournal self.old (Coop request) }
+        requires follows { FollowsJournal self.old (Coop request.now) }
         requires room { length (requests_of self.old) < MAX_REQUESTS }
-        requires given { IsGivenState given (text_order (requests_of self.old ++ request ∷ [])) (entries_of self.old) request }
-        ensures ok { OnOk result (self.new ≡ self.old ++ Coop request ∷ []) }
-        ensures state { IfOk result (λ state. state ≡ state_in (requests_of self.old ++ request ∷ []) (entries_of self.old) request) }
+        requires given { IsGivenState given (text_order (requests_of self.old ++ request.now ∷ [])) (entries_of self.old) request.now }
+        ensures ok { OnOk result (self.new ≡ self.old ++ Coop request.now ∷ []) }
+        ensures state { IfOk result (λ state. state ≡ state_in (requests_of self.old ++ request.now ∷ []) (entries_of self.old) request.now) }
         ensures unchanged { OnErr result (self.new ≡ self.old) }
     {
         self.items.push_request(request)?;

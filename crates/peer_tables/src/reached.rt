@@ -4,20 +4,20 @@ ghost use Rattle.element_name.specs.Name.{start};
 ghost use Rattle.request_state.specs.Table.{is_in_order};
 ghost use Rattle.peer_tables.specs.Reached.{is_tentative_above, elements_above, elements_of_users, reached_elements};
 
-use coop_request::Request;
+use coop_request::LentRequest;
 use element_name::{Name, NoMemory};
 use policy_book::{Reach, UserRow};
 use request_state::StateTable;
 use std::alloc::Global;
 
 // The Tentative request with the least name above one, of a user where one is named.
-fn next(states: &StateTable, user: Option<u16>, above: Name) -> Option<Request>
+fn next(states: &StateTable, user: Option<u16>, above: Name) -> Option<LentRequest<'_>>
     ensures found { result ≡ option_map (λ k. k.request) (find (is_tentative_above user above) states.now) }
     ensures in_order { IsTrue (is_in_order states.now) }
 {
     match user {
-        None => states.next_tentative(above),
-        Some(user) => states.next_tentative_of(user, above),
+        None => states.next_tentative_lent(above),
+        Some(user) => states.next_tentative_of_lent(user, above),
     }
 }
 

@@ -10,16 +10,16 @@ use Rattle.peer_tables.proofs.join.join.Goals as goal
 
 pub judge-requires-clause-element : goal.judge-requires-clause-element
 judge-requires-clause-element c =
-    let q = c.args.request in
+    let q = c.args.request.now in
     ap (λ (names : List Name). has_name names (element_of q)) c.in_ok-place.ensures.names
     ∙ placed_element (names_in c.args.seq.now) q.id q.edit c.requires.placeable
 
 pub judge-requires-clause-given : goal.judge-requires-clause-given
-judge-requires-clause-given c = subst (λ (names : List Name). IsGivenState c.args.given names c.args.log.now c.args.request) (sym c.in_ok-place.ensures.names) c.requires.given
+judge-requires-clause-given c = subst (λ (names : List Name). IsGivenState c.args.given names c.args.log.now c.args.request.now) (sym c.in_ok-place.ensures.names) c.requires.given
 
 pub mark-requires : goal.mark-requires
 mark-requires c =
-    let q = c.args.request in
+    let q = c.args.request.now in
     ap (λ (e : Name). has_name (names_in c.place.new.seq) e) c.element.ensures
     ∙ ap (λ (names : List Name). has_name names (element_of q)) c.in_ok-place.ensures.names
     ∙ placed_element (names_in c.args.seq.now) q.id q.edit c.requires.placeable
@@ -28,11 +28,11 @@ pub returns-in-Ok-clause-slots : goal.returns-in-Ok-clause-slots
 returns-in-Ok-clause-slots c =
     c.mark.ensures.slots
     ∙ ap (λ (slots : List Slot). with_mark slots c.element.result c.in-Ok.joined.shows) c.in_ok-place.ensures.slots
-    ∙ ap (λ (shows : Bool). with_mark (slots_after c.args.seq.now c.args.request.id c.args.request.edit) c.element.result shows) c.in-Ok.ensures.shows
-    ∙ ap (λ (e : Name). with_mark (slots_after c.args.seq.now c.args.request.id c.args.request.edit) e (shows_by c.judge.new.cells (element_of c.args.request))) c.element.ensures
+    ∙ ap (λ (shows : Bool). with_mark (slots_after c.args.seq.now c.args.request.now.id c.args.request.now.edit) c.element.result shows) c.in-Ok.ensures.shows
+    ∙ ap (λ (e : Name). with_mark (slots_after c.args.seq.now c.args.request.now.id c.args.request.now.edit) e (shows_by c.judge.new.cells (element_of c.args.request.now))) c.element.ensures
 
 pub take_back-requires : goal.take_back-requires
 take_back-requires c =
-    let q = c.args.request in
+    let q = c.args.request.now in
     ap (λ (names : List Name). has_name names (element_of q)) c.in_ok-place.ensures.names
     ∙ placed_element (names_in c.args.seq.now) q.id q.edit c.requires.placeable

@@ -7,7 +7,7 @@ use Rattle.peer_tables.proofs.join.join_tables.Goals as goal
 
 pub returns-in-Err-clause-same_states : goal.returns-in-Err-clause-same_states
 returns-in-Err-clause-same_states c =
-    let kept : Kept = record { request = c.args.request; state = c.args.state } in
-    c.remove.ensures ∙ ap (λ (table : List Kept). without_request table c.id.result) c.in_ok-add.ensures.ok
-    ∙ ap (λ (n : Name). without_request (with_request c.args.states.now c.args.request c.args.state) n) c.id.ensures.value
+    let kept : Kept = record { request = c.args.request.now; state = c.args.state } in
+    c.remove.ensures ∙ ap (λ (table : List Kept). without_request table c.id.result) c.in_ok-add_lent.ensures.ok
+    ∙ ap (λ (n : Name). without_request (with_request c.args.states.now c.args.request.now c.args.state) n) c.id.ensures.value
     ∙ without_named-put name_of kept c.args.states.now c.requires.new

@@ -6,4 +6,4 @@ use Rattle.peer_tables.specs.Kept.{IsGivenState}
 use Rattle.peer_tables.proofs.join.state_given.Goals as goal
 
 pub returns-in-Some : goal.returns-in-Some
-returns-in-Some c = subst (λ (given : Option State). IsGivenState given (names_in c.args.seq.now) c.args.log.now c.args.request) c.in-Some.is c.requires.given
+returns-in-Some c = subst (λ (given : Option State). IsGivenState given (names_in c.args.seq.now) c.args.log.now c.args.request.now) c.in-Some.is c.requires.given

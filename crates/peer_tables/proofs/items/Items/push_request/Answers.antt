@@ -9,18 +9,18 @@ use Rattle.peer_tables.proofs.ItemLemmas.{packable_key, new_keyed, keyed_push}
 use Rattle.peer_tables.proofs.items.Items.push_request.Goals as goal
 
 pub put-requires-clause-packable : goal.put-requires-clause-packable
-put-requires-clause-packable c = ap is_packable c.key.ensures.value ∙ packable_key (Coop c.args.request) c.key.ensures.message
+put-requires-clause-packable c = ap is_packable c.of_request.ensures.value ∙ packable_key (Coop c.args.request.now) c.of_request.ensures.message
 
 pub put-requires-clause-new : goal.put-requires-clause-new
 put-requires-clause-new c =
-    let m : Message = Coop c.args.request in
-    new_keyed c.self.inside.keys.keys c.self.inside.messages.items c.self.invariant c.key.result m c.key.ensures.value c.key.ensures.message
+    let m : Message = Coop c.args.request.now in
+    new_keyed c.self.inside.keys.keys c.self.inside.messages.items c.self.invariant c.of_request.result m c.of_request.ensures.value c.of_request.ensures.message
     (subst (λ (J : List Message). has_key_of J m ≡ false) (sym c.self.view_is) c.requires)
 
 pub invariant_of-self-2 : goal.invariant_of-self-2
 invariant_of-self-2 c =
     let J : List Message = c.self.inside.messages.items in
-    let m : Message = Coop c.args.request in
+    let m : Message = Coop c.args.request.now in
     subst (AreKeysOf c.put.new.keys.keys) (sym c.changed-self-inside.ensures)
     (subst (λ (ks : List Key). AreKeysOf ks (J ++ m ∷ [])) (sym c.in_ok-put.ensures.ok)
-    (keyed_push c.self.inside.keys.keys J c.self.invariant c.key.result m c.key.ensures.value c.key.ensures.message))
+    (keyed_push c.self.inside.keys.keys J c.self.invariant c.of_request.result m c.of_request.ensures.value c.of_request.ensures.message))

@@ -13,7 +13,7 @@ use Rattle.peer_tables.proofs.journal.Journal.granted_state.Goals as goal
 pub returns : goal.returns
 returns c =
     let J : List Message = c.self.inside.items in
-    let q = c.args.request in
+    let q = c.args.request.now in
     let here = c.requires.here ∙ ap (λ (K : List Message). length (entries_of K)) (sym c.self.view_is) in
     let granted : verdict_at (text_order (requests_of J ++ q ∷ [])) (entries_of J) q (length (entries_of J)) ≡ Granted =
     subst (λ (K : List Message). verdict_at (text_order (requests_of K ++ q ∷ [])) (entries_of K) q (length (entries_of K)) ≡ Granted) (sym c.self.view_is) c.requires.granted in

@@ -24,7 +24,7 @@ use Rattle.peer_tables.proofs.journal.Journal.verdict.Goals as goal
 pub check_local-requires : goal.check_local-requires
 check_local-requires c =
     let J = c.self.inside.items in
-    let q = c.args.request in
+    let q = c.args.request.now in
     let follows : FollowsHistory (requests_of J) q = subst (λ (K : List Message). FollowsHistory (requests_of K) q) (sym c.self.view_is) c.requires in
     let there : IsJudged (text_order (requests_of J)) (judged_by q.id q.edit) =
     judged (requests_of J) c.self.inside.log (known c.self.inside.items c.self.inside.log c.self.inside.seq c.self.inside.cells c.self.inside.states c.self.inside.stamp c.self.inside.requests c.self.invariant) q follows in
@@ -40,7 +40,7 @@ returns c =
     let J = c.self.inside.items in
     let L = c.self.inside.log in
     let names = names_in c.self.inside.seq in
-    let q = c.args.request in
+    let q = c.args.request.now in
     let j = judged_by q.id q.edit in
     let follows : FollowsHistory (requests_of J) q = subst (λ (K : List Message). FollowsHistory (requests_of K) q) (sym c.self.view_is) c.requires in
     let p = c.policy.result.now in
