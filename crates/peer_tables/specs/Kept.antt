@@ -1,7 +1,7 @@
 -- What is kept of a journal beside its items.
 use Rattle.std.specs.Prelude.{◌≡◌, ℕ, ◌≤◌, ◌<◌, Bool, true, false, Some, List, [], ◌∷◌, ◌++◌, Option, length, option_map, is_some, is_none, Contains, ◌^◌, ◌-◌, IsTrue, if◌then◌else◌, None}
 use Rattle.std.specs.List.{list_all}
-use Rattle.element_name.specs.Name.{Name, name_eq, has_name}
+use Rattle.element_name.specs.Name.{Name, has_name}
 use Rattle.element_name.specs.Tree.{with_fresh}
 use Rattle.coop_request.specs.declared.edit.Edit.{Edit}
 use Rattle.coop_request.specs.declared.edit.Edit.TheVariants.{Insert, Delete, Update}

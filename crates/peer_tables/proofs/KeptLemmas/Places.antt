@@ -9,7 +9,7 @@ use Rattle.element_name.specs.Cases.{given}
 use Rattle.element_name.specs.Name.{Name, name_eq, has_name}
 use Rattle.element_name.specs.Tree.{skip}
 use Rattle.element_name.proofs.NameOrder.{name_eq-refl}
-use Rattle.element_name.proofs.NamedLemmas.{item_named-put, without_named-put}
+use Rattle.element_name.proofs.NamedLemmas.{item_named-put}
 use Rattle.coop_request.specs.declared.edit.Edit.{Edit}
 use Rattle.coop_request.specs.declared.edit.Edit.TheVariants.{Insert, Delete, Update}
 use Rattle.coop_request.specs.Edit.{is_insert, piece_in, element_by}
@@ -17,7 +17,7 @@ use Rattle.coop_request.specs.Request.{Request, element_of}
 use Rattle.coop_request.specs.History.{request_of}
 use Rattle.auth_match.proofs.OneMore.{has_new}
 use Rattle.elem_show.specs.Cell.{own_piece, cell_from}
-use Rattle.elem_show.specs.Table.{Table, cell_named, including, except}
+use Rattle.elem_show.specs.Table.{Table, cell_named, including}
 use Rattle.elem_show.proofs.Cells.{id_of}
 use Rattle.elem_show.proofs.Orders.{own_piece-absent, own_piece-including}
 use Rattle.tomb_seq.specs.declared.slot.Slot.{Slot}
