@@ -1,5 +1,5 @@
 -- Carets, `specs/Carets.antt`: shown elements by their places in text order.
-use Rattle.std.proofs.Common.{◌≡◌, ℕ, zero, suc, ◌+◌, ◌<◌, ◌≤◌, ◌⊎◌, inl, inr, ⊎_elim, Bool, true, false, cond, List, [], ◌∷◌, length, None, Some, refl, sym, ap, subst, ◌∙◌, arith}
+use Rattle.std.proofs.Common.{◌≡◌, ℕ, zero, suc, ◌+◌, inl, inr, ⊎_elim, Bool, true, false, cond, List, [], ◌∷◌, None, Some, refl, sym, ap, subst, ◌∙◌, arith}
 use Rattle.std.specs.Prelude.{nat_lt, nat_le, is_some, slice_get, count_by, filter}
 use Rattle.std.proofs.lemmas.Bool.{cases_Bool, both_ways}
 use Rattle.std.proofs.lemmas.Bool.Decides.{nat_tests}
@@ -19,7 +19,7 @@ use Rattle.tomb_seq.proofs.InOrder.{Sorted, Sorted-agree}
 use Rattle.tomb_seq.proofs.SlotEdits.{distinct_head, distinct_tail}
 use Rattle.tomb_seq.proofs.Theorems.{once_law}
 use Rattle.peer_tables.specs.Derived.{counted_in, shown_in}
-use Rattle.peer_core.specs.Peer.{Peer, history, log, shown_elements}
+use Rattle.peer_core.specs.Peer.{history, log, shown_elements}
 use Rattle.peer_core.specs.Carets.{count_up_to, CaretLaw}
 use Rattle.peer_tables.proofs.JournalLemmas.{history_law}
 use Rattle.peer_core.proofs.AnswerLemmas.Edits.{in_filter}

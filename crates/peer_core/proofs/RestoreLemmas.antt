@@ -2,7 +2,7 @@
 use Rattle.std.proofs.Common.{◌≡◌, ℕ, ◌+◌, ◌<◌, ◌≤◌, Bool, true, false, not, ◌&&◌, ◌||◌, cond, List, [], ◌∷◌, ◌++◌, length, take, drop, None, Some, ⊎_elim, refl, sym, ap, subst, ◌∙◌, arith, length-append}
 use Rattle.std.specs.Prelude.{map, is_none, is_some, nat_le}
 use Rattle.std.specs.declared.option.Option.{Option}
-use Rattle.std.specs.List.{list_any, list_all}
+use Rattle.std.specs.List.{list_all}
 use Rattle.std.proofs.lemmas.Bool.{and_parts, and_from, or_from, cases_lt}
 use Rattle.std.proofs.lemmas.Bool.Decides.{nat_tests}
 use Rattle.std.proofs.lemmas.List.{append-nil, map-append, take-append-drop, take-take}
@@ -22,7 +22,6 @@ use Rattle.hold_back.specs.Hold.{IsNewKey}
 use Rattle.peer_step.specs.declared.step.Step.TheVariants.{Edit, Administer, Receive, Settle, ValidateNext, Look, Show}
 use Rattle.peer_tables.specs.Derived.{missing_in, finds_no_room, is_due}
 use Rattle.peer_tables.specs.Journal.{FollowsJournal, IsWithin, has_key_of}
-use Rattle.peer_core.specs.Sound.{IsSound}
 use Rattle.peer_core.specs.Waiting.{IsPeer}
 use Rattle.peer_core.specs.Local.{new_request}
 use Rattle.peer_core.specs.Answers.{fault_in}

@@ -24,9 +24,7 @@ use Rattle.elem_show.specs.Counting.{with_one_more}
 use Rattle.elem_show.specs.Text.{shown_of}
 use Rattle.elem_show.proofs.Cells.{cell_from-cons, cell_from-snoc}
 use Rattle.tomb_seq.proofs.Has.{Has}
-use Rattle.peer_step.specs.declared.step.LocalEdit.TheVariants.{Insert, Delete, Update}
 use Rattle.peer_tables.specs.Derived.{state_in, counted_in, greatest_stamp}
-use Rattle.peer_core.specs.Peer.{history}
 use Rattle.peer_tables.specs.Kept.{AreKnown}
 use Rattle.peer_tables.proofs.HistoryLemmas.{once_law, element_there}
 use Rattle.peer_tables.proofs.SameSetLemmas.{own_by, piece_made}

@@ -1,5 +1,5 @@
 -- A peer's own edit changes the text that it shows by its piece.
-use Rattle.std.proofs.Common.{◌≡◌, ℕ, ◌+◌, ◌-◌, ◌<◌, zero, suc, Bool, true, false, not, cond, List, [], ◌∷◌, ◌++◌, length, None, Some, refl, ap, sym, ◌∙◌, arith, add-zero, insert}
+use Rattle.std.proofs.Common.{◌≡◌, ℕ, ◌+◌, ◌<◌, zero, suc, Bool, true, false, not, cond, List, [], ◌∷◌, ◌++◌, length, None, Some, refl, ap, sym, ◌∙◌, arith, add-zero, insert}
 use Rattle.std.specs.Prelude.{is_none, filter, filter_map, is_some, slice_index_or, unwrap_or}
 use Rattle.std.specs.declared.option.Option.{Option}
 use Rattle.std.specs.List.{position_or_len}
@@ -10,7 +10,6 @@ use Rattle.element_name.proofs.CaseLemmas.{when-None}
 use Rattle.element_name.specs.Name.{Name, start, name_eq, name_lt, has_name, are_distinct}
 use Rattle.element_name.specs.Tree.{skip}
 use Rattle.element_name.proofs.NameOrder.{name_eq-comm}
-use Rattle.coop_request.specs.declared.edit.Edit.{Edit}
 use Rattle.coop_request.specs.declared.edit.Edit.TheVariants as edits
 use Rattle.coop_request.specs.declared.request.TheConstants.{MAX_REQUESTS}
 use Rattle.coop_request.specs.Request.{Request}

@@ -1,5 +1,5 @@
 -- A text of pieces in which one changes.
-use Rattle.std.proofs.Common.{◌≡◌, ℕ, ◌+◌, ◌-◌, ◌<◌, zero, suc, ⊎_elim, true, false, not, cond, List, [], ◌∷◌, length, None, Some, refl, ap, ◌∙◌, arith, insert, remove}
+use Rattle.std.proofs.Common.{◌≡◌, ℕ, ◌+◌, ◌<◌, zero, suc, ⊎_elim, true, false, not, cond, List, [], ◌∷◌, length, None, Some, refl, ap, ◌∙◌, arith, insert, remove}
 use Rattle.std.specs.Prelude.{filter, filter_map, is_some, slice_set, slice_index_or}
 use Rattle.std.specs.declared.option.Option.{Option}
 use Rattle.std.specs.List.{position_or_len, cons_option}

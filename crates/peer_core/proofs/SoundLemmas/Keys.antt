@@ -12,7 +12,6 @@ use Rattle.element_name.proofs.EachAfterLemmas.{EachAfter-push}
 use Rattle.edit_message.specs.declared.message.Key.{Key}
 use Rattle.edit_message.specs.declared.message.Key.TheVariants as keys
 use Rattle.edit_message.specs.declared.message.Message.{Message}
-use Rattle.edit_message.specs.declared.message.Message.TheVariants.{Coop, Admin}
 use Rattle.edit_message.specs.Message.{key_of, key_eq, find_key}
 use Rattle.element_name.proofs.NameOrder.{name_eq-comm}
 use Rattle.hold_back.specs.Hold.{IsNewKey}

@@ -1,4 +1,4 @@
-use Rattle.std.proofs.Common.{◌≤◌, ℕ, length, ◌-◌}
+use Rattle.std.proofs.Common.{◌≤◌, length, ◌-◌}
 use Rattle.coop_request.specs.History.{text_order}
 use Rattle.peer_core.specs.Peer.{history, shown_elements}
 use Rattle.peer_core.specs.Carets.{count_up_to}
