@@ -1,97 +1,168 @@
 //! A user's own edits.
-ghost use Rattle.std.specs.Prelude.{◌≡◌, ◌<◌, ◌==◌, false, length, slice_index_or, IfOk, OnOk, OnErr, IsOk, IsTrue};
+ghost use Rattle.std.specs.Prelude.{◌≡◌, Some, ◌<◌, ◌==◌, false, length, slice_index_or, IfOk, OnOk, OnErr, IsOk, IsTrue};
 ghost use Rattle.element_name.specs.Name.{start};
 ghost use Rattle.element_name.specs.declared.limits.TheConstants.{MAX_STAMP};
 ghost use Rattle.coop_request.specs.declared.request.TheConstants.{MAX_REQUESTS};
 ghost use Rattle.peer_core.specs.Peer.{front, history, shown_elements, integrate};
 ghost use Rattle.peer_core.specs.Waiting.{MayIntegrate};
 ghost use Rattle.peer_core.specs.Answers.{answer_edit, answer_denied, own_verdict};
-ghost use Rattle.peer_core.specs.After.{changed_by, takes_none};
+ghost use Rattle.peer_core.specs.Edited.{answer_edited};
+ghost use Rattle.peer_core.specs.After.{changed_by, peer_after, takes_none};
+ghost use Rattle.peer_step.specs.Lent.{local_edit_lent, edit_answer_of};
+ghost use Rattle.coop_request.specs.LentEdit.{edit_lent};
 ghost use Rattle.peer_tables.specs.Derived.{greatest_stamp};
 ghost use Rattle.peer_core.specs.Local.{fits_text, anchor_at, edit_of, new_request};
 
 use super::Peer;
 use auth_match::Verdict;
 use check_local::LocalVerdict;
-use coop_request::{Edit, Request};
+use coop_request::{LentEdit, LentRequest};
 use edit_message::Message;
 use element_name::{MAX_STAMP, Name, NoMemory};
-use peer_step::{Answer, LocalEdit, Step};
+use peer_step::{Answer, EditAnswer, LentLocalEdit, LocalEdit, Step};
+
+// What became of an own edit: it was refused, or this request made it.
+#[derive(Drop)]
+enum Edited<'a> {
+    Refused(Answer),
+    Made(LentRequest<'a>),
+}
+
+// What is told of an answer to an own edit.
+fn told(answer: &Answer) -> Option<EditAnswer>
+    ensures { result ≡ edit_answer_of answer.now }
+{
+    match answer {
+        Answer::BadPlace(len) => Some(EditAnswer::BadPlace(*len)),
+        Answer::ClockEnd => Some(EditAnswer::ClockEnd),
+        Answer::HistoryFull => Some(EditAnswer::HistoryFull),
+        Answer::Denied { version, by } => Some(EditAnswer::Denied {
+            version: *version,
+            by: *by,
+        }),
+        Answer::Done(request) => Some(done(&request.lent())),
+        _ => None,
+    }
+}
+
+// What is told of the request that made an edit.
+fn done(request: &LentRequest<'_>) -> EditAnswer
+    ensures { result ≡ EditAnswer.Done request.now.id request.now.version }
+{
+    EditAnswer::Done {
+        id: request.id(),
+        version: request.version(),
+    }
+}
 
 impl Peer {
-    pub(super) fn edit(&mut self, edit: LocalEdit) -> Result<Answer, NoMemory>
-        ensures answer { IfOk result (λ answer. answer ≡ answer_edit self.old edit) }
-        ensures after { OnOk result (self.new ≡ changed_by self.old (Step.Edit edit) (answer_edit self.old edit)) }
+    /// Makes an edit of its own, as `step` does, where its piece is lent and its request isn't given back: so no piece is
+    /// moved. Takes the time and the memory of `step`, and has its clauses.
+    pub fn edit(&mut self, edit: LentLocalEdit<'_>) -> Result<EditAnswer, NoMemory>
+        ensures answer { IfOk result (λ told. edit_answer_of (answer_edit self.old (local_edit_lent edit.entry)) ≡ Some told) }
+        ensures after { OnOk result (self.new ≡ peer_after self.old (Step.Edit (local_edit_lent edit.entry))) }
         ensures unchanged { OnErr result (self.new ≡ self.old) }
-        ensures takes_none { IsTrue (takes_none (answer_edit self.old edit)) → IsOk result }
+        ensures takes_none { IsTrue (takes_none (answer_edit self.old (local_edit_lent edit.entry))) → IsOk result }
     {
-        if let Some(refusal) = self.edit_refusal(&edit) {
-            return Ok(refusal);
+        match self.edited(&edit) {
+            Ok(Edited::Made(request)) => Ok(done(&request)),
+            Ok(Edited::Refused(answer)) => match told(&answer) {
+                Some(told) => Ok(told),
+                None => unreachable!(),
+            },
+            Err(NoMemory) => Err(NoMemory),
         }
-        let request = self.new_request(&edit);
-        match self.denial(&request) {
-            Some(denied) => Ok(denied),
-            None => self.make(&request),
+    }
+
+    // The same of a whole edit, with its request in the answer.
+    pub(super) fn edit_whole(&mut self, edit: &LocalEdit) -> Result<Answer, NoMemory>
+        ensures answer { IfOk result (λ answer. answer ≡ answer_edit self.old edit.now) }
+        ensures after { OnOk result (self.new ≡ changed_by self.old (Step.Edit edit.now) (answer_edit self.old edit.now)) }
+        ensures unchanged { OnErr result (self.new ≡ self.old) }
+        ensures takes_none { IsTrue (takes_none (answer_edit self.old edit.now)) → IsOk result }
+    {
+        match self.edited(&edit.lent()) {
+            Ok(Edited::Made(request)) => Ok(Answer::Done(request.request())),
+            Ok(Edited::Refused(answer)) => Ok(answer),
+            Err(NoMemory) => Err(NoMemory),
+        }
+    }
+
+    fn edited<'a>(&mut self, edit: &LentLocalEdit<'a>) -> Result<Edited<'a>, NoMemory>
+        ensures answer { IfOk result (λ edited. answer_edited edited ≡ answer_edit self.old (local_edit_lent edit.now)) }
+        ensures after { OnOk result (self.new ≡ changed_by self.old (Step.Edit (local_edit_lent edit.now)) (answer_edit self.old (local_edit_lent edit.now))) }
+        ensures unchanged { OnErr result (self.new ≡ self.old) }
+        ensures takes_none { IsTrue (takes_none (answer_edit self.old (local_edit_lent edit.now))) → IsOk result }
+    {
+        if let Some(refusal) = self.edit_refusal(edit) {
+            return Ok(Edited::Refused(refusal));
+        }
+        let request = self.new_request(edit);
+        if let Some(denied) = self.denial(&request) {
+            return Ok(Edited::Refused(denied));
+        }
+        match self.make(&request) {
+            Ok(()) => Ok(Edited::Made(request)),
+            Err(NoMemory) => Err(NoMemory),
         }
     }
 
     // The answer where the policy denies a request that may be made.
-    fn denial(&self, request: &Request) -> Option<Answer>
+    fn denial(&self, request: &LentRequest<'_>) -> Option<Answer>
         requires may { MayIntegrate self.now (Message.Coop request.now) }
         requires here { request.now.version ≡ front self.now }
         ensures { result ≡ answer_denied request.now (own_verdict self.now request.now) }
     {
-        match self.journal.verdict(*request) {
+        match self.journal.verdict(request) {
             LocalVerdict::Denied { version, by } => Some(Answer::Denied { version, by }),
             LocalVerdict::Granted => None,
         }
     }
 
     // A request that the front grants joins the journal.
-    fn make(&mut self, request: &Request) -> Result<Answer, NoMemory>
+    fn make(&mut self, request: &LentRequest<'_>) -> Result<(), NoMemory>
         requires may { MayIntegrate self.old (Message.Coop request.now) }
         requires here { request.now.version ≡ front self.old }
         requires granted { own_verdict self.old request.now ≡ Verdict.Granted }
-        ensures answer { IfOk result (λ answer. answer ≡ Answer.Done request.now) }
         ensures after { OnOk result (self.new ≡ integrate self.old (Message.Coop request.now)) }
         ensures unchanged { OnErr result (self.new ≡ self.old) }
     {
-        let state = self.journal.granted_state(*request);
-        self.take_request(*request, Some(state))?;
-        Ok(Answer::Done(*request))
+        let state = self.journal.granted_state(request);
+        self.take_request(request, Some(state))?;
+        Ok(())
     }
 
     // The request of an edit in place, where the clock and the history have room.
-    fn new_request(&self, edit: &LocalEdit) -> Request
-        requires place { IsTrue (fits_text (length (shown_elements self.now)) edit.now) }
+    fn new_request<'a>(&self, edit: &LentLocalEdit<'a>) -> LentRequest<'a>
+        requires place { IsTrue (fits_text (length (shown_elements self.now)) (local_edit_lent edit.now)) }
         requires clock { (greatest_stamp (history self.now) == MAX_STAMP) ≡ false }
         requires room { length (history self.now) < MAX_REQUESTS }
-        ensures value { result ≡ new_request self.now edit.now }
+        ensures value { result ≡ new_request self.now (local_edit_lent edit.now) }
         ensures may { MayIntegrate self.now (Message.Coop result) }
     {
         let Some(id) = Name::read(self.journal.stamp() + 1, self.site) else {
             unreachable!()
         };
-        match Request::checked(id, self.journal.front(), self.edit_of(*edit)) {
+        match LentRequest::checked(id, self.journal.front(), self.edit_of(edit)) {
             Ok(request) => request,
             Err(_) => unreachable!(),
         }
     }
 
-    fn edit_of(&self, edit: LocalEdit) -> Edit
-        ensures { result ≡ edit_of (shown_elements self.now) edit }
+    fn edit_of<'a>(&self, edit: &LentLocalEdit<'a>) -> LentEdit<'a>
+        ensures { edit_lent result ≡ edit_of (shown_elements self.now) (local_edit_lent edit.now) }
     {
         match edit {
-            LocalEdit::Insert { at, letter } => Edit::Insert {
-                after: self.anchor_at(at),
-                letter,
+            LentLocalEdit::Insert { at, letter } => LentEdit::Insert {
+                after: self.anchor_at(*at),
+                letter: letter.again(),
             },
-            LocalEdit::Delete { at } => Edit::Delete {
-                target: self.element_at(at),
+            LentLocalEdit::Delete { at } => LentEdit::Delete {
+                target: self.element_at(*at),
             },
-            LocalEdit::Update { at, letter } => Edit::Update {
-                target: self.element_at(at),
-                letter,
+            LentLocalEdit::Update { at, letter } => LentEdit::Update {
+                target: self.element_at(*at),
+                letter: letter.again(),
             },
         }
     }

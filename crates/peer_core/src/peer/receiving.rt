@@ -81,7 +81,7 @@ impl Peer {
         ensures unchanged { OnErr result (self.new ≡ self.old) }
     {
         match message {
-            Message::Coop(request) => Ok(Answer::Taken(self.take_request(request, None)?)),
+            Message::Coop(request) => Ok(Answer::Taken(self.take_request(&request.lent(), None)?)),
             Message::Admin(entry) => {
                 let told = entry.copied()?;
                 let undone = self.take_entry(entry, sweep)?;

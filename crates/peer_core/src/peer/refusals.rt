@@ -3,22 +3,23 @@ ghost use Rattle.std.specs.Prelude.{◌≡◌, Some};
 ghost use Rattle.element_name.specs.Cases.{first_of};
 ghost use Rattle.peer_core.specs.Answers.{rows_of_edit, rows_of_log, rows_of_validation, rows_of_operation, rows_of_administer, rows_of_message};
 ghost use Rattle.peer_core.specs.Local.{fits_text};
+ghost use Rattle.peer_step.specs.Lent.{local_edit_lent};
 
 use super::Peer;
-use coop_request::Request;
+use coop_request::LentRequest;
 use edit_message::{Message, Missing};
 use element_name::{MAX_STAMP, MAX_VERSION, Name};
-use peer_step::{Answer, LocalEdit};
+use peer_step::{Answer, LentLocalEdit};
 use peer_tables::validated_by;
 use policy_book::{AdminOp, Entry};
 use request_state::State;
 
 impl Peer {
-    pub(super) fn edit_refusal(&self, edit: &LocalEdit) -> Option<Answer>
-        ensures { result ≡ first_of (rows_of_edit self.now edit.now) }
+    pub(super) fn edit_refusal(&self, edit: &LentLocalEdit<'_>) -> Option<Answer>
+        ensures { result ≡ first_of (rows_of_edit self.now (local_edit_lent edit.now)) }
     {
         let len = self.journal.shown();
-        if !fits_text(len, *edit) {
+        if !fits_text(len, edit) {
             return Some(Answer::BadPlace(len));
         }
         if self.journal.stamp() == MAX_STAMP {
@@ -83,13 +84,13 @@ impl Peer {
         ensures { result ≡ first_of (rows_of_message self.now message.now) }
     {
         match message {
-            Message::Coop(request) => self.request_refusal(*request),
+            Message::Coop(request) => self.request_refusal(&request.lent()),
             Message::Admin(entry) => self.entry_refusal(entry),
         }
     }
 
-    fn request_refusal(&self, request: Request) -> Option<Answer>
-        ensures { result ≡ first_of (rows_of_message self.now (Message.Coop request)) }
+    fn request_refusal(&self, request: &LentRequest<'_>) -> Option<Answer>
+        ensures { result ≡ first_of (rows_of_message self.now (Message.Coop request.now)) }
     {
         if request.user() == self.site {
             return Some(Answer::OwnSite);
@@ -116,12 +117,12 @@ impl Peer {
     }
 }
 
-fn fits_text(len: u32, edit: LocalEdit) -> bool
-    ensures { result ≡ fits_text len edit }
+fn fits_text(len: u32, edit: &LentLocalEdit<'_>) -> bool
+    ensures { result ≡ fits_text len (local_edit_lent edit.now) }
 {
     match edit {
-        LocalEdit::Insert { at, .. } => at <= len,
-        LocalEdit::Delete { at } => at < len,
-        LocalEdit::Update { at, .. } => at < len,
+        LentLocalEdit::Insert { at, .. } => *at <= len,
+        LentLocalEdit::Delete { at } => *at < len,
+        LentLocalEdit::Update { at, .. } => *at < len,
     }
 }

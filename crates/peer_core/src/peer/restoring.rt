@@ -104,7 +104,7 @@ fn push(journal: &mut Journal, message: &Message) -> Result<(), NoMemory>
 {
     match message {
         Message::Coop(request) => {
-            journal.push_request(*request, None)?;
+            journal.push_request(&request.lent(), None)?;
             Ok(())
         }
         Message::Admin(entry) => {

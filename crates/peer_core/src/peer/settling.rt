@@ -100,7 +100,7 @@ fn integrate<W: Sweep>(
     ensures unchanged { OnErr result (journal.new ≡ journal.old) }
 {
     match message {
-        Message::Coop(request) => Ok(Outcome::Taken(journal.push_request(request, None)?)),
+        Message::Coop(request) => Ok(Outcome::Taken(journal.push_request(&request.lent(), None)?)),
         Message::Admin(entry) => Ok(Outcome::Advanced(journal.push_entry(entry, sweep)?)),
     }
 }

@@ -8,7 +8,7 @@ ghost use Rattle.peer_core.specs.Answers.{undone_by};
 
 use super::Peer;
 use crate::due::wake;
-use coop_request::{Edit, Request};
+use coop_request::{LentEdit, LentRequest};
 use edit_message::Message;
 use element_name::NoMemory;
 use hold_back::{HoldBack, Need};
@@ -20,13 +20,13 @@ impl Peer {
     // A request joins the journal, and what waited for its element is woken.
     pub(super) fn take_request(
         &mut self,
-        request: Request,
+        request: &LentRequest<'_>,
         given: Option<State>,
     ) -> Result<State, NoMemory>
-        requires may { MayIntegrate self.old (Message.Coop request) }
-        requires given { IsGivenState given (text_order (history self.old ++ request ∷ [])) (log self.old) request }
-        ensures after { OnOk result (self.new ≡ integrate self.old (Message.Coop request)) }
-        ensures state { IfOk result (λ state. state ≡ state_at (integrate self.old (Message.Coop request)) request) }
+        requires may { MayIntegrate self.old (Message.Coop request.now) }
+        requires given { IsGivenState given (text_order (history self.old ++ request.now ∷ [])) (log self.old) request.now }
+        ensures after { OnOk result (self.new ≡ integrate self.old (Message.Coop request.now)) }
+        ensures state { IfOk result (λ state. state ≡ state_at (integrate self.old (Message.Coop request.now)) request.now) }
         ensures unchanged { OnErr result (self.new ≡ self.old) }
     {
         let state = self.journal.push_request(request, given)?;
@@ -53,13 +53,13 @@ impl Peer {
 }
 
 // The need that a request meets where it joins a journal.
-fn met_by_request(request: Request) -> Option<Need>
-    ensures { result ≡ met_by (Message.Coop request) }
+fn met_by_request(request: &LentRequest<'_>) -> Option<Need>
+    ensures { result ≡ met_by (Message.Coop request.now) }
 {
     match request.edit() {
-        Edit::Insert { .. } => Some(Need::Element(request.id())),
-        Edit::Delete { .. } => None,
-        Edit::Update { .. } => None,
+        LentEdit::Insert { .. } => Some(Need::Element(request.id())),
+        LentEdit::Delete { .. } => None,
+        LentEdit::Update { .. } => None,
     }
 }
 
@@ -68,7 +68,7 @@ pub(super) fn met_by(message: &Message) -> Option<Need>
     ensures { result ≡ met_by message.now }
 {
     match message {
-        Message::Coop(request) => met_by_request(*request),
+        Message::Coop(request) => met_by_request(&request.lent()),
         Message::Admin(entry) => Some(Need::Front(entry.version())),
     }
 }
