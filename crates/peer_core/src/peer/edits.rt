@@ -1,12 +1,12 @@
 //! A user's own edits.
-ghost use Rattle.std.specs.Prelude.{◌≡◌, Some, ◌<◌, ◌==◌, false, length, slice_index_or, IfOk, OnOk, OnErr, IsOk, IsTrue};
+ghost use Rattle.std.specs.Prelude.{◌≡◌, Some, option_map, ◌<◌, ◌==◌, false, length, slice_index_or, IfOk, OnOk, OnErr, IsOk, IsTrue};
 ghost use Rattle.element_name.specs.Name.{start};
 ghost use Rattle.element_name.specs.declared.limits.TheConstants.{MAX_STAMP};
 ghost use Rattle.coop_request.specs.declared.request.TheConstants.{MAX_REQUESTS};
 ghost use Rattle.peer_core.specs.Peer.{front, history, shown_elements, integrate};
 ghost use Rattle.peer_core.specs.Waiting.{MayIntegrate};
 ghost use Rattle.peer_core.specs.Answers.{answer_edit, answer_denied, own_verdict};
-ghost use Rattle.peer_core.specs.Edited.{answer_edited};
+ghost use Rattle.peer_core.specs.Edited.{answer_refused, answer_edited};
 ghost use Rattle.peer_core.specs.After.{changed_by, peer_after, takes_none};
 ghost use Rattle.peer_step.specs.Lent.{local_edit_lent, edit_answer_of};
 ghost use Rattle.coop_request.specs.LentEdit.{edit_lent};
@@ -21,28 +21,46 @@ use edit_message::Message;
 use element_name::{MAX_STAMP, Name, NoMemory};
 use peer_step::{Answer, EditAnswer, LentLocalEdit, LocalEdit, Step};
 
+/// Why an own edit isn't made. It takes a few words, where an answer has room for a request.
+#[derive(Clone, Copy)]
+pub(super) enum EditRefusal {
+    BadPlace(u32),
+    ClockEnd,
+    HistoryFull,
+    Denied { version: u32, by: Option<u32> },
+}
+
+impl EditRefusal {
+    // The answer.
+    fn answer(self) -> Answer
+        ensures { result ≡ answer_refused self }
+    {
+        match self {
+            EditRefusal::BadPlace(len) => Answer::BadPlace(len),
+            EditRefusal::ClockEnd => Answer::ClockEnd,
+            EditRefusal::HistoryFull => Answer::HistoryFull,
+            EditRefusal::Denied { version, by } => Answer::Denied { version, by },
+        }
+    }
+
+    // What is told of the answer.
+    fn told(self) -> EditAnswer
+        ensures { edit_answer_of (answer_refused self) ≡ Some result }
+    {
+        match self {
+            EditRefusal::BadPlace(len) => EditAnswer::BadPlace(len),
+            EditRefusal::ClockEnd => EditAnswer::ClockEnd,
+            EditRefusal::HistoryFull => EditAnswer::HistoryFull,
+            EditRefusal::Denied { version, by } => EditAnswer::Denied { version, by },
+        }
+    }
+}
+
 // What became of an own edit: it was refused, or this request made it.
 #[derive(Drop)]
 enum Edited<'a> {
-    Refused(Answer),
+    Refused(EditRefusal),
     Made(LentRequest<'a>),
-}
-
-// What is told of an answer to an own edit.
-fn told(answer: &Answer) -> Option<EditAnswer>
-    ensures { result ≡ edit_answer_of answer.now }
-{
-    match answer {
-        Answer::BadPlace(len) => Some(EditAnswer::BadPlace(*len)),
-        Answer::ClockEnd => Some(EditAnswer::ClockEnd),
-        Answer::HistoryFull => Some(EditAnswer::HistoryFull),
-        Answer::Denied { version, by } => Some(EditAnswer::Denied {
-            version: *version,
-            by: *by,
-        }),
-        Answer::Done(request) => Some(done(&request.lent())),
-        _ => None,
-    }
 }
 
 // What is told of the request that made an edit.
@@ -66,10 +84,7 @@ impl Peer {
     {
         match self.edited(&edit) {
             Ok(Edited::Made(request)) => Ok(done(&request)),
-            Ok(Edited::Refused(answer)) => match told(&answer) {
-                Some(told) => Ok(told),
-                None => unreachable!(),
-            },
+            Ok(Edited::Refused(refusal)) => Ok(refusal.told()),
             Err(NoMemory) => Err(NoMemory),
         }
     }
@@ -83,7 +98,7 @@ impl Peer {
     {
         match self.edited(&edit.lent()) {
             Ok(Edited::Made(request)) => Ok(Answer::Done(request.request())),
-            Ok(Edited::Refused(answer)) => Ok(answer),
+            Ok(Edited::Refused(refusal)) => Ok(refusal.answer()),
             Err(NoMemory) => Err(NoMemory),
         }
     }
@@ -107,14 +122,14 @@ impl Peer {
         }
     }
 
-    // The answer where the policy denies a request that may be made.
-    fn denial(&self, request: &LentRequest<'_>) -> Option<Answer>
+    // That the policy denies a request that may be made.
+    fn denial(&self, request: &LentRequest<'_>) -> Option<EditRefusal>
         requires may { MayIntegrate self.now (Message.Coop request.now) }
         requires here { request.now.version ≡ front self.now }
-        ensures { result ≡ answer_denied request.now (own_verdict self.now request.now) }
+        ensures { option_map answer_refused result ≡ answer_denied request.now (own_verdict self.now request.now) }
     {
         match self.journal.verdict(request) {
-            LocalVerdict::Denied { version, by } => Some(Answer::Denied { version, by }),
+            LocalVerdict::Denied { version, by } => Some(EditRefusal::Denied { version, by }),
             LocalVerdict::Granted => None,
         }
     }

@@ -1,11 +1,13 @@
 //! When a step is refused.
-ghost use Rattle.std.specs.Prelude.{◌≡◌, Some};
+ghost use Rattle.std.specs.Prelude.{◌≡◌, Some, option_map};
 ghost use Rattle.element_name.specs.Cases.{first_of};
 ghost use Rattle.peer_core.specs.Answers.{rows_of_edit, rows_of_log, rows_of_validation, rows_of_operation, rows_of_administer, rows_of_message};
+ghost use Rattle.peer_core.specs.Edited.{answer_refused};
 ghost use Rattle.peer_core.specs.Local.{fits_text};
 ghost use Rattle.peer_step.specs.Lent.{local_edit_lent};
 
 use super::Peer;
+use super::edits::EditRefusal;
 use coop_request::LentRequest;
 use edit_message::{Message, Missing};
 use element_name::{MAX_STAMP, MAX_VERSION, Name};
@@ -15,18 +17,18 @@ use policy_book::{AdminOp, Entry};
 use request_state::State;
 
 impl Peer {
-    pub(super) fn edit_refusal(&self, edit: &LentLocalEdit<'_>) -> Option<Answer>
-        ensures { result ≡ first_of (rows_of_edit self.now (local_edit_lent edit.now)) }
+    pub(super) fn edit_refusal(&self, edit: &LentLocalEdit<'_>) -> Option<EditRefusal>
+        ensures { option_map answer_refused result ≡ first_of (rows_of_edit self.now (local_edit_lent edit.now)) }
     {
         let len = self.journal.shown();
         if !fits_text(len, edit) {
-            return Some(Answer::BadPlace(len));
+            return Some(EditRefusal::BadPlace(len));
         }
         if self.journal.stamp() == MAX_STAMP {
-            return Some(Answer::ClockEnd);
+            return Some(EditRefusal::ClockEnd);
         }
         if self.journal.is_full() {
-            return Some(Answer::HistoryFull);
+            return Some(EditRefusal::HistoryFull);
         }
         None
     }
