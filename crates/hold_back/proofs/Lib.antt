@@ -1,5 +1,5 @@
 pub mod Holds
-pub mod Indexed
-pub mod Counted
-pub mod Awaiting
+pub mod Moves
+pub mod Rows
 pub mod Indexes
+pub mod FirstDue

@@ -1,50 +1,121 @@
--- What is kept beside the held messages: their keys, how many wait, and for what.
-use Rattle.std.specs.Prelude.{◌≡◌, ℕ, Bool, true, false, List, Option, None, Some}
-use Rattle.std.specs.List.{list_any, count_by}
-use Rattle.std.specs.BTreeSet.{contains}
-use Rattle.std.specs.Ordering.{nat_cmp}
-use Rattle.element_name.specs.Named.{name_cmp}
-use Rattle.edit_message.specs.Message.{key_eq}
+-- What is kept beside the held messages: their numbers of arrival, and rows of what they wait for and of their keys.
+use Rattle.std.specs.Prelude.{◌≡◌, ℕ, ◌+◌, ◌*◌, ◌<◌, ◌≤◌, ◌==◌, Bool, true, ◌&&◌, List, [], ◌∷◌, Option, None, Some, map, length, nat_lt, slice_index_or, vec_len, vec_capacity, if◌then◌else◌}
+use Rattle.std.specs.List.{All, AllPairs, list_all, count_by}
+use Rattle.element_name.specs.Name.{Name}
+use Rattle.edit_message.specs.Message.{key_of}
 use Rattle.edit_message.specs.declared.message.Key.{Key}
 use Rattle.edit_message.specs.declared.message.Key.TheVariants.{Coop, Admin}
 use Rattle.hold_back.specs.declared.held.Held.{Held}
-use Rattle.hold_back.specs.declared.keys.HeldKeys.{HeldKeys}
+use Rattle.hold_back.specs.declared.index.Index.{Index}
 use Rattle.hold_back.specs.declared.need.Need.{Need}
 use Rattle.hold_back.specs.declared.need.Need.TheVariants.{Element, Front}
-use Rattle.hold_back.specs.declared.awaited.Awaited.{Awaited}
-use Rattle.hold_back.specs.declared.census.Census.{Census}
-use Rattle.hold_back.specs.Hold.{waits_for, keys_of, IsHold}
+use Rattle.hold_back.specs.Hold.{IsHold}
 
--- the key is among them: that of a request by its name, that of an entry by its version
-abbrev pub keeps_key : HeldKeys → Key → Bool
-keeps_key kept (Coop name) = contains name_cmp kept.requests name
-keeps_key kept (Admin version) = contains nat_cmp kept.entries version
+-- the number of a name: even, and none is 0
+abbrev pub name_number : Name → ℕ
+name_number name = (name.stamp * 65536 + name.site) * 2 + 2
 
--- the need is among them
-abbrev pub is_awaited : Awaited → Need → Bool
-is_awaited awaited (Element name) = contains name_cmp awaited.elements name
-is_awaited awaited (Front version) = contains nat_cmp awaited.fronts version
+-- the number of a version: odd
+abbrev pub version_number : ℕ → ℕ
+version_number version = version * 2 + 1
 
--- both are woken, wait for elements, or wait for fronts
-abbrev pub is_like : Option Need → Option Need → Bool
-is_like None None = true
-is_like (Some (Element a)) (Some (Element b)) = true
-is_like (Some (Front a)) (Some (Front b)) = true
-is_like a b = false
+-- the number of what a message waits for, 0 where it is woken
+abbrev pub need_number : Option Need → ℕ
+need_number None = 0
+need_number (Some (Element name)) = name_number name
+need_number (Some (Front version)) = version_number version
 
--- how many the census has of the kind
-abbrev pub in_census : Census → Option Need → ℕ
-in_census census None = census.woken
-in_census census (Some (Element name)) = census.elements
-in_census census (Some (Front version)) = census.fronts
+-- the number of a key
+abbrev pub key_number : Key → ℕ
+key_number (Coop name) = name_number name
+key_number (Admin version) = version_number version
 
--- how many are held of the kind
-abbrev pub held_like : Option Need → List Held → ℕ
-held_like need held = count_by (λ h. is_like h.need need) held
+-- its site has 16 bits, so that its number is that of no other
+abbrev pub site_fits : Name → Bool
+site_fits name = nat_lt name.site 65536
 
--- the keys are those of the messages, the census counts the messages, and what is known not to be awaited isn't
-pub record IsIndexed (held : List Held) (kept : HeldKeys) (census : Census) (awaited : Awaited) : Type 0 where
+-- so has the site of a name that is waited for
+abbrev pub need_fits : Option Need → Bool
+need_fits None = true
+need_fits (Some (Element name)) = site_fits name
+need_fits (Some (Front version)) = true
+
+-- so has the site of a request's name
+abbrev pub key_fits : Key → Bool
+key_fits (Coop name) = site_fits name
+key_fits (Admin version) = true
+
+-- so have both
+abbrev pub held_fits : Held → Bool
+held_fits h = need_fits h.need && key_fits (key_of h.message)
+
+-- the numbers of what the messages wait for, in order of arrival
+abbrev pub need_numbers : List Held → List ℕ
+need_numbers held = map (λ h. need_number h.need) held
+
+-- the numbers of their keys, in order of arrival
+abbrev pub key_numbers : List Held → List ℕ
+key_numbers held = map (λ h. key_number (key_of h.message)) held
+
+-- a number and below it, in 32 bits, a number of arrival
+abbrev pub ticket : ℕ → ℕ → ℕ
+ticket number arrival = number * 4294967296 + arrival
+
+-- the tickets of messages of these numbers that came so
+abbrev pub tickets : List ℕ → List ℕ → List ℕ
+tickets [] arrivals = []
+tickets (n ∷ numbers) [] = []
+tickets (n ∷ numbers) (a ∷ arrivals) = ticket n a ∷ tickets numbers arrivals
+
+-- how often x stands in the row
+abbrev pub times_in : ℕ → List ℕ → ℕ
+times_in x row = count_by (λ y. y == x) row
+
+-- the place of the first that isn't below x
+pub record IsFirstNotBelow (x : ℕ) (row : List ℕ) (i : ℕ) : Type 0 where
+  pub within : i ≤ length row
+  pub below : (k d : ℕ) → k < i → slice_index_or row k d < x
+  pub above : (k d : ℕ) → i ≤ k → k < length row → x ≤ slice_index_or row k d
+
+-- no number is below one before it
+abbrev pub IsRisingRow : List ℕ → Type 0
+IsRisingRow row = AllPairs (λ a b. a ≤ b) row
+
+-- the row is as it was but for one x more
+pub record IsWith (x : ℕ) (old new : List ℕ) : Type 0 where
+  pub rising : IsRisingRow new
+  pub times : (y : ℕ) → times_in y new ≡ times_in y old + (if x == y then 1 else 0)
+
+-- the row is as it was but for one x less
+pub record IsWithout (x : ℕ) (old new : List ℕ) : Type 0 where
+  pub rising : IsRisingRow new
+  pub times : (y : ℕ) → times_in y new + (if x == y then 1 else 0) ≡ times_in y old
+
+-- numbers of arrival rise, in 32 bits
+pub record AreArrivals (arrivals : List ℕ) : Type 0 where
+  pub rising : AllPairs (λ a b. a < b) arrivals
+  pub small : All (λ a. a < 4294967296) arrivals
+
+-- the row has the tickets of messages of these numbers that came so, in rising order
+pub record IsTicketRow (numbers arrivals row : List ℕ) : Type 0 where
+  pub count : length numbers ≡ length arrivals
+  pub rising : IsRisingRow row
+  pub tickets : (x : ℕ) → times_in x row ≡ times_in x (tickets numbers arrivals)
+
+-- there is room for one more message
+pub record HasIndexRoom (index : Index) : Type 0 where
+  pub arrivals : vec_len index.arrivals < vec_capacity index.arrivals
+  pub needs : vec_len index.needs < vec_capacity index.needs
+  pub keys : vec_len index.keys < vec_capacity index.keys
+
+-- the rows are those of messages with these numbers of needs and of keys
+pub record IsIndexOf (needs keys : List ℕ) (index : Index) : Type 0 where
+  pub arrivals : AreArrivals index.arrivals.items
+  pub waiting : IsTicketRow needs index.arrivals.items index.needs.items
+  pub keyed : IsTicketRow keys index.arrivals.items index.keys.items
+
+-- the rows are those of the held messages
+pub record IsIndexed (held : List Held) (index : Index) : Type 0 where
   pub hold : IsHold held
-  pub keyed : (key : Key) → keeps_key kept key ≡ list_any (λ k. key_eq k key) (keys_of held)
-  pub counted : (need : Option Need) → in_census census need ≡ held_like need held
-  pub none_awaits : awaited.known ≡ true → (need : Need) → is_awaited awaited need ≡ false → list_any (waits_for need) held ≡ false
+  pub fit : list_all held_fits held ≡ true
+  pub rows : IsIndexOf (need_numbers held) (key_numbers held) index

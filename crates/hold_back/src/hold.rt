@@ -1,7 +1,7 @@
 //! The hold.
 ghost use Rattle.std.specs.Prelude.{◌≡◌, ◌&&◌, ◌≤◌, ◌<◌, ◌++◌, List, [], ◌∷◌, None, Some, false, length, remove, slice_get, position, find};
-ghost use Rattle.std.specs.Prelude.{unwrap_or, option_map, IfOk, IfErr, OnOk, OnErr, IsTrue};
-ghost use Rattle.std.specs.List.{list_any};
+ghost use Rattle.std.specs.Prelude.{◌==◌, ◌+◌, true, IfSome, slice_index_or, drop, unwrap_or, option_map, IfOk, IfErr, OnOk, OnErr, IsTrue};
+ghost use Rattle.std.specs.List.{list_any, list_all};
 ghost use Rattle.std.specs.Option.{option_copied};
 ghost use Rattle.hold_back.specs.declared.fault.HoldFault.TheVariants.{NoMemory as no_memory};
 ghost use Rattle.hold_back.specs.declared.held.Held.{Held};
@@ -9,15 +9,16 @@ ghost use Rattle.element_name.specs.Growing.{EachAfter};
 ghost use Rattle.edit_message.specs.Message.{key_of, key_eq};
 ghost use Rattle.hold_back.specs.Hold.{find_held, keep_fault, woken_at, waiting_at, woken_from, waiting_from, due_at};
 ghost use Rattle.hold_back.specs.Hold.{only_woken_due, is_woken, waits_for, IsNewKey, keys_of};
-ghost use Rattle.hold_back.specs.Index.{IsIndexed};
+ghost use Rattle.hold_back.specs.Index.{IsIndexed, IsIndexOf, HasIndexRoom, need_numbers, key_numbers, held_fits};
+ghost use Rattle.std.specs.List.{All};
 
-use crate::awaited::Awaited;
-use crate::census::Census;
 use crate::fault::HoldFault;
 use crate::held::Held;
-use crate::keys::HeldKeys;
+use crate::index::Index;
 use crate::need::Need;
+use crate::number::{key_number, need_number};
 use crate::parcel::Parcel;
+use crate::row::NUMBERS;
 use edit_message::{Key, Message};
 use std::alloc::Global;
 use std::marker::Model;
@@ -38,17 +39,14 @@ pub trait Due {
         ensures { result ≡ is_due self.now message.now };
 }
 
-/// Held messages in order of arrival, each waiting under its need, or woken. Each lies behind a pointer,
-/// so that little moves where one is taken out; it takes about 450 bytes. The keys and what is waited for stand in orders
-/// of their own, and those that wait and those that are woken are counted, so that no message is looked at where none
-/// can be meant.
+/// Held messages in order of arrival, each waiting under its need, or woken. Each lies behind a pointer, so that little
+/// moves where one is taken out; it takes about 450 bytes. Rows beside them, in rising order, have what each waits for and
+/// its key, in 36 bytes, so that a message is found by halves and no call passes over the held ones.
 #[derive(Drop)]
 pub struct HoldBack {
     alloc: Global,
     held: Vec<Parcel>,
-    keys: HeldKeys,
-    census: Census,
-    awaited: Awaited,
+    index: Index,
 }
 
 impl Model for HoldBack {
@@ -56,7 +54,7 @@ impl Model for HoldBack {
 
     ghost view = { λ h. h.held.items };
 
-    ghost invariant = { λ h. IsIndexed h.held.items h.keys h.census h.awaited };
+    ghost invariant = { λ h. IsIndexed h.held.items h.index };
 }
 
 impl HoldBack {
@@ -67,9 +65,7 @@ impl HoldBack {
         HoldBack {
             alloc,
             held: Vec::new(alloc),
-            keys: HeldKeys::new(alloc),
-            census: Census::new(),
-            awaited: Awaited::new(alloc),
+            index: Index::new(alloc),
         }
     }
 
@@ -90,20 +86,18 @@ impl HoldBack {
         Some(held.message())
     }
 
-    /// The message of a key. Where there is none, this takes time logarithmic in the number of held messages; else time
-    /// in that number.
+    /// The message of a key, in time logarithmic in the number of held messages.
     pub fn find(&self, key: Key) -> Option<&Message>
         ensures { option_copied result ≡ find_held key self.now }
     {
-        if !self.keys.has(&key) {
-            return None;
+        match self.index.place(key_number(&key)) {
+            Some(place) => message_at(&self.held, place),
+            None => None,
         }
-        let held = find_in(&self.held, &key)?;
-        Some(held.message())
     }
 
-    /// Puts a message last, waiting under its need, in time logarithmic in the number of held messages but for the times
-    /// when room is doubled.
+    /// Puts a message last, waiting under its need. Takes the memory for it, its pointer and its place in each row, before
+    /// anything changes; its place in a row is found by halves, and the tickets above it move by 16 bytes, as one piece.
     pub fn keep(&mut self, message: Message, need: Need) -> Result<(), HoldFault>
         requires new { find_held (key_of message) self.old ≡ None }
         ensures room { OnOk result (keep_fault self.old ≡ None) }
@@ -114,118 +108,114 @@ impl HoldBack {
         if self.held.len() >= MAX_HELD {
             return Err(HoldFault::Full);
         }
-        let key = message.key();
-        let waits = Some(need);
-        self.keys.enter(&key)?;
-        match put(&mut self.held, self.alloc, message, &need) {
-            Ok(()) => {
-                self.census.add(&waits, 1);
-                self.awaited.enter(&need);
-                Ok(())
-            }
-            Err(fault) => {
-                self.keys.leave(&key);
-                Err(fault)
-            }
-        }
+        let key = key_number(&message.key());
+        let number = need_number(&Some(need));
+        let arrival = make_room(&mut self.index, self.alloc, &self.held)?;
+        put(&mut self.held, self.alloc, message, &need)?;
+        self.index.enter(arrival, number, key);
+        Ok(())
     }
 
-    /// Wakes the message at a place. Takes constant time, and no memory.
+    /// Wakes the message at a place. Takes no memory; its ticket goes to the front of the row of needs, and those above its
+    /// old place and its new one move by 16 bytes, each time as one piece.
     pub fn wake(&mut self, i: u32)
         requires { i < length self.old }
         ensures { self.new ≡ woken_at i self.old }
     {
-        let left = need_at(&self.held, i as usize);
+        let left = need_number(&need_at(&self.held, i as usize));
         set_woken(&mut self.held, i as usize);
-        self.census.sub(&left, 1);
-        self.census.add(&None, 1);
+        self.index.exchange(i as usize, left, 0);
     }
 
-    /// Lets go of a need that is met, under which no message waits any more. Takes time logarithmic in the number of held
-    /// messages, and no memory.
+    /// Lets go of a need that is met, under which no message waits any more. Nothing is kept for such a need, so nothing is
+    /// done.
     pub fn met(&mut self, need: Need)
         requires { list_any (waits_for need) self.old ≡ false }
         ensures { self.new ≡ self.old }
-    {
-        self.awaited.leave(&need);
-    }
+    {}
 
-    /// Has the message at a place wait under a need. Takes time logarithmic in the number of held messages, and some 20
-    /// bytes where no other waits under the need; where memory is wanting it does without, and what arrives takes longer.
+    /// Has the message at a place wait under a need. Takes no memory; its ticket goes to another place of the row of needs,
+    /// and those above the old place and the new one move by 16 bytes, each time as one piece.
     pub fn wait_again(&mut self, i: u32, need: Need)
         requires { i < length self.old }
         ensures { self.new ≡ waiting_at i need self.old }
     {
-        let waits = Some(need);
-        let left = need_at(&self.held, i as usize);
+        let left = need_number(&need_at(&self.held, i as usize));
         set_need(&mut self.held, i as usize, &need);
-        self.census.sub(&left, 1);
-        self.census.add(&waits, 1);
-        self.awaited.enter(&need);
+        self.index
+            .exchange(i as usize, left, need_number(&Some(need)));
     }
 
-    /// The least place at or above `from` whose message is woken. Takes no time where none is; else time in the number of
-    /// messages from there on.
+    /// The least place at or above `from` whose message is woken, in time logarithmic in the number of held messages.
     pub fn woken(&self, from: u32) -> Option<u32>
         ensures { result ≡ woken_from from self.now }
     {
-        if self.census.of(&None) == 0 {
-            return None;
-        }
-        let rest = self.held.get(from as usize..)?;
-        let k = first_woken(rest)?;
-        Some(from + k as u32)
+        self.next(0, from)
     }
 
-    /// The least place at or above `from` whose message waits under the need. Where none waits under it this takes time
-    /// logarithmic in the number of held messages; else time in the number of messages from there on.
+    /// The least place at or above `from` whose message waits under the need, in time logarithmic in the number of held
+    /// messages.
     pub fn waiting(&self, need: Need, from: u32) -> Option<u32>
         ensures { result ≡ waiting_from need from self.now }
     {
-        let waits = Some(need);
-        if self.census.of(&waits) == 0 {
-            return None;
-        }
-        if !self.awaited.may(&need) {
-            return None;
-        }
-        let rest = self.held.get(from as usize..)?;
-        let k = first_waiting(rest, &need)?;
-        Some(from + k as u32)
+        self.next(need_number(&Some(need)), from)
     }
 
-    /// The place of the earliest message that is due. Only woken messages are asked about, each at most once; where none
-    /// is woken this takes no time.
+    // The least place at or above `from` of a message whose need has the number.
+    fn next(&self, number: u128, from: u32) -> Option<u32>
+        requires { number < NUMBERS }
+        ensures place { result ≡ option_map (λ k. from + k) (position (λ n. n == number) (drop from (need_numbers self.now))) }
+        ensures within { IfSome result (λ i. i < length self.now) }
+        ensures fit { list_all held_fits self.now ≡ true }
+    {
+        match self.index.waiting(number, from as usize) {
+            Some(place) => Some(place as u32),
+            None => None,
+        }
+    }
+
+    /// The place of the earliest message that is due. Only woken messages are looked at, in order of arrival and each at
+    /// most once, in time logarithmic in the number of held messages for each.
     pub fn first_due<T: Due>(&self, test: &T) -> Option<u32>
         requires { IsTrue (only_woken_due (T.is_due test.now) self.now) }
         ensures { result ≡ due_at (T.is_due test.now) self.now }
     {
-        if self.census.of(&None) == 0 {
-            return None;
+        let mut from = 0;
+        while let Some(place) = self.woken(from) {
+            if is_due_at(&self.held, place, test) {
+                return Some(place);
+            }
+            from = place + 1;
         }
-        let place = first_woken_due(&self.held, test)?;
-        Some(place as u32)
+        None
     }
 
-    /// Takes a message out; the others keep their order. Takes no memory, and moves a pointer for each message
-    /// behind it.
+    /// Takes a message out; the others keep their order. Takes no memory, and moves a pointer and a number of arrival for
+    /// each message behind it, and in each row the tickets above its own.
     pub fn take(&mut self, i: u32) -> Message
         requires { i < length self.old }
         ensures taken { option_map (λ h. h.message) (slice_get self.old i) ≡ Some result }
         ensures rest { self.new ≡ remove self.old i }
     {
         let held = take_out(&mut self.held, i as usize);
-        let key = held.message.key();
-        self.keys.leave(&key);
-        self.census.sub(&held.need, 1);
+        let key = key_number(&held.message.key());
+        self.index.leave(i as usize, need_number(&held.need), key);
         held.message
     }
 }
 
-fn find_in<'a>(held: &'a [Parcel], key: &Key) -> Option<&'a Parcel>
-    ensures { option_copied result ≡ find (λ h. key_eq (key_of h.message) key.now) held.now }
+fn message_at(held: &[Parcel], place: usize) -> Option<&Message>
+    ensures { option_copied result ≡ option_map (λ h. h.message) (slice_get held.now place) }
 {
-    held.iter().find(|h| h.has_key(*key))
+    let held = held.get(place)?;
+    Some(held.message())
+}
+
+fn is_due_at<T: Due>(held: &[Parcel], place: u32, test: &T) -> bool
+    requires { place < length held.now }
+    ensures { (d : Held) → result ≡ T.is_due test.now (slice_index_or held.now place d).message }
+{
+    test.due(held[place as usize].message())
 }
 
 fn wrap(alloc: Global, held: Held) -> Result<Parcel, HoldFault>
@@ -291,29 +281,51 @@ fn take_out(held: &mut Vec<Parcel>, i: usize) -> Held
     held.remove(i).into_held()
 }
 
-fn first_woken(held: &[Parcel]) -> Option<usize>
-    ensures { result ≡ position is_woken held.now }
+/// The index of messages that are numbered anew, by their places.
+fn numbered(alloc: Global, held: &[Parcel]) -> Result<Index, HoldFault>
+    requires { length held.now ≤ MAX_HELD }
+    ensures ok { IfOk result (λ index. IsIndexOf (need_numbers held.now) (key_numbers held.now) index × All (λ a. a < length held.now) index.arrivals.items) }
+    ensures fault { IfErr result (λ fault. fault ≡ no_memory) }
 {
-    held.iter().position(|h| h.is_woken())
+    let mut index = Index::new(alloc);
+    let mut i = 0;
+    while i < held.len() {
+        index.reserve()?;
+        let parcel = &held[i];
+        let key = key_number(&parcel.message().key());
+        index.enter(i as u32, need_number(&parcel.need()), key);
+        i += 1;
+    }
+    Ok(index)
 }
 
-fn first_waiting(held: &[Parcel], need: &Need) -> Option<usize>
-    ensures { result ≡ position (waits_for need.now) held.now }
+/// Numbers the messages anew, and takes the memory for one more; its number of arrival.
+#[inline(never)]
+fn renumber(index: &mut Index, alloc: Global, held: &[Parcel]) -> Result<u32, HoldFault>
+    requires few { length held.now ≤ MAX_HELD }
+    requires index { IsIndexOf (need_numbers held.now) (key_numbers held.now) index.old }
+    ensures index { IsIndexOf (need_numbers held.now) (key_numbers held.now) index.new }
+    ensures ok { IfOk result (λ a. HasIndexRoom index.new × All (λ b. b < a) index.new.arrivals.items × (a < 4294967296)) }
+    ensures fault { IfErr result (λ fault. fault ≡ no_memory) }
 {
-    held.iter().position(|h| h.waits_for(*need))
+    let mut fresh = numbered(alloc, held)?;
+    fresh.reserve()?;
+    *index = fresh;
+    Ok(held.len() as u32)
 }
 
-// The first that is both woken and due.
-fn first_of_both<T: Due>(held: &[Parcel], test: &T) -> Option<usize>
-    ensures { result ≡ position (λ h. is_woken h && T.is_due test.now h.message) held.now }
+/// Takes the memory for one more message in the index; its number of arrival. Once in 4,294,967,296 messages they are
+/// numbered anew.
+fn make_room(index: &mut Index, alloc: Global, held: &[Parcel]) -> Result<u32, HoldFault>
+    requires few { length held.now ≤ MAX_HELD }
+    requires index { IsIndexOf (need_numbers held.now) (key_numbers held.now) index.old }
+    ensures index { IsIndexOf (need_numbers held.now) (key_numbers held.now) index.new }
+    ensures ok { IfOk result (λ a. HasIndexRoom index.new × All (λ b. b < a) index.new.arrivals.items × (a < 4294967296)) }
+    ensures fault { IfErr result (λ fault. fault ≡ no_memory) }
 {
-    held.iter()
-        .position(|h| h.is_woken() && test.due(h.message()))
-}
-
-fn first_woken_due<T: Due>(held: &[Parcel], test: &T) -> Option<usize>
-    requires { IsTrue (only_woken_due (T.is_due test.now) held.now) }
-    ensures { result ≡ due_at (T.is_due test.now) held.now }
-{
-    first_of_both(held, test)
+    index.reserve()?;
+    match index.next_arrival() {
+        Some(arrival) => Ok(arrival),
+        None => renumber(index, alloc, held),
+    }
 }

@@ -4,15 +4,15 @@
 //! It must not know what becomes of a message that is let go.
 #![tactic(auto)]
 
-mod awaited;
-mod census;
 mod fault;
 mod held;
 mod hold;
-mod keys;
+mod index;
 pub mod laws;
 mod need;
+mod number;
 mod parcel;
+mod row;
 
 pub use fault::HoldFault;
 pub use held::Held;

@@ -1,11 +1,9 @@
 //! Held messages behind pointers.
 ghost use Rattle.std.specs.Prelude.{◌≡◌, IfOk, None};
-ghost use Rattle.edit_message.specs.Message.{key_of, key_eq};
-ghost use Rattle.hold_back.specs.Hold.{is_woken, waits_for};
 
 use crate::held::Held;
 use crate::need::Need;
-use edit_message::{Key, Message};
+use edit_message::Message;
 use std::alloc::{AllocFailed, Global};
 use std::marker::Model;
 
@@ -42,29 +40,6 @@ impl Parcel {
         ensures { result ≡ self }
     {
         Box::into_inner(self.inside)
-    }
-
-    // Whether its message has this key.
-    pub(crate) fn has_key(&self, key: Key) -> bool
-        ensures { result ≡ key_eq (key_of self.now.message) key }
-    {
-        self.inside.message.key() == key
-    }
-
-    pub(crate) fn is_woken(&self) -> bool
-        ensures { result ≡ is_woken self.now }
-    {
-        self.inside.need.is_none()
-    }
-
-    // Whether it waits for this.
-    pub(crate) fn waits_for(&self, need: Need) -> bool
-        ensures { result ≡ waits_for need self.now }
-    {
-        match self.inside.need {
-            Some(own) => own == need,
-            None => false,
-        }
     }
 
     pub(crate) fn need(&self) -> Option<Need>

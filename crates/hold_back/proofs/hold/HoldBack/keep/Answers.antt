@@ -1,31 +1,25 @@
-use Rattle.std.proofs.Common.{List, ◌≡◌, ◌<◌, ◌∙◌, length, None, Some, refl, sym, ap, subst, arith}
+use Rattle.std.proofs.Common.{List, ℕ, ◌≡◌, ◌<◌, ◌∙◌, ◌&&◌, length, None, Some, sym, ap, subst, arith}
 use Rattle.edit_message.specs.Message.{key_of}
-use Rattle.edit_message.specs.declared.message.Key.{Key}
 use Rattle.hold_back.specs.declared.held.Held.{Held}
 use Rattle.hold_back.specs.declared.hold.TheConstants.{MAX_HELD}
 use Rattle.hold_back.specs.Hold.{find_held}
-use Rattle.hold_back.proofs.Indexes.{IsIndexed-keep, IsIndexed-back, few}
+use Rattle.hold_back.specs.Index.{key_number, key_fits, need_numbers, key_numbers, ticket, IsWith, IsIndexOf, IsIndexed}
+use Rattle.hold_back.proofs.Indexes.{IsIndexed-keep}
 use Rattle.hold_back.proofs.hold.HoldBack.keep.Goals as goal
 
-pub add-requires : goal.add-requires
-add-requires c =
-    let counted = few c.self.inside.held.items c.self.inside.census (Some c.args.need) c.self.invariant.counted in
-    let most = c.self.invariant.hold.few in
-    omega (arith, counted, most)
-
-pub invariant_of-self-in-Ok : goal.invariant_of-self-in-Ok
-invariant_of-self-in-Ok c =
+pub invariant_of-self-2 : goal.invariant_of-self-2
+invariant_of-self-2 c =
     let held = c.self.inside.held.items in
-    let new = subst (λ (held : List Held). find_held (key_of c.args.message) held ≡ None) (sym c.self.view_is) c.requires.new in
+    let h : Held = record { message = c.args.message; need = Some c.args.need } in
+    let old = c.make_room.new.index in
+    let new = c.enter.new.self in
+    let a = c.in_ok-arrival.arrival in
+    let none = subst (λ (hs : List Held). find_held (key_of c.args.message) hs ≡ None) (sym c.self.view_is) c.requires.new in
     let room : length held < MAX_HELD = omega arith in
-    rw c.in-Ok.ensures.ok
-    (IsIndexed-keep held (record { message = c.args.message; need = Some c.args.need }) c.key-key.result c.self.inside.keys _ c.self.inside.census _ c.self.inside.awaited _ c.self.invariant new room
-    c.key-key.ensures.value c.in_ok-enter.ensures.ok c.add.ensures c.args.need refl (record { known = c.enter-in-Ok.ensures.known; entered = c.enter-in-Ok.ensures.entered }))
-
-pub invariant_of-self-in-Err : goal.invariant_of-self-in-Err
-invariant_of-self-in-Err c =
-    let held = c.self.inside.held.items in
-    let new = subst (λ (held : List Held). find_held (key_of c.args.message) held ≡ None) (sym c.self.view_is) c.requires.new in
-    rw (c.in-Err.ensures.err.1)
-    (IsIndexed-back held c.key-key.result c.self.inside.keys _ _ c.self.inside.census c.self.inside.awaited c.self.invariant (ap (λ (key : Key). find_held key held) c.key-key.ensures.value ∙ new)
-    c.in_ok-enter.ensures.ok c.leave.ensures)
+    let rows = subst (λ (hs : List Held). IsIndexOf (need_numbers hs) (key_numbers hs) old) c.deref.ensures.value c.in_ok-arrival.ensures.index in
+    let number = c.key_number-key.ensures.value ∙ ap key_number c.key.ensures.value in
+    let own = ap (λ b. b && key_fits (key_of c.args.message)) c.need_number-number.ensures.fits ∙ ap key_fits (sym c.key.ensures.value) ∙ c.key_number-key.ensures.fits in
+    let needs = subst (λ (m : ℕ). IsWith (ticket m a) old.needs.items new.needs.items) c.need_number-number.ensures.value c.enter.ensures.needs in
+    let keys = subst (λ (m : ℕ). IsWith (ticket m a) old.keys.items new.keys.items) number c.enter.ensures.keys in
+    subst (λ (hs : List Held). IsIndexed hs new) (sym c.in_ok-put.ensures.ok)
+    (IsIndexed-keep held h old new a c.self.invariant.hold c.self.invariant.fit rows none room own c.in_ok-arrival.ensures.ok.1 c.in_ok-arrival.ensures.ok.2 c.enter.ensures.arrivals needs keys)

@@ -1,19 +1,19 @@
-use Rattle.std.proofs.Common.{Some, arith}
-use Rattle.hold_back.proofs.Indexes.{IsIndexed-waiting, need_held, one_waits, room_for_one}
+use Rattle.std.proofs.Common.{List, ◌<◌, Some, length, sym, subst}
+use Rattle.hold_back.specs.declared.held.Held.{Held}
+use Rattle.hold_back.specs.Index.{IsIndexed}
+use Rattle.hold_back.proofs.Indexes.{IsIndexed-needing, need_there, number_held}
 use Rattle.hold_back.proofs.hold.HoldBack.wait_again.Goals as goal
 
-pub sub-requires : goal.sub-requires
-sub-requires c =
-    one_waits _ c.self.inside.held.items c.args.i c.need_at-left.result c.self.inside.census c.deref.ensures.value c.need_at-left.ensures c.self.invariant.counted
-
-pub add-requires : goal.add-requires
-add-requires c =
-    let room = room_for_one c.self.inside.held.items (Some c.args.need) c.need_at-left.result c.self.inside.census _ c.self.invariant.counted c.self.invariant.hold.few c.sub.ensures in
-    omega (arith, room)
+pub exchange-requires-clause-in_needs : goal.exchange-requires-clause-in_needs
+exchange-requires-clause-in_needs c =
+    let within = subst (λ (held : List Held). c.args.i < length held) (sym c.self.view_is) c.requires in
+    need_there c.self.inside.held.items c.args.i c.need_number-left.result c.self.inside.index c.self.invariant within
+    (number_held _ c.self.inside.held.items c.args.i c.need_at.result _ c.deref.ensures.value c.need_at.ensures c.need_number-left.ensures.value)
 
 pub invariant_of-self : goal.invariant_of-self
 invariant_of-self c =
-    let there = need_held _ c.self.inside.held.items c.args.i c.need_at-left.result c.deref.ensures.value c.need_at-left.ensures in
-    rw c.set_need.ensures
-    (IsIndexed-waiting c.self.inside.held.items c.args.i c.args.need c.need_at-left.result c.self.inside.keys c.self.inside.census _ _ c.self.inside.awaited _ c.self.invariant there c.sub.ensures c.add.ensures
-    (record { known = c.enter.ensures.known; entered = c.enter.ensures.entered }))
+    let within = subst (λ (held : List Held). c.args.i < length held) (sym c.self.view_is) c.requires in
+    let number = number_held _ c.self.inside.held.items c.args.i c.need_at.result _ c.deref.ensures.value c.need_at.ensures c.need_number-left.ensures.value in
+    subst (λ (held : List Held). IsIndexed held c.exchange.new.self) (sym c.set_need.ensures)
+    (IsIndexed-needing c.self.inside.held.items c.args.i c.need_number-left.result c.need_number.result (Some c.args.need) c.self.inside.index c.exchange.new.self c.self.invariant within number c.need_number.ensures.value c.need_number.ensures.fits
+    c.exchange.ensures.arrivals c.exchange.ensures.keys c.exchange.ensures.needs)

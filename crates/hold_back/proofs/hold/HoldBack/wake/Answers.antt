@@ -1,18 +1,19 @@
-use Rattle.std.proofs.Common.{None, arith}
-use Rattle.hold_back.proofs.Indexes.{IsIndexed-woken_at, need_held, one_waits, room_for_one}
+use Rattle.std.proofs.Common.{List, ◌<◌, None, length, refl, sym, subst}
+use Rattle.hold_back.specs.declared.held.Held.{Held}
+use Rattle.hold_back.specs.Index.{IsIndexed}
+use Rattle.hold_back.proofs.Indexes.{IsIndexed-needing, need_there, number_held}
 use Rattle.hold_back.proofs.hold.HoldBack.wake.Goals as goal
 
-pub sub-requires : goal.sub-requires
-sub-requires c =
-    one_waits _ c.self.inside.held.items c.args.i c.need_at-left.result c.self.inside.census c.deref.ensures.value c.need_at-left.ensures c.self.invariant.counted
-
-pub add-requires : goal.add-requires
-add-requires c =
-    let room = room_for_one c.self.inside.held.items None c.need_at-left.result c.self.inside.census _ c.self.invariant.counted c.self.invariant.hold.few c.sub.ensures in
-    omega (arith, room)
+pub exchange-requires-clause-in_needs : goal.exchange-requires-clause-in_needs
+exchange-requires-clause-in_needs c =
+    let within = subst (λ (held : List Held). c.args.i < length held) (sym c.self.view_is) c.requires in
+    need_there c.self.inside.held.items c.args.i c.need_number-left.result c.self.inside.index c.self.invariant within
+    (number_held _ c.self.inside.held.items c.args.i c.need_at.result _ c.deref.ensures.value c.need_at.ensures c.need_number-left.ensures.value)
 
 pub invariant_of-self : goal.invariant_of-self
 invariant_of-self c =
-    let there = need_held _ c.self.inside.held.items c.args.i c.need_at-left.result c.deref.ensures.value c.need_at-left.ensures in
-    rw c.set_woken.ensures
-    (IsIndexed-woken_at c.self.inside.held.items c.args.i c.need_at-left.result c.self.inside.keys c.self.inside.census _ _ c.self.inside.awaited c.self.invariant there c.sub.ensures c.add.ensures)
+    let within = subst (λ (held : List Held). c.args.i < length held) (sym c.self.view_is) c.requires in
+    let number = number_held _ c.self.inside.held.items c.args.i c.need_at.result _ c.deref.ensures.value c.need_at.ensures c.need_number-left.ensures.value in
+    subst (λ (held : List Held). IsIndexed held c.exchange.new.self) (sym c.set_woken.ensures)
+    (IsIndexed-needing c.self.inside.held.items c.args.i c.need_number-left.result 0 None c.self.inside.index c.exchange.new.self c.self.invariant within number refl refl
+    c.exchange.ensures.arrivals c.exchange.ensures.keys c.exchange.ensures.needs)

@@ -1,0 +1,314 @@
+-- Rows of tickets as they change, and what a search by halves finds in them.
+use Rattle.std.proofs.Common.{◌≡◌, ℕ, ◌+◌, ◌-◌, ◌/◌, ◌%◌, ◌<◌, ◌≤◌, zero, suc, Bool, true, false, cond, List, [], ◌∷◌, ◌++◌, None, Some, length, drop, get_or, set}
+use Rattle.std.proofs.Common.{remove, refl, sym, ap, subst, ◌∙◌, arith, eqb, ltb, ltb-true}
+use Rattle.std.specs.Prelude.{option_map, position}
+use Rattle.std.specs.List.{All, AllPairs, insert, position_or_len}
+use Rattle.std.specs.List.Sorted.{IsNonDecreasing, IsPartitionPoint}
+use Rattle.std.proofs.lemmas.Bool.{eqb-true, eq-eqb}
+use Rattle.std.proofs.lemmas.Bool.Decides.{nat_tests}
+use Rattle.std.proofs.lemmas.List.{length-set, length_push, get_or-drop, length-drop}
+use Rattle.std.proofs.lemmas.List.Edits.{length-remove, get_or-remove_below, get_or-remove_above}
+use Rattle.std.proofs.lemmas.List.Elements.{All-push}
+use Rattle.std.proofs.lemmas.List.Quantifiers.{all_pairs_push, all_pairs_remove}
+use Rattle.std.proofs.lemmas.List.Sorted.{IsNonDecreasingBy-insert}
+use Rattle.std.proofs.lemmas.List.Sums.{sum_by-cons, sum_by_push, sum_by-insert, sum_by-remove, sum_by-set, get_or-le-sum_by, position_or_len_is}
+use Rattle.hold_back.specs.Index.{ticket, tickets, times_in, IsFirstNotBelow, IsRisingRow, IsWith, IsWithout, AreArrivals, IsTicketRow}
+
+-- ---- one row
+
+pub rises : (row : List ℕ) → IsRisingRow row → IsNonDecreasing row
+rises row up i j d le within = by (ltb i j) refl
+  where
+    by : (b : Bool) → ltb i j ≡ b → get_or row i d ≤ get_or row j d
+    by true e = up i j d (ltb-true i j e) within
+    by false e =
+        let same : i ≡ j = grind (arith, nat_tests) in
+        subst (λ (m : ℕ). get_or row i d ≤ get_or row m d) same (omega arith)
+
+pub strictly_rises : (row : List ℕ) → AllPairs (λ a b. a < b) row → IsNonDecreasing row
+strictly_rises row up = rises row (λ i j d lt within. let low = up i j d lt within in omega (arith, low))
+
+pub found_place : (row : List ℕ) (x i : ℕ) → i ≤ length row → IsPartitionPoint (λ y. ltb y x ≡ true) (λ y. ltb y x ≡ false) row i → IsFirstNotBelow x row i
+found_place row x i within point = record {
+  within = within;
+  below = λ k d lt. ltb-true (get_or row k d) x (point.0 k d (omega arith) lt);
+  above = λ k d from to. let no = point.1 k d from to in grind (arith, nat_tests, no);
+}
+
+-- what is read of the row is the row
+pub seen : (given row : List ℕ) (x i : ℕ) → given ≡ row → IsFirstNotBelow x given i → IsFirstNotBelow x row i
+seen given row x i same place = subst (λ (ys : List ℕ). IsFirstNotBelow x ys i) same place
+
+pub with_one : (row : List ℕ) (x i : ℕ) → IsRisingRow row → IsFirstNotBelow x row i → IsWith x row (insert row i x)
+with_one row x i up place = record {
+  rising = λ a b d lt within. IsNonDecreasingBy-insert (λ y. y) row i x (rises row up) place.within
+      (λ k d lt. let under = place.below k d lt in omega (arith, under)) place.above a b d (omega (arith, lt)) within;
+  times = λ y. sum_by-insert (λ z. cond (eqb z y) 1 0) row i x;
+}
+
+-- what stands in a row has a place there
+pub there_at : (row : List ℕ) (x : ℕ) → 1 ≤ times_in x row → (k : ℕ) × (k < length row) × (get_or row k 0 ≡ x)
+there_at [] x some = absurd (omega (arith, some))
+there_at (y ∷ row) x some = by (eqb y x) refl (there_at row x)
+  where
+    by : (b : Bool) → eqb y x ≡ b → (1 ≤ times_in x row → (k : ℕ) × (k < length row) × (get_or row k 0 ≡ x)) → (k : ℕ) × (k < length (y ∷ row)) × (get_or (y ∷ row) k 0 ≡ x)
+    by true e later = (0, omega arith, eqb-true y x e)
+    by false e later =
+        let first = sum_by-cons (λ z. cond (eqb z x) 1 0) y row in
+        let none = ap {B = ℕ} (λ (b : Bool). cond b 1 0) e in
+        let rest = later (omega (arith, first, none, some)) in
+        (suc rest.0, (let lt = rest.1 in omega (arith, lt)), rest.2)
+
+pub times_at : (row : List ℕ) (x i : ℕ) → i < length row → get_or row i 0 ≡ x → 1 ≤ times_in x row
+times_at row x i within same =
+    let some = get_or-le-sum_by (λ z. cond (eqb z x) 1 0) row i 0 within in
+    let one = ap {B = ℕ} (λ (b : Bool). cond b 1 0) (eq-eqb (get_or row i 0) x same) in
+    omega (arith, some, one)
+
+-- of those that aren't below x, the one at its place is the least
+pub least : (row : List ℕ) (x i y : ℕ) → IsRisingRow row → IsFirstNotBelow x row i → 1 ≤ times_in y row → x ≤ y → (i < length row) × (get_or row i 0 ≤ y)
+least row x i y up place there le =
+    let at = there_at row y there in
+    let within = at.1 in
+    let same = at.2 in
+    let low : i ≤ at.0 = by at.0 same (ltb at.0 i) refl in
+    let first = rises row up i at.0 0 low within in
+    (omega (arith, low, within), omega (arith, first, same))
+  where
+    by : (k : ℕ) → get_or row k 0 ≡ y → (b : Bool) → ltb k i ≡ b → i ≤ k
+    by k same true e =
+        let under = place.below k 0 (ltb-true k i e) in
+        absurd (omega (arith, under, same, le))
+    by k same false e = grind (arith, nat_tests)
+
+pub its_place : (row : List ℕ) (x i : ℕ) → IsRisingRow row → IsFirstNotBelow x row i → 1 ≤ times_in x row → (i < length row) × (get_or row i 0 ≡ x)
+its_place row x i up place there =
+    let first = least row x i x up place there (omega arith) in
+    let le = first.1 in
+    let ge = place.above i 0 (omega arith) first.0 in
+    (first.0, omega (arith, le, ge))
+
+pub without_one : (row : List ℕ) (x i : ℕ) → IsRisingRow row → IsFirstNotBelow x row i → 1 ≤ times_in x row → IsWithout x row (remove row i)
+without_one row x i up place there =
+    let at = its_place row x i up place there in
+    record {
+      rising = all_pairs_remove (λ a b. a ≤ b) row i at.0 up;
+      times = λ y.
+          let gone = sum_by-remove (λ z. cond (eqb z y) 1 0) row i 0 at.0 in
+          let same = ap {B = ℕ} (λ (z : ℕ). cond (eqb z y) 1 0) at.1 in
+          omega (arith, gone, same);
+    }
+
+-- ---- tickets
+
+pub length-tickets : (ns us : List ℕ) → length ns ≡ length us → length (tickets ns us) ≡ length ns
+length-tickets [] us same = refl
+length-tickets (n ∷ ns) [] same = absurd (omega (arith, same))
+length-tickets (n ∷ ns) (a ∷ us) same =
+    let rest = length-tickets ns us (omega (arith, same)) in
+    omega (arith, rest)
+
+pub ticket_at : (ns us : List ℕ) (i : ℕ) → length ns ≡ length us → i < length ns → get_or (tickets ns us) i 0 ≡ ticket (get_or ns i 0) (get_or us i 0)
+ticket_at [] us i same within = absurd (omega (arith, within))
+ticket_at (n ∷ ns) [] i same within = absurd (omega (arith, same))
+ticket_at (n ∷ ns) (a ∷ us) zero same within = refl
+ticket_at (n ∷ ns) (a ∷ us) (suc i) same within = ticket_at ns us i (omega (arith, same)) (omega (arith, within))
+
+tickets_push : (ns us : List ℕ) (n a : ℕ) → length ns ≡ length us → tickets (ns ++ n ∷ []) (us ++ a ∷ []) ≡ tickets ns us ++ ticket n a ∷ []
+tickets_push [] [] n a same = refl
+tickets_push [] (b ∷ us) n a same = absurd (omega (arith, same))
+tickets_push (m ∷ ns) [] n a same = absurd (omega (arith, same))
+tickets_push (m ∷ ns) (b ∷ us) n a same = ap (λ ts. ticket m b ∷ ts) (tickets_push ns us n a (omega (arith, same)))
+
+tickets_remove : (ns us : List ℕ) (i : ℕ) → length ns ≡ length us → i < length ns → tickets (remove ns i) (remove us i) ≡ remove (tickets ns us) i
+tickets_remove [] us i same within = absurd (omega (arith, within))
+tickets_remove (n ∷ ns) [] i same within = absurd (omega (arith, same))
+tickets_remove (n ∷ ns) (a ∷ us) zero same within = refl
+tickets_remove (n ∷ ns) (a ∷ us) (suc i) same within = ap (λ ts. ticket n a ∷ ts) (tickets_remove ns us i (omega (arith, same)) (omega (arith, within)))
+
+tickets_set : (ns us : List ℕ) (i n : ℕ) → length ns ≡ length us → i < length ns → tickets (set ns i n) us ≡ set (tickets ns us) i (ticket n (get_or us i 0))
+tickets_set [] us i n same within = absurd (omega (arith, within))
+tickets_set (m ∷ ns) [] i n same within = absurd (omega (arith, same))
+tickets_set (m ∷ ns) (a ∷ us) zero n same within = refl
+tickets_set (m ∷ ns) (a ∷ us) (suc i) n same within = ap (λ ts. ticket m a ∷ ts) (tickets_set ns us i n (omega (arith, same)) (omega (arith, within)))
+
+-- a message's ticket stands in the row
+pub ticket_there : (ns us row : List ℕ) (i : ℕ) → IsTicketRow ns us row → i < length ns → 1 ≤ times_in (ticket (get_or ns i 0) (get_or us i 0)) row
+ticket_there ns us row i is within =
+    let long = length-tickets ns us is.count in
+    let one = times_at (tickets ns us) (ticket (get_or ns i 0) (get_or us i 0)) i (omega (arith, long, within)) (ticket_at ns us i is.count within) in
+    let same = is.tickets (ticket (get_or ns i 0) (get_or us i 0)) in
+    omega (arith, one, same)
+
+pub row_push : (ns us row new : List ℕ) (n a : ℕ) → IsTicketRow ns us row → IsWith (ticket n a) row new → IsTicketRow (ns ++ n ∷ []) (us ++ a ∷ []) new
+row_push ns us row new n a is more = record {
+  count = let x = length_push ns n in let y = length_push us a in let z = is.count in omega (arith, x, y, z);
+  rising = more.rising;
+  tickets = λ x.
+      let up = more.times x in
+      let old = is.tickets x in
+      let last = sum_by_push (λ z. cond (eqb z x) 1 0) (tickets ns us) (ticket n a) in
+      let all = ap (times_in x) (tickets_push ns us n a is.count) in
+      omega (arith, up, old, last, all);
+}
+
+pub row_remove : (ns us row new : List ℕ) (i : ℕ) → IsTicketRow ns us row → i < length ns → IsWithout (ticket (get_or ns i 0) (get_or us i 0)) row new
+    → IsTicketRow (remove ns i) (remove us i) new
+row_remove ns us row new i is within less = record {
+  count = let x = length-remove ns i within in let z = is.count in let y = length-remove us i (omega (arith, within, z)) in omega (arith, x, y, z);
+  rising = less.rising;
+  tickets = λ x.
+      let down = less.times x in
+      let old = is.tickets x in
+      let long = length-tickets ns us is.count in
+      let gone = sum_by-remove (λ z. cond (eqb z x) 1 0) (tickets ns us) i 0 (omega (arith, long, within)) in
+      let same = ap {B = ℕ} (λ (z : ℕ). cond (eqb z x) 1 0) (ticket_at ns us i is.count within) in
+      let all = ap (times_in x) (tickets_remove ns us i is.count within) in
+      omega (arith, down, old, gone, same, all);
+}
+
+pub row_set : (ns us row mid new : List ℕ) (i n : ℕ) → IsTicketRow ns us row → i < length ns → IsWithout (ticket (get_or ns i 0) (get_or us i 0)) row mid
+    → IsWith (ticket n (get_or us i 0)) mid new → IsTicketRow (set ns i n) us new
+row_set ns us row mid new i n is within less more = record {
+  count = length-set ns i n ∙ is.count;
+  rising = more.rising;
+  tickets = λ x.
+      let down = less.times x in
+      let up = more.times x in
+      let old = is.tickets x in
+      let long = length-tickets ns us is.count in
+      let put = sum_by-set (λ z. cond (eqb z x) 1 0) (tickets ns us) i (ticket n (get_or us i 0)) 0 (omega (arith, long, within)) in
+      let same = ap {B = ℕ} (λ (z : ℕ). cond (eqb z x) 1 0) (ticket_at ns us i is.count within) in
+      let all = ap (times_in x) (tickets_set ns us i n is.count within) in
+      omega (arith, down, up, old, put, same, all);
+}
+
+-- ---- numbers of arrival
+
+pub arrivals_push : (us : List ℕ) (a : ℕ) → AreArrivals us → All (λ b. b < a) us → a < 4294967296 → AreArrivals (us ++ a ∷ [])
+arrivals_push us a are new small = record {
+  rising = all_pairs_push (λ x y. x < y) us a are.rising new;
+  small = All-push (λ x. x < 4294967296) us a are.small small;
+}
+
+pub arrivals_remove : (us : List ℕ) (i : ℕ) → AreArrivals us → i < length us → AreArrivals (remove us i)
+arrivals_remove us i are within = record {
+  rising = all_pairs_remove (λ x y. x < y) us i within are.rising;
+  small = λ k d lt. by k d lt (ltb k i) refl;
+}
+  where
+    by : (k d : ℕ) → k < length (remove us i) → (b : Bool) → ltb k i ≡ b → get_or (remove us i) k d < 4294967296
+    by k d lt true e =
+        let same = get_or-remove_below us i d k (ltb-true k i e) within in
+        let low = ltb-true k i e in
+        let small = are.small k d (omega (arith, low, within)) in
+        omega (arith, same, small)
+    by k d lt false e =
+        let same = get_or-remove_above us i d k (grind (arith, nat_tests)) within in
+        let long = length-remove us i within in
+        let small = are.small (k + 1) d (omega (arith, lt, long)) in
+        omega (arith, same, small)
+
+-- ---- what is found
+
+-- no number of the list from there on is the one that is sought
+pub no_next : (ns : List ℕ) (n from : ℕ) → ((k : ℕ) → from ≤ k → k < length ns → get_or ns k 0 ≡ n → ⊥) → None ≡ option_map (λ k. from + k) (position (λ m. eqb m n) (drop from ns))
+no_next ns n from none =
+    let xs = drop from ns in
+    let long = length-drop from ns in
+    let at : position_or_len (λ m. eqb m n) xs ≡ length xs = position_or_len_is (λ m. eqb m n) xs (length xs) 0 (omega arith) (λ k lt. other k lt (eqb (get_or xs k 0) n) refl) (λ lt. absurd (omega (arith, lt))) in
+    let past : ltb (position_or_len (λ m. eqb m n) xs) (length xs) ≡ false = grind (arith, nat_tests, at) in
+    sym (ap (λ (b : Bool). option_map (λ k. from + k) (cond b (Some (position_or_len (λ m. eqb m n) xs)) None)) past)
+  where
+    other : (k : ℕ) → k < length (drop from ns) → (b : Bool) → eqb (get_or (drop from ns) k 0) n ≡ b → eqb (get_or (drop from ns) k 0) n ≡ false
+    other k lt false e = e
+    other k lt true e =
+        let long = length-drop from ns in
+        let at = get_or-drop from ns k 0 in
+        absurd (none (from + k) (omega arith) (omega (arith, lt, long)) (sym at ∙ eqb-true (get_or (drop from ns) k 0) n e))
+
+pub next_at : (ns : List ℕ) (n from i : ℕ) → from ≤ i → i < length ns → get_or ns i 0 ≡ n → ((k : ℕ) → from ≤ k → k < i → get_or ns k 0 ≡ n → ⊥)
+    → Some i ≡ option_map (λ k. from + k) (position (λ m. eqb m n) (drop from ns))
+next_at ns n from i low within here none =
+    let xs = drop from ns in
+    let long = length-drop from ns in
+    let same : from + (i - from) ≡ i = omega (arith, low) in
+    let hit : eqb (get_or xs (i - from) 0) n ≡ true = eq-eqb (get_or xs (i - from) 0) n (get_or-drop from ns (i - from) 0 ∙ ap (λ k. get_or ns k 0) same ∙ here) in
+    let at : position_or_len (λ m. eqb m n) xs ≡ i - from = position_or_len_is (λ m. eqb m n) xs (i - from) 0 (omega (arith, long, within)) (λ k lt. other k lt (eqb (get_or xs k 0) n) refl) (λ lt. hit) in
+    let inside : ltb (position_or_len (λ m. eqb m n) xs) (length xs) ≡ true = grind (arith, nat_tests, at, long, within, low) in
+    sym (ap (λ (b : Bool). option_map (λ k. from + k) (cond b (Some (position_or_len (λ m. eqb m n) xs)) None)) inside ∙ ap (λ (k : ℕ). Some (from + k)) at ∙ ap (λ (k : ℕ). Some k) same)
+  where
+    other : (k : ℕ) → k < i - from → (b : Bool) → eqb (get_or (drop from ns) k 0) n ≡ b → eqb (get_or (drop from ns) k 0) n ≡ false
+    other k lt false e = e
+    other k lt true e =
+        let at = get_or-drop from ns k 0 in
+        absurd (none (from + k) (omega arith) (omega (arith, lt)) (sym at ∙ eqb-true (get_or (drop from ns) k 0) n e))
+
+module _ (ns us row : List ℕ) (n from at : ℕ) (are : AreArrivals us) (is : IsTicketRow ns us row) (within : from < length us) (place : IsFirstNotBelow (ticket n (get_or us from 0)) row at) where
+  later : (k : ℕ) → from ≤ k → k < length us → get_or us from 0 ≤ get_or us k 0
+  later k low inside = by (ltb from k) refl
+    where
+      by : (b : Bool) → ltb from k ≡ b → get_or us from 0 ≤ get_or us k 0
+      by true e = let lt = are.rising from k 0 (ltb-true from k e) inside in omega (arith, lt)
+      by false e =
+          let same : from ≡ k = grind (arith, nat_tests) in
+          subst (λ (m : ℕ). get_or us from 0 ≤ get_or us m 0) same (omega arith)
+
+  -- a later message of the number has a ticket that isn't below the one at the place
+  bound : (k : ℕ) → from ≤ k → k < length ns → get_or ns k 0 ≡ n → (at < length row) × (get_or row at 0 ≤ ticket n (get_or us k 0))
+  bound k low inside same =
+      let long = is.count in
+      let here = subst (λ (m : ℕ). 1 ≤ times_in (ticket m (get_or us k 0)) row) same (ticket_there ns us row k is inside) in
+      let le = later k low (omega (arith, inside, long)) in
+      least row (ticket n (get_or us from 0)) at (ticket n (get_or us k 0)) is.rising place here (omega (arith, le))
+
+  pub none_past : length row ≤ at → None ≡ option_map (λ k. from + k) (position (λ m. eqb m n) (drop from ns))
+  none_past past = no_next ns n from (λ k low inside same. let in_row = (bound k low inside same).0 in omega (arith, in_row, past))
+
+  pub none_other : (found : ℕ) → get_or row at 0 ≡ found → at < length row → (found / 4294967296 ≡ n → ⊥) → None ≡ option_map (λ k. from + k) (position (λ m. eqb m n) (drop from ns))
+  none_other found here in_row other = no_next ns n from (λ k low inside same.
+      let long = is.count in
+      let le = (bound k low inside same).1 in
+      let ge = place.above at 0 (omega arith) in_row in
+      let small = are.small k 0 (omega (arith, inside, long)) in
+      other (omega (arith, le, ge, small, here)))
+
+  pub found_next : (found i : ℕ) → get_or row at 0 ≡ found → at < length row → found / 4294967296 ≡ n → IsFirstNotBelow (found % 4294967296) us i
+      → Some i ≡ option_map (λ k. from + k) (position (λ m. eqb m n) (drop from ns))
+  found_next found i here in_row number first =
+      let long = is.count in
+      let longer = length-tickets ns us long in
+      let some = times_at row found at in_row here in
+      let same = is.tickets found in
+      let stands = there_at (tickets ns us) found (omega (arith, some, same)) in
+      let j = stands.0 in
+      let inside : j < length ns = let lt = stands.1 in omega (arith, lt, longer) in
+      let parts : ticket (get_or ns j 0) (get_or us j 0) ≡ found = sym (ticket_at ns us j long inside) ∙ stands.2 in
+      let small = are.small j 0 (omega (arith, inside, long)) in
+      let its_number : get_or ns j 0 ≡ n = omega (arith, parts, small, number) in
+      let its_arrival : get_or us j 0 ≡ found % 4294967296 = omega (arith, parts, small) in
+      let le : i ≤ j = not_before j inside its_arrival (ltb j i) refl in
+      let j_is : i ≡ j = not_after j inside its_arrival le (ltb i j) refl in
+      let ge = place.above at 0 (omega arith) in_row in
+      let low : from ≤ j = not_first j inside (omega (arith, ge, here, parts, its_number)) (ltb j from) refl in
+      subst (λ (m : ℕ). Some m ≡ option_map (λ k. from + k) (position (λ m. eqb m n) (drop from ns))) (sym j_is)
+      (next_at ns n from j low inside its_number (λ k low lt same.
+      let before = are.rising k j 0 lt (omega (arith, inside, long)) in
+      let most = (bound k low (omega (arith, lt, inside)) same).1 in
+      omega (arith, before, most, here, parts, its_number)))
+    where
+      not_before : (j : ℕ) → j < length ns → get_or us j 0 ≡ found % 4294967296 → (b : Bool) → ltb j i ≡ b → i ≤ j
+      not_before j inside its true e = let under = first.below j 0 (ltb-true j i e) in absurd (omega (arith, under, its))
+      not_before j inside its false e = grind (arith, nat_tests)
+
+      not_after : (j : ℕ) → j < length ns → get_or us j 0 ≡ found % 4294967296 → i ≤ j → (b : Bool) → ltb i j ≡ b → i ≡ j
+      not_after j inside its le true e =
+          let long = is.count in
+          let under = are.rising i j 0 (ltb-true i j e) (omega (arith, inside, long)) in
+          let over = first.above i 0 (omega arith) (let lt = ltb-true i j e in omega (arith, lt, inside, long)) in
+          absurd (omega (arith, under, over, its))
+      not_after j inside its le false e = grind (arith, nat_tests)
+
+      not_first : (j : ℕ) → j < length ns → get_or us from 0 ≤ get_or us j 0 → (b : Bool) → ltb j from ≡ b → from ≤ j
+      not_first j inside le true e = let under = are.rising j from 0 (ltb-true j from e) within in absurd (omega (arith, under, le))
+      not_first j inside le false e = grind (arith, nat_tests)
