@@ -1,13 +1,14 @@
 // The element in which the text shows: a line of it is an element, whose letters are text nodes alone, and so many lines stand on a shelf, so that
 // a browser that lays a line out anew goes by few others. Colours of who wrote what are highlights, which put nothing into the page. Words that
 // aren't part of the text stand between its letters, and count for nothing.
+import { difference } from './difference.mjs';
 import { countWhile, laidOut, renewed } from './layout.mjs';
 
 /**
  * @typedef {import('./ghosts.mjs').Ghost} Ghost
+ * @typedef {import('./layout.mjs').LaidLine} LaidLine
  * @typedef {import('./layout.mjs').Shown} Shown
- * @typedef {import('./layout.mjs').LaidLine & { node: HTMLElement, ranges: [string, StaticRange][] }} Line a line with its element and its
- *   highlights
+ * @typedef {LaidLine & { node: HTMLElement, ranges: [string, StaticRange][] }} Line a line with its element and its highlights
  */
 
 const MOST_OF_SHELF = 64; // lines; of more it is parted
@@ -83,8 +84,11 @@ export class Surface {
     if (!old) return this.replace(0, this.lines.length, laidOut(now));
     const change = renewed(this.lines, old, now);
     if (!change) return;
-    for (const it of this.lines.slice(change.to)) it.start += change.shift;
-    this.replace(change.from, change.to, change.made);
+    const { from, to, shift, made } = change;
+    for (const it of this.lines.slice(to)) it.start += shift;
+    const isFirstKept = from < to && made.length > 0 && rewrite(this.lines[from], made[0]);
+    const kept = isFirstKept ? 1 : 0;
+    if (to - from > kept || made.length > kept) this.replace(from + kept, to, made.slice(kept));
   }
 
   /**
@@ -92,7 +96,7 @@ export class Surface {
    *
    * @param {number} from
    * @param {number} to
-   * @param {import('./layout.mjs').LaidLine[]} laid
+   * @param {LaidLine[]} laid
    */
   replace(from, to, laid) {
     const { lines } = this;
@@ -129,7 +133,7 @@ export class Surface {
   }
 
   /**
-   * @param {import('./layout.mjs').LaidLine} line
+   * @param {LaidLine} line
    * @returns {Line}
    */
   make(line) {
@@ -303,6 +307,50 @@ function remove({ node, ranges }) {
   const shelf = node.parentElement;
   node.remove();
   if (!shelf?.childElementCount) shelf?.remove();
+}
+
+/**
+ * The letters of a line that has no words between them, and has letters.
+ *
+ * @param {Line} line
+ */
+function lettersAlone({ node, text, ghosts }) {
+  const letters = node.firstChild;
+  return letters && isText(letters) && letters === node.lastChild && !ghosts.length && letters.data === text ? letters : null;
+}
+
+/**
+ * Has a line's element show another line, where it can: then a browser lays out the letters that changed, and its selection stays in them. Gives
+ * whether it could.
+ *
+ * @param {Line} line
+ * @param {LaidLine} now
+ */
+function rewrite(line, now) {
+  const letters = lettersAlone(line);
+  if (!letters || !now.text || now.ghosts.length || now.isLocked !== line.isLocked) return false;
+  const { start, end, text } = difference(line.text, now.text);
+  if (start < end || text) letters.replaceData(start, end - start, text);
+  const same = countAlike(line.marks, now.marks);
+  for (const [name, range] of line.ranges.splice(same)) highlight(name).delete(range);
+  for (const { start: from, end: to, name } of now.marks.slice(same)) {
+    const range = new StaticRange({ startContainer: letters, startOffset: from, endContainer: letters, endOffset: to });
+    line.ranges.push([name, range]);
+    highlight(name).add(range);
+  }
+  Object.assign(line, now);
+  return true;
+}
+
+/**
+ * How many spans of two rows are the same, from the front.
+ *
+ * @param {import('./layout.mjs').Span[]} row
+ * @param {import('./layout.mjs').Span[]} other
+ */
+function countAlike(row, other) {
+  const differs = row.findIndex(({ start, end, name }, i) => other[i]?.name !== name || other[i].start !== start || other[i].end !== end);
+  return differs < 0 ? row.length : differs;
 }
 
 /**
