@@ -52,6 +52,7 @@ export class Editor {
     this.isClosed = false; // nothing more may be typed
     this.isReader = false; // this person only reads
     this.isComposing = false;
+    this.isTyping = false; // by a key that writes a letter
     this.isShowing = false;
     /** @type {ReturnType<typeof setTimeout> | undefined} */
     this.pause = undefined; // of a composition
@@ -69,13 +70,14 @@ export class Editor {
   }
 
   listen() {
-    const { root } = this;
+    const { root, surface } = this;
     root.addEventListener('beforeinput', (event) => this.input(event));
     root.addEventListener('input', () => (this.isComposing ? this.compose() : this.composed()));
     root.addEventListener('keydown', (event) => this.key(event));
     root.addEventListener('copy', (event) => this.give(event));
     root.addEventListener('cut', (event) => this.give(event));
     root.addEventListener('compositionstart', () => this.compose());
+    document.addEventListener('pointerdown', () => surface.settle(), true);
     root.addEventListener('compositionend', () => this.isComposing && this.composed());
     root.addEventListener('blur', () => this.writer.flush());
     document.addEventListener('selectionchange', () => this.noteCaret());
@@ -145,6 +147,8 @@ export class Editor {
 
   /** @param {KeyboardEvent} event */
   key(event) {
+    this.isTyping = isLetter(event);
+    if (!this.isTyping) this.surface.settle();
     if (this.isComposing && !event.isComposing) this.composed();
     if (!(event.ctrlKey || event.metaKey) || event.altKey) return;
     const key = event.key.toLowerCase();
@@ -183,6 +187,7 @@ export class Editor {
     if (start === end && !text) return;
     const isTyped = kind === 'insertText' || (kind in DELETES && end - start < 3);
     this.write(start, end, inLines(text.toWellFormed()), isTyped);
+    this.isTyping = false;
   }
 
   /**
@@ -211,6 +216,7 @@ export class Editor {
     }
     const now = this.surface.selection() ?? { start: this.caret.focus, end: this.caret.focus };
     if (now.start !== now.end || !(kind in DELETES)) return now;
+    this.surface.settle();
     // Words that aren't part of the text are gone over.
     for (let i = 0; i < 3; i++) {
       getSelection()?.modify('extend', ...DELETES[kind]);
@@ -237,6 +243,7 @@ export class Editor {
   // so that what others write comes in.
   compose() {
     clearTimeout(this.pause);
+    this.surface.settle();
     this.isComposing = true;
     this.writer.isPaused = true;
     this.pause = setTimeout(() => this.waiting.length && this.composed(), COMES_MS);
@@ -283,7 +290,8 @@ export class Editor {
     surface.show({ text: inLines(text), runs: this.runs(hold), ghosts, locks: this.locks(hold) });
     const [from, to] = [anchor, focus].map((it) => Math.max(0, Math.min(it, text.length)));
     this.caret = { anchor: from, focus: to };
-    if (isHere) surface.select(from, to);
+    if (isHere && this.isTyping) surface.selectSoon(from, to);
+    else if (isHere) surface.select(from, to);
     this.isShowing = false;
   }
 
@@ -326,6 +334,13 @@ export class Editor {
     return [start, end - 1].map((it) => copy.peer.nameAt(pieces.behind(it).place) ?? '');
   }
 }
+
+/**
+ * Whether a key writes a letter, which goes where this page knows the caret to be. All else goes by the browser's selection.
+ *
+ * @param {KeyboardEvent} event
+ */
+const isLetter = ({ key, isComposing, ctrlKey, metaKey, altKey }) => [...key].length === 1 && !isComposing && !ctrlKey && !metaKey && !altKey;
 
 /**
  * The letters that an input writes; null where it writes nothing that a text without marks has.

@@ -8,6 +8,7 @@ import { countWhile, laidOut, renewed } from './layout.mjs';
  * @typedef {import('./ghosts.mjs').Ghost} Ghost
  * @typedef {import('./layout.mjs').LaidLine} LaidLine
  * @typedef {import('./layout.mjs').Shown} Shown
+ * @typedef {{ anchor: number, focus: number }} Selected where a selection began and where it ends, in the text
  * @typedef {LaidLine & { node: HTMLElement, ranges: [string, StaticRange][] }} Line a line with its element and its highlights
  */
 
@@ -71,6 +72,9 @@ export class Surface {
     this.lines = [];
     /** @type {Shown | null} what shows, where the page's elements are as it wants them */
     this.shown = null;
+    /** @type {Selected | null} what is to be selected with the next frame of the screen */
+    this.wanted = null;
+    this.isDue = false; // that frame is asked for
   }
 
   /**
@@ -81,6 +85,7 @@ export class Surface {
   show(now) {
     const { shown: old } = this;
     this.shown = now;
+    this.wanted = null;
     if (!old) return this.replace(0, this.lines.length, laidOut(now));
     const change = renewed(this.lines, old, now);
     if (!change) return;
@@ -234,13 +239,23 @@ export class Surface {
     return last ? [last, last.length] : [line.node, 0];
   }
 
-  // Where the selection begins and ends in the text, and whether it ends in front of where it began.
+  // What is selected in the text, or will be with the next frame, with its ends in the text's order; null where it is elsewhere.
   selection() {
+    const now = this.wanted ?? this.selected();
+    return now && { ...now, start: Math.min(now.anchor, now.focus), end: Math.max(now.anchor, now.focus) };
+  }
+
+  /**
+   * The page's selection; null where it is elsewhere.
+   *
+   * @returns {Selected | null}
+   */
+  selected() {
     const { anchorNode, anchorOffset, focusNode, focusOffset } = getSelection() ?? {};
     if (!anchorNode || !focusNode) return null;
-    const [anchor, focus] = [this.offsetOf(anchorNode, anchorOffset ?? 0), this.offsetOf(focusNode, focusOffset ?? 0)];
-    if (anchor === null || focus === null) return null;
-    return { anchor, focus, start: Math.min(anchor, focus), end: Math.max(anchor, focus) };
+    const anchor = this.offsetOf(anchorNode, anchorOffset ?? 0);
+    const focus = anchorNode === focusNode && anchorOffset === focusOffset ? anchor : this.offsetOf(focusNode, focusOffset ?? 0);
+    return anchor === null || focus === null ? null : { anchor, focus };
   }
 
   /**
@@ -248,12 +263,36 @@ export class Surface {
    * @param {number} focus
    */
   select(anchor, focus = anchor) {
-    const now = this.selection();
+    this.wanted = null;
+    const now = this.selected();
     const selection = getSelection();
     // A selection that stands beside lines, as where one was made anew, isn't where the letters are.
     const isInLines = [selection?.anchorNode, selection?.focusNode].every((it) => it && it !== this.root && !isShelf(it) && this.root.contains(it));
     if (isInLines && now?.anchor === anchor && now.focus === focus) return;
     selection?.setBaseAndExtent(...this.placeOf(anchor), ...this.placeOf(focus));
+  }
+
+  /**
+   * The same with the next frame of the screen, for which the browser lays the page out anyhow: to select at once would have it do so twice.
+   *
+   * @param {number} anchor
+   * @param {number} focus
+   */
+  selectSoon(anchor, focus) {
+    this.wanted = { anchor, focus };
+    if (this.isDue) return;
+    this.isDue = true;
+    requestAnimationFrame(() => {
+      this.isDue = false;
+      this.settle();
+    });
+  }
+
+  // Selects what is to be selected, for whoever goes by the page's selection. Where somebody stands elsewhere by now, he stays there.
+  settle() {
+    const { wanted } = this;
+    this.wanted = null;
+    if (wanted && document.activeElement === this.root) this.select(wanted.anchor, wanted.focus);
   }
 
   /**

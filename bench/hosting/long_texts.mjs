@@ -13,7 +13,7 @@ const SIZE = { width: 1100, height: 800 };
 const USUAL = [10000, 100000];
 const AT_ONCE = 4000; // pieces that are written before the host has them
 const KEYS = 120;
-const WORD = 6; // letters, with its space
+const WORD = 'stone'; // no letter of it twice in a row: behind such a one the browser has its caret in place by itself
 const PAUSE_MS = 60;
 const PATIENCE_MS = 300000;
 
@@ -121,7 +121,7 @@ async function keys(bea, letters) {
   await pause(500);
   const took = await processor(bea, KEYS, async () => {
     for (let i = 0; i < KEYS; i++) {
-      await bea.key(i % WORD === WORD - 1 ? 'Space' : 'k');
+      await bea.key(WORD[i % (WORD.length + 1)] ?? 'Space');
       await pause(PAUSE_MS);
     }
   });
