@@ -1,18 +1,17 @@
 """Random inputs by kind, in parts whose results stay in a file, so that they may be gone on with.
 
 A part has so many inputs of one kind, numbered on: part K has those from K times the count on. `script` and `stream` are those of fuzz.py. The
-others are made by another program of the same words, whose folder is given; it reads them too, and says where the answers differ.
+others are made by another program of the same words, whose folder is given; it reads them too, and says where the answers differ (others.py).
 """
 import argparse
 import os
 import random
-import re
-import subprocess
 import sys
 import time
 
 import fuzz
 import measuring
+import others
 
 OWN = {"script": fuzz.check_script, "stream": fuzz.check_stream}
 OTHERS = ["replay", "lines", "feed", "make", "race", "watch", "certify", "audit", "keep"]
@@ -40,15 +39,6 @@ def try_own(program, kind, first, count):
     return None
 
 
-def try_other(program, kind, first, count, oracle):
-    """The same among inputs that the other program makes."""
-    command = [sys.executable, os.path.join(oracle, "fuzz.py"), program, "--kind", kind, "--from", str(first), "--n", str(count)]
-    ran = subprocess.run(command, capture_output=True, text=True, check=False)
-    if ran.returncode == 0 and re.match(rf"{count} trials agree", ran.stdout):
-        return None
-    return ran.stdout + ran.stderr[-MOST_TOLD:]
-
-
 def done_ones(path):
     """The kinds, parts and counts that stand in the results with no difference."""
     if not os.path.exists(path):
@@ -71,20 +61,25 @@ def write_row(path, kind, part, count, difference, seconds):
         print(difference[:MOST_TOLD])
 
 
+def wanted(said, kinds):
+    """Those of some kinds whose part isn't in the results with no difference."""
+    there = done_ones(said.results)
+    return [kind for kind in said.kind or kinds if kind in kinds and (kind, said.part, said.count) not in there]
+
+
 def main(given, usage):
     """Tries a part of each kind, and says whether none differs."""
     said = words(given, usage)
     program = os.path.abspath(said.program) if said.program else measuring.program("fuzzing")
-    kinds = said.kind or [*OWN, *(OTHERS if said.oracle else [])]
-    there, differ = done_ones(said.results), False
-    for kind in kinds:
-        if (kind, said.part, said.count) in there:
-            continue
-        if kind in OTHERS and not said.oracle:
-            sys.exit(f"fuzzing: {kind} wants the folder of another program")
-        first, began = said.part * said.count, time.monotonic()
-        own = kind in OWN
-        difference = try_own(program, kind, first, said.count) if own else try_other(program, kind, first, said.count, said.oracle)
-        write_row(said.results, kind, said.part, said.count, difference, time.monotonic() - began)
-        differ = differ or difference is not None
-    sys.exit(1 if differ else 0)
+    if not said.oracle and set(said.kind or []) & set(OTHERS):
+        sys.exit("fuzzing: these kinds want the folder of another program")
+    first, differences = said.part * said.count, []
+    for kind in wanted(said, OWN):
+        began = time.monotonic()
+        differences.append(try_own(program, kind, first, said.count))
+        write_row(said.results, kind, said.part, said.count, differences[-1], time.monotonic() - began)
+    kinds = wanted(said, OTHERS) if said.oracle else []
+    for kind, (difference, seconds) in others.try_kinds(program, kinds, first, said.count, said.oracle).items() if kinds else []:
+        differences.append(difference)
+        write_row(said.results, kind, said.part, said.count, difference, seconds)
+    sys.exit(1 if any(it is not None for it in differences) else 0)
