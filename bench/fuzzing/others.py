@@ -1,8 +1,8 @@
 """The inputs that another program of the same words makes and answers too, quickly: its own fuzz.py makes them, reads them and compares, and
 what costs most beside that is saved.
 
-The program is spawned with files in memory in place of pipes, and what several kinds of a number begin with alike is made once: a script for
-`replay` and `lines`, a stream for `feed` and `certify`. The inputs, the answers and the comparison stay what they are.
+The program is spawned with files in memory in place of pipes, and the random script from which several kinds of a number are made is made
+once: that of `replay` and `lines`, and that of `feed` and `certify`. The inputs, the answers and the comparison stay what they are.
 """
 import contextlib
 import importlib
@@ -13,7 +13,7 @@ import signal
 import sys
 import time
 
-MOST_SECONDS = 60  # of a run
+LIMIT = 60  # seconds of a run
 SEED = 1
 SIZE = 120  # what a script has at most, of the other program's measure
 
@@ -70,13 +70,13 @@ class Spawned:
         fill(self.streams, trial.input(parts))
         child = os.posix_spawn(self.program, [self.program, *trial.words], os.environ, file_actions=self.places)
         try:
-            signal.alarm(MOST_SECONDS)
+            signal.alarm(LIMIT)
             status = os.waitpid(child, 0)[1]
             signal.alarm(0)
         except TimeoutError:
             os.kill(child, signal.SIGKILL)
             os.waitpid(child, 0)
-            return None, f"no end within {MOST_SECONDS} seconds".encode(), None
+            return None, f"no end within {LIMIT} seconds".encode(), None
         said = contents(self.streams[2])
         if said:
             return None, b"standard error: " + said[-300:], None
@@ -100,7 +100,7 @@ def told(trials, name, trial, target, stage):
     """What is to be said of a difference, with the input made as short as keeps it."""
     with contextlib.redirect_stdout(io.StringIO()) as out:
         print(f"difference in {name} ({trial.kind})")
-        trials.show(trial, trials.minimize(trial, target, stage, MOST_SECONDS), target, stage)
+        trials.show(trial, trials.minimize(trial, target, stage, LIMIT), target, stage)
     return out.getvalue()
 
 
