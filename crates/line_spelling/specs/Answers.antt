@@ -17,6 +17,8 @@ use Rattle.peer_step.specs.declared.answer.Answer.{Answer}
 use Rattle.peer_step.specs.declared.answer.Answer.TheVariants.{BadPlace, ClockEnd, HistoryFull, Denied, Done, NotAdministrator, LogFull, Refused, NotHere, NeedsNone}
 use Rattle.peer_step.specs.declared.answer.Answer.TheVariants.{AlreadyInvalid, NothingTentative, Issued, Repeat, Conflict, OwnSite, OwnLog, Illegal, HoldFull, Held}
 use Rattle.peer_step.specs.declared.answer.Answer.TheVariants.{Taken, Advanced, Quiet, Dropped, Settled, Item, Shown}
+use Rattle.peer_step.specs.declared.lent.EditAnswer.{EditAnswer}
+use Rattle.peer_step.specs.declared.lent.EditAnswer.TheVariants as told
 use Rattle.line_spelling.specs.Values.{spaced, name_text, text_text}
 use Rattle.line_spelling.specs.Steps.{message_text}
 
@@ -106,3 +108,12 @@ answer_words number (Shown text) = codes "show" ∷ shown_words (concat text)
 
 abbrev pub answer_line : Option ℕ → Answer → List ℕ
 answer_line number answer = line_of (spaced (answer_words number answer))
+
+-- ---- what is told of an answer to an own edit
+
+abbrev pub edit_answer_words : Option ℕ → EditAnswer → List (List ℕ)
+edit_answer_words number (told.BadPlace len) = codes "no" ∷ codes "place" ∷ decimal len ∷ []
+edit_answer_words number told.ClockEnd = codes "clock" ∷ codes "end" ∷ []
+edit_answer_words number told.HistoryFull = codes "history" ∷ codes "full" ∷ []
+edit_answer_words number (told.Denied version by) = codes "denied" ∷ decimal version ∷ by_words by
+edit_answer_words number (told.Done id version) = codes "done" ∷ number_words number ++ name_text id ∷ decimal version ∷ []

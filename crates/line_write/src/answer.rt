@@ -1,7 +1,9 @@
 //! The lines of answers.
-ghost use Rattle.std.specs.Prelude.{◌≡◌, ◌++◌, ◌∷◌, OnOk, OnErr};
+ghost use Rattle.std.specs.Prelude.{◌≡◌, ◌++◌, ◌∷◌, Some, OnOk, OnErr};
+ghost use Rattle.peer_step.specs.declared.answer.Answer.{Answer};
+ghost use Rattle.peer_step.specs.Lent.{edit_answer_of};
 ghost use Rattle.line_spelling.specs.Values.{spaced};
-ghost use Rattle.line_spelling.specs.Answers.{fault_words, state_words, item_words, answer_words, answer_line};
+ghost use Rattle.line_spelling.specs.Answers.{fault_words, state_words, item_words, answer_words, edit_answer_words, answer_line};
 
 use crate::parts::{
     put_by, put_fault, put_missing, put_outcome, put_settled, put_shown, put_state, put_told,
@@ -9,22 +11,45 @@ use crate::parts::{
 };
 use crate::steps::put_message;
 use crate::values::{put, put_name_word, put_number_word};
-use coop_request::Request;
 use edit_message::Message;
-use element_name::NoMemory;
+use element_name::{Name, NoMemory};
 use line_spelling::LINE_END;
-use peer_step::Answer;
+use peer_step::{Answer, EditAnswer};
 use policy_book::{Entry, EntryFault};
 use request_state::{State, Undone};
 use std::alloc::Global;
 
-fn put_done(line: &mut Vec<u8>, number: Option<u32>, request: Request) -> Result<(), NoMemory>
-    ensures { OnOk result (line.new.items ≡ line.old.items ++ spaced (answer_words number (Answer.Done request))) }
+fn put_done(line: &mut Vec<u8>, number: Option<u32>, id: Name, version: u32) -> Result<(), NoMemory>
+    ensures { OnOk result (line.new.items ≡ line.old.items ++ spaced (edit_answer_words number (EditAnswer.Done id version))) }
 {
     put(line, b"done")?;
     put_told(line, number)?;
-    put_name_word(line, request.id())?;
-    put_number_word(line, u64::from(request.version()))
+    put_name_word(line, id)?;
+    put_number_word(line, u64::from(version))
+}
+
+// Appends an answer to an own edit, without a line end.
+fn put_edit_answer(
+    line: &mut Vec<u8>,
+    number: Option<u32>,
+    told: EditAnswer,
+) -> Result<(), NoMemory>
+    ensures { OnOk result (line.new.items ≡ line.old.items ++ spaced (edit_answer_words number told)) }
+{
+    match told {
+        EditAnswer::BadPlace(len) => {
+            put(line, b"no place")?;
+            put_number_word(line, u64::from(len))
+        }
+        EditAnswer::ClockEnd => put(line, b"clock end"),
+        EditAnswer::HistoryFull => put(line, b"history full"),
+        EditAnswer::Denied { version, by } => {
+            put(line, b"denied")?;
+            put_number_word(line, u64::from(version))?;
+            put_by(line, by)
+        }
+        EditAnswer::Done { id, version } => put_done(line, number, id, version),
+    }
 }
 
 fn put_issued(
@@ -72,18 +97,14 @@ fn put_answer(line: &mut Vec<u8>, number: Option<u32>, answer: &Answer) -> Resul
     ensures { OnOk result (line.new.items ≡ line.old.items ++ spaced (answer_words number answer.now)) }
 {
     match answer {
-        Answer::BadPlace(len) => {
-            put(line, b"no place")?;
-            put_number_word(line, u64::from(*len))
-        }
-        Answer::ClockEnd => put(line, b"clock end"),
-        Answer::HistoryFull => put(line, b"history full"),
+        Answer::BadPlace(len) => put_edit_answer(line, number, EditAnswer::BadPlace(*len)),
+        Answer::ClockEnd => put_edit_answer(line, number, EditAnswer::ClockEnd),
+        Answer::HistoryFull => put_edit_answer(line, number, EditAnswer::HistoryFull),
         Answer::Denied { version, by } => {
-            put(line, b"denied")?;
-            put_number_word(line, u64::from(*version))?;
-            put_by(line, *by)
+            let (version, by) = (*version, *by);
+            put_edit_answer(line, number, EditAnswer::Denied { version, by })
         }
-        Answer::Done(request) => put_done(line, number, *request),
+        Answer::Done(request) => put_done(line, number, request.id(), request.version()),
         Answer::NotAdministrator => put(line, b"not administrator"),
         Answer::LogFull => put(line, b"log full"),
         Answer::Refused(fault) => put_with_fault(line, b"refused", *fault),
@@ -160,5 +181,19 @@ pub fn answer_line(
     let mut line = Vec::new(alloc);
     put_answer_line(&mut line, number, answer)?;
     out.extend_from_slice(&line)?;
+    Ok(())
+}
+
+/// Appends the line of an answer to an own edit, by what is told of it, with the number of the message that it issues where
+/// that is told. Takes time in the length of the line. Fails where memory is wanting; a part may then stand in the output.
+pub fn put_edit_answer_line(
+    out: &mut Vec<u8>,
+    number: Option<u32>,
+    told: EditAnswer,
+) -> Result<(), NoMemory>
+    ensures { (answer : Answer) → edit_answer_of answer ≡ Some told → OnOk result (out.new.items ≡ out.old.items ++ answer_line number answer) }
+{
+    put_edit_answer(out, number, told)?;
+    out.push(LINE_END)?;
     Ok(())
 }

@@ -11,7 +11,7 @@ mod parts;
 mod steps;
 mod values;
 
-pub use answer::{answer_line, put_answer_line};
+pub use answer::{answer_line, put_answer_line, put_edit_answer_line};
 pub use parts::{put_missing, put_shown, put_state};
 pub use steps::{message_text, step_text};
 pub use values::{put, put_name_word, put_number_word};
