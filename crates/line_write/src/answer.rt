@@ -28,8 +28,8 @@ fn put_done(line: &mut Vec<u8>, number: Option<u32>, id: Name, version: u32) -> 
     put_number_word(line, u64::from(version))
 }
 
-// Appends an answer to an own edit, without a line end.
-fn put_edit_answer(
+/// Appends the words of an answer to an own edit, without a line end, as [`put_edit_answer_line`] does.
+pub fn put_edit_answer(
     line: &mut Vec<u8>,
     number: Option<u32>,
     told: EditAnswer,
@@ -78,14 +78,18 @@ fn put_item(line: &mut Vec<u8>, item: &Option<Message>) -> Result<(), NoMemory>
     }
 }
 
-fn put_with_fault(line: &mut Vec<u8>, word: &[u8], fault: EntryFault) -> Result<(), NoMemory>
+/// Appends a word and those of a fault. Takes time in their length. Fails where memory is wanting; a part may then stand in
+/// the line.
+pub fn put_with_fault(line: &mut Vec<u8>, word: &[u8], fault: EntryFault) -> Result<(), NoMemory>
     ensures { OnOk result (line.new.items ≡ line.old.items ++ spaced (word.now ∷ fault_words fault)) }
 {
     put(line, word)?;
     put_fault(line, fault)
 }
 
-fn put_with_state(line: &mut Vec<u8>, word: &[u8], state: State) -> Result<(), NoMemory>
+/// Appends a word and those of a state. Takes time in their length. Fails where memory is wanting; a part may then stand in
+/// the line.
+pub fn put_with_state(line: &mut Vec<u8>, word: &[u8], state: State) -> Result<(), NoMemory>
     ensures { OnOk result (line.new.items ≡ line.old.items ++ spaced (word.now ∷ state_words state)) }
 {
     put(line, word)?;

@@ -52,8 +52,9 @@ pub fn put_missing(line: &mut Vec<u8>, missing: Missing) -> Result<(), NoMemory>
     }
 }
 
-/// A fault.
-pub(crate) fn put_fault(line: &mut Vec<u8>, fault: EntryFault) -> Result<(), NoMemory>
+/// Appends the words of a fault, each behind a space. Takes time in their length. Fails where memory is wanting; a part may
+/// then stand in the line.
+pub fn put_fault(line: &mut Vec<u8>, fault: EntryFault) -> Result<(), NoMemory>
     ensures { OnOk result (line.new.items ≡ line.old.items ++ behind_spaces (fault_words fault)) }
 {
     match fault {
@@ -82,8 +83,9 @@ pub(crate) fn put_told(line: &mut Vec<u8>, number: Option<u32>) -> Result<(), No
     }
 }
 
-/// How many were undone.
-pub(crate) fn put_undone(line: &mut Vec<u8>, undone: Undone) -> Result<(), NoMemory>
+/// Appends how many requests were undone, in words behind a space each. Takes time in their length. Fails where memory is
+/// wanting; a part may then stand in the line.
+pub fn put_undone(line: &mut Vec<u8>, undone: Undone) -> Result<(), NoMemory>
     ensures { OnOk result (line.new.items ≡ line.old.items ++ behind_spaces (undone_words undone)) }
 {
     put_numbered(line, b"undone", undone.count)
@@ -99,8 +101,9 @@ pub(crate) fn put_settled(line: &mut Vec<u8>, message: &Message) -> Result<(), N
     }
 }
 
-/// What became of it.
-pub(crate) fn put_outcome(line: &mut Vec<u8>, outcome: Outcome) -> Result<(), NoMemory>
+/// Appends what became of a held message, in words behind a space each. Takes time in their length. Fails where memory is
+/// wanting; a part may then stand in the line.
+pub fn put_outcome(line: &mut Vec<u8>, outcome: Outcome) -> Result<(), NoMemory>
     ensures { OnOk result (line.new.items ≡ line.old.items ++ behind_spaces (outcome_words outcome)) }
 {
     match outcome {
