@@ -20,5 +20,5 @@ mod words;
 pub use message::read_message;
 pub use numbers::{MAX_WIDE, read_name, read_number, read_wide};
 pub use operation::read_operation;
-pub use step::{read_local_edit, step_line};
+pub use step::{read_lent_edit, read_local_edit, step_line};
 pub use words::{MOST_WORDS, is_alone, is_line, split_words, words_of};

@@ -1,5 +1,6 @@
 //! Step lines.
-ghost use Rattle.std.specs.Prelude.{◌≡◌, IfOk, IsErrOf, Some, None};
+ghost use Rattle.std.specs.Prelude.{◌≡◌, IfOk, IfSome, IsErrOf, Some, None};
+ghost use Rattle.peer_step.specs.Lent.{local_edit_lent};
 ghost use Rattle.line_read.specs.Words.{bytes_of, words};
 ghost use Rattle.line_read.specs.ReadsAs.{ReadsAs};
 ghost use Rattle.line_read.specs.Step.{place_and_piece, read_local_edit, read_plain, read_step, step_line};
@@ -8,12 +9,12 @@ use crate::fail::without_bad;
 use crate::message::message_of;
 use crate::numbers::{one_wide, read_wide};
 use crate::operation::operation_of;
-use crate::pieces::read_piece;
+use crate::pieces::{lent_piece, read_piece};
 use crate::words::{MOST_WORDS, are_none, both_words, is_line, split_words, words_of};
-use coop_request::Piece;
+use coop_request::{LentPiece, Piece};
 use element_name::NoMemory;
 use line_spelling::LineFail;
-use peer_step::{LocalEdit, Step};
+use peer_step::{LentLocalEdit, LocalEdit, Step};
 use std::alloc::Global;
 
 fn place_and_piece(alloc: Global, args: &[&[u8]]) -> Result<(u32, Piece), LineFail>
@@ -52,6 +53,41 @@ pub fn read_local_edit(alloc: Global, words: &[&[u8]]) -> Result<Option<LocalEdi
     ensures { IfOk result (λ found. found ≡ read_local_edit (bytes_of words.now)) }
 {
     without_bad(local_edit_of(alloc, words))
+}
+
+// A place, and a piece that needs no room.
+fn place_and_lent<'a>(args: &[&'a [u8]]) -> Option<(u32, LentPiece<'a>)>
+    ensures { IfSome result (λ both. place_and_piece (bytes_of args.now) ≡ Some both) }
+{
+    let (place, piece) = both_words(args).ok()?;
+    let place = read_wide(place)?;
+    Some((place, lent_piece(piece)?))
+}
+
+/// An edit at a place, by its words, whose piece needs no room: it is written as itself, or as `\` and one letter. Takes time in
+/// their length, and no memory.
+///
+/// None where the words spell no edit, or another piece: for these there is [`read_local_edit`].
+#[tactic(auto, unfolding(crate::specs::Step::read_local_edit))]
+pub fn read_lent_edit<'a>(words: &[&'a [u8]]) -> Option<LentLocalEdit<'a>>
+    ensures { IfSome result (λ edit. read_local_edit (bytes_of words.now) ≡ Some (local_edit_lent edit)) }
+{
+    let [word, args @ ..] = words else {
+        return None;
+    };
+    if *word == b"insert".as_slice() {
+        let (at, letter) = place_and_lent(args)?;
+        return Some(LentLocalEdit::Insert { at, letter });
+    }
+    if *word == b"delete".as_slice() {
+        let at = one_wide(args).ok()?;
+        return Some(LentLocalEdit::Delete { at });
+    }
+    if *word == b"update".as_slice() {
+        let (at, letter) = place_and_lent(args)?;
+        return Some(LentLocalEdit::Update { at, letter });
+    }
+    None
 }
 
 // A step that is one word.
