@@ -2,7 +2,7 @@
 use Rattle.std.proofs.Common.{◌≡◌, ℕ, ◌+◌, ◌<◌, ◌≤◌, ⊎_elim, Bool, true, false, not, cond, ◌&&◌, List, [], ◌∷◌, length, take, get_or, Option, None, Some, refl, ap, sym, ◌∙◌, arith}
 use Rattle.std.specs.Prelude.{is_none, option_map, option_and_then, slice_get, slice_set}
 use Rattle.std.specs.List.{list_all, list_any}
-use Rattle.std.proofs.lemmas.Bool.{and_parts, and_from, or_from, not-true}
+use Rattle.std.proofs.lemmas.Bool.{and_parts, and_from, or_parts, or_from, not-true}
 use Rattle.std.proofs.lemmas.List.{take_more_set}
 use Rattle.std.proofs.lemmas.List.Folds.{list_all-append}
 use Rattle.std.proofs.lemmas.Option.{slice_get-map, slice_get_cases}
@@ -122,3 +122,10 @@ none_apart come (h ∷ held) all =
 pub none_left : (come : Need) (from : ℕ) (held : List Held) → list_all (apart come) (take from held) ≡ true → waiting_from come from held ≡ None
     → list_any (waits_for come) held ≡ false
 none_left come from held h is = none_apart come held (where_none (waits_for come) (apart come) (λ x e. ap not e) from held h is)
+
+-- where none waits under the need, none is woken
+pub none_wakes : (need : Need) (held : List Held) → list_any (waits_for need) held ≡ false → woken_by need held ≡ held
+none_wakes need [] none = refl
+none_wakes need (h ∷ held) none =
+    let parts = or_parts (waits_for need h) (list_any (waits_for need) held) none in
+    ap (λ b. cond b (record { message = h.message; need = None }) h ∷ woken_by need held) parts.0 ∙ ap (λ hs. h ∷ hs) (none_wakes need held parts.1)
