@@ -1,2 +1,3 @@
 pub mod WorldLines
 pub mod TakenLines
+pub mod OwnEdits

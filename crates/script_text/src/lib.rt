@@ -6,6 +6,8 @@
 
 pub mod laws;
 mod line;
+mod own_edit;
 mod peers;
 
 pub use line::script_line;
+pub use own_edit::{OwnEdit, script_edit};

@@ -1,5 +1,5 @@
 //! Numbers of peers and of messages, as words.
-ghost use Rattle.std.specs.Prelude.{◌≡◌};
+ghost use Rattle.std.specs.Prelude.{◌≡◌, ◌<◌, IfSome};
 ghost use Rattle.line_read.specs.Words.{bytes_of};
 ghost use Rattle.script_text.specs.Peers.{read_count, read_peer, one_peer};
 
@@ -17,7 +17,8 @@ pub(crate) fn read_count(limit: u32, word: &[u8]) -> Option<u32>
 
 /// The number of one of so many peers.
 pub(crate) fn read_peer(peers: u32, word: &[u8]) -> Option<u32>
-    ensures { result ≡ read_peer peers word.now }
+    ensures value { result ≡ read_peer peers word.now }
+    ensures within { IfSome result (λ p. p < peers) }
 {
     let p = read_wide(word)?;
     if p < peers { Some(p) } else { None }
