@@ -1,3 +1,4 @@
 mod Shows
 mod Sounds
+mod OwnEdits
 pub mod Samples

@@ -1,12 +1,16 @@
 //! A script's lines on a world.
-ghost use Rattle.std.specs.Prelude.{◌≡◌, [], None, Some, IfOk, OnOk, IsErrOf};
-ghost use Rattle.form_replay.specs.Replay.{script_turn};
+ghost use Rattle.std.specs.Prelude.{◌≡◌, ◌<◌, [], None, Some, length, IfOk, OnOk, IsErrOf};
+ghost use Rattle.peer_step.specs.Lent.{local_edit_lent};
+ghost use Rattle.form_replay.specs.Replay.{reply_turn, script_turn};
 
 use crate::reply::put_reply;
+use element_name::NoMemory;
 use line_engine::Lines;
 use line_spelling::LineFail;
+use line_write::put_edit_answer_line;
+use peer_step::Step;
 use replay_net::{Line, World};
-use script_text::script_line;
+use script_text::{OwnEdit, script_edit, script_line};
 use std::alloc::Global;
 use std::marker::Model;
 
@@ -35,6 +39,8 @@ impl Replay {
 }
 
 // The world that a script's first line begins.
+#[cold]
+#[inline(never)]
 fn open(alloc: Global, line: &[u8]) -> Result<World, LineFail>
     ensures ok { IfOk result (λ world. script_turn None line.now ≡ Some (record { reply = []; world = Some world })) }
     ensures bad { IsErrOf result LineFail.Bad → script_turn None line.now ≡ None }
@@ -47,8 +53,26 @@ fn open(alloc: Global, line: &[u8]) -> Result<World, LineFail>
     }
 }
 
-// Plays a later line, and appends what it is answered.
-fn play(alloc: Global, world: &mut World, line: &[u8], out: &mut Vec<u8>) -> Result<(), LineFail>
+// Plays a later line that is an own edit, and appends what it is answered.
+fn play_edit(world: &mut World, own: OwnEdit<'_>, out: &mut Vec<u8>) -> Result<(), NoMemory>
+    requires there { own.peer < length world.old.peers }
+    requires empty { out.old.items ≡ [] }
+    ensures { OnOk result (reply_turn world.old (Line.Local own.entry.peer (Step.Edit (local_edit_lent own.entry.edit))) ≡ record { reply = out.new.items; world = Some world.new }) }
+{
+    let told = world.edit(own.peer, own.edit)?;
+    put_edit_answer_line(out, told.number, told.answer)?;
+    Ok(())
+}
+
+// Plays any later line, and appends what it is answered. It stands apart from `play`, since its line and its reply have room
+// for pieces, which is filled where a function begins.
+#[inline(never)]
+fn play_any(
+    alloc: Global,
+    world: &mut World,
+    line: &[u8],
+    out: &mut Vec<u8>,
+) -> Result<(), LineFail>
     requires { out.old.items ≡ [] }
     ensures ok { OnOk result (script_turn (Some world.old) line.now ≡ Some (record { reply = out.new.items; world = Some world.new })) }
     ensures bad { IsErrOf result LineFail.Bad →
@@ -59,6 +83,19 @@ fn play(alloc: Global, world: &mut World, line: &[u8], out: &mut Vec<u8>) -> Res
         return Err(LineFail::NoMemory);
     };
     put_reply(out, &reply).or(Err(LineFail::NoMemory))
+}
+
+// Plays a later line, and appends what it is answered.
+fn play(alloc: Global, world: &mut World, line: &[u8], out: &mut Vec<u8>) -> Result<(), LineFail>
+    requires { out.old.items ≡ [] }
+    ensures ok { OnOk result (script_turn (Some world.old) line.now ≡ Some (record { reply = out.new.items; world = Some world.new })) }
+    ensures bad { IsErrOf result LineFail.Bad →
+        (script_turn (Some world.old) line.now ≡ None) × (world.new ≡ world.old) × (out.new.items ≡ []) }
+{
+    match script_edit(line, world.peers()) {
+        Some(own) => play_edit(world, own, out).or(Err(LineFail::NoMemory)),
+        None => play_any(alloc, world, line, out),
+    }
 }
 
 impl Lines for Replay {
