@@ -1,10 +1,10 @@
 -- The peers that `show` lines ask for are sound, so those that have the same write the same.
-use Rattle.std.proofs.Common.{◌≡◌, ℕ, ◌+◌, ◌<◌, ◌≤◌, Bool, true, false, ◌&&◌, Option, Some, None, List, [], ◌∷◌, ◌++◌, length, refl, ap, subst, arith}
+use Rattle.std.proofs.Common.{◌≡◌, ℕ, ◌<◌, ◌≤◌, Bool, true, false, ◌&&◌, Option, Some, None, List, [], ◌∷◌, ◌++◌, length, refl, ap, subst, arith}
 use Rattle.std.specs.Prelude.{not, map, option_map, All, nat_le, nat_lt, ⊤, if◌then◌else◌}
 use Rattle.std.specs.Option.{option_map_or, option_to_list}
 use Rattle.std.proofs.lemmas.List.Elements.{All-cons, All-append, All-map, All-weaker}
 use Rattle.std.proofs.lemmas.Bool.{and_parts, ltb-true, leb-true}
-use Rattle.element_name.specs.Cases.{◌>>=◌, when}
+use Rattle.element_name.specs.Cases.{◌>>=◌}
 use Rattle.element_name.proofs.CaseLemmas.{when-Some}
 use Rattle.line_spelling.specs.declared.line.TheConstants.{MAX_LINE}
 use Rattle.line_engine.specs.Input.{is_cut, counted_bytes, lines_of}
