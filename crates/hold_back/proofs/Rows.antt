@@ -6,11 +6,13 @@ use Rattle.std.specs.List.{All, AllPairs, insert, position_or_len}
 use Rattle.std.specs.List.Sorted.{IsNonDecreasing, IsPartitionPoint}
 use Rattle.std.proofs.lemmas.Bool.{eqb-true, eq-eqb}
 use Rattle.std.proofs.lemmas.Bool.Decides.{nat_tests}
-use Rattle.std.proofs.lemmas.List.{length-set, length_push, get_or-drop, length-drop}
+use Rattle.std.proofs.lemmas.List.{length-set, get_or-set_other, length_push, get_or-drop, length-drop}
 use Rattle.std.proofs.lemmas.List.Edits.{length-remove, get_or-remove_below, get_or-remove_above}
 use Rattle.std.proofs.lemmas.List.Elements.{All-push}
 use Rattle.std.proofs.lemmas.List.Quantifiers.{all_pairs_push, all_pairs_remove}
 use Rattle.std.proofs.lemmas.List.Sorted.{IsNonDecreasingBy-insert}
+use Rattle.std.proofs.lemmas.Option.{get_or_from_slice_get, slice_get_read, slice_get-get_or}
+use Rattle.std.proofs.lemmas.Grind.{get_or-set_at}
 use Rattle.std.proofs.lemmas.List.Sums.{sum_by-cons, sum_by_push, sum_by-insert, sum_by-remove, sum_by-set, get_or-le-sum_by, position_or_len_is}
 use Rattle.hold_back.specs.Index.{ticket, tickets, times_in, IsFirstNotBelow, IsRisingRow, IsWith, IsWithout, AreArrivals, IsTicketRow}
 
@@ -35,9 +37,9 @@ found_place row x i within point = record {
   above = λ k d from to. let no = point.1 k d from to in grind (arith, nat_tests, no);
 }
 
--- what is read of the row is the row
-pub seen : (given row : List ℕ) (x i : ℕ) → given ≡ row → IsFirstNotBelow x given i → IsFirstNotBelow x row i
-seen given row x i same place = subst (λ (ys : List ℕ). IsFirstNotBelow x ys i) same place
+-- what is read at a place
+pub read_at : (row : List ℕ) (i x : ℕ) → i < length row → x ≡ get_or row i x → get_or row i 0 ≡ x
+read_at row i x within same = get_or_from_slice_get row i x 0 (slice_get_read row (length row) i x refl within same)
 
 pub with_one : (row : List ℕ) (x i : ℕ) → IsRisingRow row → IsFirstNotBelow x row i → IsWith x row (insert row i x)
 with_one row x i up place = record {
@@ -97,6 +99,66 @@ without_one row x i up place there =
           let gone = sum_by-remove (λ z. cond (eqb z y) 1 0) row i 0 at.0 in
           let same = ap {B = ℕ} (λ (z : ℕ). cond (eqb z y) 1 0) at.1 in
           omega (arith, gone, same);
+    }
+
+-- the default is not read of a place that is there
+same_read : (row : List ℕ) (i d e : ℕ) → i < length row → get_or row i d ≡ get_or row i e
+same_read row i d e within = get_or_from_slice_get row i (get_or row i e) d (slice_get-get_or row i e within)
+
+-- a number between those beside a place
+set_rises : (row : List ℕ) (i x : ℕ) → IsRisingRow row → i < length row → (0 < i → get_or row (i - 1) 0 ≤ x) → (i + 1 < length row → x ≤ get_or row (i + 1) 0)
+    → IsRisingRow (set row i x)
+set_rises row i x up within low high a b d lt inside = by (eqb a i) (eqb b i) refl refl
+  where
+    long : length (set row i x) ≡ length row
+    long = length-set row i x
+
+    before : (k : ℕ) → k < i → get_or row k d ≤ x
+    before k less =
+        let most = rises row up k (i - 1) d (omega (arith, less)) (omega (arith, less, within)) in
+        let same = same_read row (i - 1) d 0 (omega (arith, less, within)) in
+        let under = low (omega (arith, less)) in
+        omega (arith, most, same, under)
+
+    behind : (k : ℕ) → i < k → k < length row → x ≤ get_or row k d
+    behind k more there =
+        let most = rises row up (i + 1) k d (omega (arith, more)) there in
+        let same = same_read row (i + 1) d 0 (omega (arith, more, there)) in
+        let over = high (omega (arith, more, there)) in
+        omega (arith, most, same, over)
+
+    by : (p q : Bool) → eqb a i ≡ p → eqb b i ≡ q → get_or (set row i x) a d ≤ get_or (set row i x) b d
+    by true true e f = absurd (let s = eqb-true a i e in let t = eqb-true b i f in omega (arith, s, t, lt))
+    by true false e f =
+        let s = eqb-true a i e in
+        let x_is = get_or-set_at row i a x d s within in
+        let other = get_or-set_other row i b x d (λ g. grind (arith, nat_tests, f, g)) in
+        let n = long in
+        let most = behind b (omega (arith, s, lt)) (omega (arith, inside, n)) in
+        omega (arith, x_is, other, most)
+    by false true e f =
+        let s = eqb-true b i f in
+        let x_is = get_or-set_at row i b x d s within in
+        let other = get_or-set_other row i a x d (λ g. grind (arith, nat_tests, e, g)) in
+        let most = before a (omega (arith, s, lt)) in
+        omega (arith, x_is, other, most)
+    by false false e f =
+        let first = get_or-set_other row i a x d (λ g. grind (arith, nat_tests, e, g)) in
+        let second = get_or-set_other row i b x d (λ g. grind (arith, nat_tests, f, g)) in
+        let n = long in
+        let most = up a b d lt (omega (arith, inside, n)) in
+        omega (arith, first, second, most)
+
+pub put_over : (row : List ℕ) (x y i : ℕ) → IsRisingRow row → IsFirstNotBelow x row i → 1 ≤ times_in x row → (0 < i → get_or row (i - 1) 0 ≤ y)
+    → (i + 1 < length row → y ≤ get_or row (i + 1) 0) → IsWith y (remove row i) (set row i y)
+put_over row x y i up place there low high =
+    let at = its_place row x i up place there in
+    record {
+      rising = set_rises row i y up at.0 low high;
+      times = λ z.
+          let put = sum_by-set (λ w. cond (eqb w z) 1 0) row i y 0 at.0 in
+          let gone = sum_by-remove (λ w. cond (eqb w z) 1 0) row i 0 at.0 in
+          omega (arith, put, gone);
     }
 
 -- ---- tickets

@@ -1,5 +1,6 @@
 -- What is kept beside the held messages: their numbers of arrival, and rows of what they wait for and of their keys.
-use Rattle.std.specs.Prelude.{◌≡◌, ℕ, ◌+◌, ◌*◌, ◌<◌, ◌≤◌, ◌==◌, Bool, true, ◌&&◌, List, [], ◌∷◌, Option, None, Some, map, length, nat_lt, slice_index_or, vec_len, vec_capacity, if◌then◌else◌}
+use Rattle.std.specs.Prelude.{◌≡◌, ℕ, ◌+◌, ◌*◌, ◌<◌, ◌≤◌, ◌==◌, Bool, true, ◌&&◌, List, [], ◌∷◌, Option, None, Some, map, length, nat_lt, slice_index_or, if◌then◌else◌}
+use Rattle.std.specs.VecDeque.{deque_len, deque_capacity}
 use Rattle.std.specs.List.{All, AllPairs, list_all, count_by}
 use Rattle.element_name.specs.Name.{Name}
 use Rattle.edit_message.specs.Message.{key_of}
@@ -104,9 +105,9 @@ pub record IsTicketRow (numbers arrivals row : List ℕ) : Type 0 where
 
 -- there is room for one more message
 pub record HasIndexRoom (index : Index) : Type 0 where
-  pub arrivals : vec_len index.arrivals < vec_capacity index.arrivals
-  pub needs : vec_len index.needs < vec_capacity index.needs
-  pub keys : vec_len index.keys < vec_capacity index.keys
+  pub arrivals : deque_len index.arrivals < deque_capacity index.arrivals
+  pub needs : deque_len index.needs < deque_capacity index.needs
+  pub keys : deque_len index.keys < deque_capacity index.keys
 
 -- the rows are those of messages with these numbers of needs and of keys
 pub record IsIndexOf (needs keys : List ℕ) (index : Index) : Type 0 where

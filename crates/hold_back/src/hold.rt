@@ -97,7 +97,7 @@ impl HoldBack {
     }
 
     /// Puts a message last, waiting under its need. Takes the memory for it, its pointer and its place in each row, before
-    /// anything changes; its place in a row is found by halves, and the tickets above it move by 16 bytes, as one piece.
+    /// anything changes; its place in a row is found by halves, and of the tickets before it and behind it the fewer move.
     pub fn keep(&mut self, message: Message, need: Need) -> Result<(), HoldFault>
         requires new { find_held (key_of message) self.old ≡ None }
         ensures room { OnOk result (keep_fault self.old ≡ None) }
@@ -116,8 +116,8 @@ impl HoldBack {
         Ok(())
     }
 
-    /// Wakes the message at a place. Takes no memory; its ticket goes to the front of the row of needs, and those above its
-    /// old place and its new one move by 16 bytes, each time as one piece.
+    /// Wakes the message at a place. Takes no memory; where another ticket stands between its place in the row of needs and
+    /// its new one, of those before and behind each place the fewer move.
     pub fn wake(&mut self, i: u32)
         requires { i < length self.old }
         ensures { self.new ≡ woken_at i self.old }
@@ -134,8 +134,8 @@ impl HoldBack {
         ensures { self.new ≡ self.old }
     {}
 
-    /// Has the message at a place wait under a need. Takes no memory; its ticket goes to another place of the row of needs,
-    /// and those above the old place and the new one move by 16 bytes, each time as one piece.
+    /// Has the message at a place wait under a need. Takes no memory; where another ticket stands between its place in the
+    /// row of needs and its new one, of those before and behind each place the fewer move.
     pub fn wait_again(&mut self, i: u32, need: Need)
         requires { i < length self.old }
         ensures { self.new ≡ waiting_at i need self.old }
@@ -190,8 +190,8 @@ impl HoldBack {
         None
     }
 
-    /// Takes a message out; the others keep their order. Takes no memory, and moves a pointer and a number of arrival for
-    /// each message behind it, and in each row the tickets above its own.
+    /// Takes a message out; the others keep their order. Takes no memory, and moves a pointer for each message behind it.
+    /// Of the numbers of arrival and of the tickets in each row those before it move, or those behind it, whichever are fewer.
     pub fn take(&mut self, i: u32) -> Message
         requires { i < length self.old }
         ensures taken { option_map (λ h. h.message) (slice_get self.old i) ≡ Some result }

@@ -1,19 +1,21 @@
 //! What is kept beside the held messages.
-ghost use Rattle.std.specs.Prelude.{◌≡◌, ◌<◌, ◌≤◌, ◌+◌, ◌==◌, ◌++◌, ◌∷◌, [], ℕ, List, length, drop, position, option_map, remove, slice_index_or, OnOk, IfErr, IfSome, vec_len, vec_capacity};
+ghost use Rattle.std.specs.Prelude.{◌≡◌, ◌<◌, ◌≤◌, ◌+◌, ◌==◌, ◌++◌, ◌∷◌, [], ℕ, List, length, drop, position, option_map, remove, slice_index_or, OnOk, IfErr, IfSome};
 ghost use Rattle.std.specs.List.{All};
+ghost use Rattle.std.specs.VecDeque.{deque_len, deque_capacity};
 ghost use Rattle.hold_back.specs.declared.fault.HoldFault.TheVariants.{NoMemory as no_memory};
 ghost use Rattle.hold_back.specs.Index.{ticket, times_in, IsRisingRow, IsWith, IsWithout, HasIndexRoom, AreArrivals, IsTicketRow, IsIndexOf};
 
 use crate::fault::HoldFault;
 use crate::row::{self, NUMBERS};
 use std::alloc::Global;
+use std::collections::VecDeque;
 
 /// The messages' numbers of arrival, and rows of tickets: what each waits for, and its key, with its number of arrival.
 #[derive(Drop)]
 pub(crate) struct Index {
-    arrivals: Vec<u32>,
-    needs: Vec<u128>,
-    keys: Vec<u128>,
+    arrivals: VecDeque<u32>,
+    needs: VecDeque<u128>,
+    keys: VecDeque<u128>,
 }
 
 impl Index {
@@ -22,9 +24,9 @@ impl Index {
         ensures { IsIndexOf [] [] result }
     {
         Index {
-            arrivals: Vec::new(alloc),
-            needs: Vec::new(alloc),
-            keys: Vec::new(alloc),
+            arrivals: VecDeque::new(alloc),
+            needs: VecDeque::new(alloc),
+            keys: VecDeque::new(alloc),
         }
     }
 
@@ -46,7 +48,7 @@ impl Index {
         requires { AreArrivals self.now.arrivals.items }
         ensures { IfSome result (λ a. All (λ b. b < a) self.now.arrivals.items × (a < 4294967296)) }
     {
-        match self.arrivals.last() {
+        match self.arrivals.back() {
             None => Some(0),
             Some(last) => last.checked_add(1),
         }
@@ -122,14 +124,14 @@ impl Index {
             × IsWith (ticket need (slice_index_or self.old.arrivals.items i 0)) between self.new.needs.items }
     {
         let arrival = self.arrivals[i];
-        row::leave(&mut self.needs, row::ticket(left, arrival));
-        row::enter(&mut self.needs, row::ticket(need, arrival));
+        let left = row::ticket(left, arrival);
+        row::exchange(&mut self.needs, left, row::ticket(need, arrival));
     }
 }
 
-fn room<T>(row: &mut Vec<T>) -> Result<(), HoldFault>
+fn room<T>(row: &mut VecDeque<T>) -> Result<(), HoldFault>
     ensures items { row.new.items ≡ row.old.items }
-    ensures room { OnOk result (vec_len row.new < vec_capacity row.new) }
+    ensures room { OnOk result (deque_len row.new < deque_capacity row.new) }
     ensures fault { IfErr result (λ fault. fault ≡ no_memory) }
 {
     match row.reserve(1) {
