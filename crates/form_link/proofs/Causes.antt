@@ -79,13 +79,13 @@ module _ (faults faults' hurt hurt' : ℕ) (r : Result LinkRun NoMemory) (run : 
       inr (omega arith)
 
   pub told_cause : (site : ℕ) (end : InputEnd) (a b : Option (List ℕ)) (s : Status)
-      → (w : List ℕ) × Says a b s (link_output site run.history (faults_of run.door_failed end run.own run.links.items)) w → HasLinkCause faults faults' hurt hurt' s
+      → (w : List ℕ) × Says a b s (link_output site run.history.run (faults_of run.door_failed end run.own run.links.items)) w → HasLinkCause faults faults' hurt hurt' s
   told_cause site end a b s (w, says) e = by says.given
     where
       met : List Fault
       met = faults_of run.door_failed end run.own run.links.items
 
-      by : (link_output site run.history met ≡ record { written = w; status = s }) ⊎ IsSinkFail s → (faults < faults') ⊎ (hurt < hurt')
+      by : (link_output site run.history.run met ≡ record { written = w; status = s }) ⊎ IsSinkFail s → (faults < faults') ⊎ (hurt < hurt')
       by (inl whole) =
           let given : faults_status met ≡ status.LinkFault = ap (λ (o : Output). o.status) whole ∙ e in
           counted (door_first run.door_failed end run.own run.links.items (status_first met given))

@@ -30,10 +30,10 @@ Reading l r f f' Then = (input : List ℕ) × (steps : List Step) × (end : Inpu
 
 module _ {L : Type 0} (Ends : List Step → InputEnd → RunEnds) (site : ℕ) (l r : Option (List ℕ)) (f f' : ℕ) (a b : Option (List ℕ)) (d d' : DoorState L) (steps given : List Step) (end : InputEnd)
     (read : (input : List ℕ) × ReadSteps l r input steps end) (cause : EndCause f f' end) where
-  pub form_told : (s : Status) (run : LinkRun) → end ≢ input_end.NoMemory → given ≡ steps → Ends given end run.own run.door_failed run.links.items run.history → DoorAfter d d' run.door_failed run.links.items
-      → (w : List ℕ) × Says a b s (link_output site run.history (faults_of run.door_failed end run.own run.links.items)) w
+  pub form_told : (s : Status) (run : LinkRun) → run.history.site ≡ site → end ≢ input_end.NoMemory → given ≡ steps → Ends given end run.own run.door_failed run.links.items run.history.run → DoorAfter d d' run.door_failed run.links.items
+      → (w : List ℕ) × Says a b s (link_output run.history.site run.history.run (faults_of run.door_failed end run.own run.links.items)) w
       → Reading l r f f' (λ (xs : List Step) (e : InputEnd). RanOrNot (Ends xs e) site e d d' a b s)
-  form_told s run had_memory same ends door says = (
+  form_told s run of had_memory same ends door says = (
     read.0,
     steps,
     end,
@@ -44,10 +44,10 @@ module _ {L : Type 0} (Ends : List Step → InputEnd → RunEnds) (site : ℕ) (
       own = run.own;
       door_failed = run.door_failed;
       outcomes = run.links.items;
-      run = run.history;
+      run = run.history.run;
       written = says.0;
-      ends = subst (λ (xs : List Step). Ends xs end run.own run.door_failed run.links.items run.history) same ends;
+      ends = subst (λ (xs : List Step). Ends xs end run.own run.door_failed run.links.items run.history.run) same ends;
       door = door;
-      says = says.1;
+      says = subst (λ (n : ℕ). Says a b s (link_output n run.history.run (faults_of run.door_failed end run.own run.links.items)) says.0) of says.1;
     }),
   )

@@ -3,6 +3,8 @@ ghost use Rattle.std.specs.Prelude.{◌≡◌, ◌≢◌, ◌≤◌, ◌+◌, �
 ghost use Rattle.edit_io.specs.Door.{HasRoom};
 ghost use Rattle.line_engine.specs.Engine.{Reads};
 ghost use Rattle.peer_step.specs.declared.step.Step.{Step};
+ghost use Rattle.peer_core.specs.Peer.{fresh_peer};
+ghost use Rattle.peer_lock.specs.Run.{peer_after_run};
 ghost use Rattle.link_run.specs.Counts.{links_given, links_hurt, door_failures};
 ghost use Rattle.line_input.specs.declared.reading.InputEnd.{InputEnd};
 ghost use Rattle.line_input.specs.Steps.{ReadSteps, EndCause};
@@ -37,7 +39,9 @@ fn dial_behind<R: Threads + Wait + Sync, D: Door>(
         Dials D.Line.got D.Line.sent D.Line.faults D.Line.closes site rounds end steps.now
         (door_state (D.faults door.old) (D.given door.old) (D.returned door.old) (D.hurt door.old) (D.used door.old))
         (door_state (D.faults door.new) (D.given door.new) (D.returned door.new) (D.hurt door.new) (D.used door.new))
-        r.own r.door_failed r.links.items r.history) }
+        r.own r.door_failed r.links.items r.history.run) }
+    ensures peer { IfOk result (λ r. r.peer ≡ peer_after_run (fresh_peer site) r.history.run) }
+    ensures site { IfOk result (λ r. r.history.site ≡ site) }
     ensures given { D.given door.new ≡ D.given door.old + links_given result }
     ensures returned { D.returned door.new ≡ D.returned door.old + links_given result }
     ensures hurt { D.hurt door.new ≡ D.hurt door.old + links_hurt result }
@@ -57,8 +61,8 @@ fn dial_behind<R: Threads + Wait + Sync, D: Door>(
 /// a fault, or the run was full, it doesn't connect. Where memory is wanting before the run, as while the input is read,
 /// nothing is written.
 ///
-/// It waits for the other side. It takes the time of the steps twice, in the run and in the report, and the memory of
-/// the steps, of the run and of the peer.
+/// It waits for the other side. It takes the time of the steps and of [`report`](report_run::report), and the memory of the
+/// steps, of the run and of the peer.
 pub fn dial_form<R: Threads + Wait + Sync, S: Source, K: Sink, D: Door>(
     rt: &R,
     alloc: Global,
@@ -89,7 +93,7 @@ pub fn dial_form<R: Threads + Wait + Sync, S: Source, K: Sink, D: Door>(
         return Status::NoMemory;
     }
     match dial_behind(rt, alloc, site, port, rounds, &steps, end, door) {
-        Ok(run) => tell(alloc, site, run, end, sink),
+        Ok(run) => tell(alloc, run, end, sink),
         Err(_) => Status::NoMemory,
     }
 }

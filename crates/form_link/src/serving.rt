@@ -25,8 +25,8 @@ use std::thread::Threads;
 /// that were read beside the sessions, also where the input had a fault. Where the door fails, nothing is run, and no
 /// fault of the input is told. Where memory is wanting before the run, as while the input is read, nothing is written.
 ///
-/// It waits for the programs that connect, and then until all sessions have ended. It takes the time of the steps twice,
-/// in the run and in the report, and the memory of the steps, of the run and of the peer.
+/// It waits for the programs that connect, and then until all sessions have ended. It takes the time of the steps
+/// and of [`report`](report_run::report), and the memory of the steps, of the run and of the peer.
 pub fn serve_form<R: Threads + Wait + Sync, S: Source, K: Sink, D: Door>(
     rt: &R,
     alloc: Global,
@@ -58,7 +58,7 @@ pub fn serve_form<R: Threads + Wait + Sync, S: Source, K: Sink, D: Door>(
         return Status::NoMemory;
     }
     match serve(rt, alloc, site, port, links, &steps, door) {
-        Ok(run) => tell(alloc, site, run, end, sink),
+        Ok(run) => tell(alloc, run, end, sink),
         Err(_) => Status::NoMemory,
     }
 }

@@ -12,6 +12,7 @@ use Rattle.line_engine.specs.Output.{Output}
 use Rattle.line_engine.specs.Engine.{Says}
 use Rattle.peer_step.specs.declared.step.Step.{Step}
 use Rattle.peer_lock.specs.declared.call.Call.{Call}
+use Rattle.peer_lock.specs.Run.{Recorded, recorded}
 use Rattle.line_input.specs.declared.reading.InputEnd.{InputEnd}
 use Rattle.line_input.specs.declared.reading.InputEnd.TheVariants.{Whole, BadLine, TooLong, ReadFault}
 use Rattle.line_input.specs.Steps.{ReadSteps, EndCause}
@@ -38,13 +39,16 @@ lines_are site run (p ∷ ps) of =
     ap (λ (x : PageText). page_line x ++ flat_map page_line ps) of.0.1 ∙ ap (λ (l : List ℕ). page_line_after site run p.steps ++ l) (lines_are site run ps of.1)
 
 -- a watch that was run
-pub watched_wrote : (site reads : ℕ) (steps : List Step) (run : List Call) (pages : List PageText) (newest : PageText) (a b : Option (List ℕ)) (s : Status) → run ≡ watch_run steps → AreReadPages site reads run pages newest
-    → (w : List ℕ) × Says a b s (done_with (report site run ++ flat_map page_line (map (told_page newest) pages))) w → WroteWatch site reads steps Whole a b s
-watched_wrote site reads steps run pages newest a b s is are (w, says) =
+pub watched_wrote : (site reads : ℕ) (steps : List Step) (history : Recorded) (pages : List PageText) (newest : PageText) (a b : Option (List ℕ)) (s : Status)
+    → history ≡ recorded site (watch_run steps) → AreReadPages site reads history.run pages newest
+    → (w : List ℕ) × Says a b s (done_with (report history.site history.run ++ flat_map page_line (map (told_page newest) pages))) w → WroteWatch site reads steps Whole a b s
+watched_wrote site reads steps history pages newest a b s of are (w, says) =
+    let run : List Call = history.run in
+    let is : run ≡ watch_run steps = ap (λ (r : Recorded). r.run) of in
     let bounded : List PageText = map (told_page newest) pages in
     let seen : List ℕ = steps_in bounded in
-    let text : report site run ++ flat_map page_line bounded ≡ watch_text site steps seen
-    = ap (λ (l : List ℕ). report site run ++ l) (lines_are site run bounded are.of_run) ∙ ap (λ (r : List Call). report site r ++ flat_map (page_line_after site r) seen) is in
+    let text : report history.site run ++ flat_map page_line bounded ≡ watch_text site steps seen
+    = ap (λ (r : Recorded). report r.site run ++ flat_map page_line bounded) of ∙ ap (λ (l : List ℕ). report site run ++ l) (lines_are site run bounded are.of_run) ∙ ap (λ (r : List Call). report site r ++ flat_map (page_line_after site r) seen) is in
     let reads_are : AreReads reads run seen = record {
       many = length-map bounded (λ (p : PageText). p.steps) ∙ length-map pages (told_page newest) ∙ are.many;
       rising = are.rising;

@@ -6,11 +6,11 @@ use mathlib.Core.Logic.{dite}
 use native.Mathlib.Decide.{ℕ_discrete}
 use Rattle.peer_step.specs.declared.step.Step.{Step}
 use Rattle.peer_step.specs.declared.step.Step.TheVariants.{Show}
-use Rattle.peer_core.specs.Peer.{Peer}
+use Rattle.peer_core.specs.Peer.{Peer, fresh_peer}
 use Rattle.peer_lock.specs.declared.call.Call.{Call}
 use Rattle.peer_lock.specs.declared.view.View.{View}
 use Rattle.peer_lock.specs.KnownPass.{KnownPass}
-use Rattle.peer_lock.specs.Run.{call, steps_by}
+use Rattle.peer_lock.specs.Run.{call, steps_by, peer_after_run, Recorded, recorded}
 use Rattle.peer_lock.specs.Rule.{HasNumber, newcomer}
 use Rattle.peer_lock.specs.Answers.{ClosesRun}
 use Rattle.peer_lock.proofs.Lists.{steps-append, steps_mine, no_front, no_back}
@@ -69,6 +69,13 @@ module _ (site : ℕ) (first opened last : KnownPass) (s t : KnownScreen) (r : R
   run_is p run closes =
       let none : (n : ℕ) → 1 ≤ n → steps_by n run ≡ [] = λ n le. closes.callers n (omega (arith, le, one)) in
       sole_run run none ∙ ap (λ (l : List Step). map (call 0) l) (closes.steps 0 has_own ∙ steps_are)
+
+  -- so it is the run of the history, and it led to the peer
+  pub history_is : (p : Peer) (history : Recorded) → ClosesRun last.view p history.run → history.site ≡ last.view.origin → history ≡ recorded site (watch_run steps)
+  history_is p history closes of = λ i. recorded ((of ∙ origin) i) (run_is p history.run closes i)
+
+  pub peer_is : (p : Peer) (run : List Call) → ClosesRun last.view p run → p ≡ peer_after_run (fresh_peer site) run
+  peer_is p run closes = closes.peer ∙ ap (λ (o : ℕ). peer_after_run (fresh_peer o) run) origin
 
   -- the pages that were published are pages of the run
   pub pages_are : (p : Peer) (run : List Call) → ClosesRun last.view p run → ArePagesOf site run t.pages

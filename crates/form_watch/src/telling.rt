@@ -2,6 +2,8 @@
 ghost use Rattle.std.specs.Prelude.{◌≡◌, ◌++◌, ℕ, List, flat_map, map};
 ghost use Rattle.line_engine.specs.Engine.{Says, StatusCause};
 ghost use Rattle.line_engine.specs.Output.{bad_line};
+ghost use Rattle.peer_core.specs.Peer.{fresh_peer};
+ghost use Rattle.peer_lock.specs.Run.{peer_after_run};
 ghost use Rattle.report_run.specs.Report.{report};
 ghost use Rattle.report_run.specs.Telling.{Tells, TellsCause};
 ghost use Rattle.form_watch.specs.Reads.{page_line};
@@ -59,20 +61,22 @@ fn tell_pages<K: Sink>(
 }
 
 /// Writes the report of a run, and then the lines of the pages that were read beside it.
-pub(crate) fn tell_watched<K: Sink>(
-    alloc: Global,
-    site: u16,
-    watched: &Watched,
-    sink: &mut K,
-) -> Status
+pub(crate) fn tell_watched<K: Sink>(alloc: Global, watched: Watched, sink: &mut K) -> Status
+    requires { watched.peer ≡ peer_after_run (fresh_peer watched.history.site) watched.history.run }
     ensures says { (written : List ℕ) ×
         Says (K.written sink.old) (K.written sink.new) result
-        (done_with (report site watched.now.history
-        ++ flat_map page_line (map (told_page watched.now.newest) watched.now.pages.items))) written }
+        (done_with (report watched.history.site watched.history.run
+        ++ flat_map page_line (map (told_page watched.newest) watched.pages.items))) written }
     ensures cause { StatusCause (K.faults sink.old) (K.faults sink.new) result Status.WriteFault }
 {
-    match report(alloc, site, &watched.history, sink) {
-        Status::Done => match tell_pages(alloc, &watched.pages, &watched.newest, sink) {
+    let Watched {
+        peer,
+        history,
+        pages,
+        newest,
+    } = watched;
+    match report(alloc, peer, &history, sink) {
+        Status::Done => match tell_pages(alloc, &pages, &newest, sink) {
             Ok(()) => Status::Done,
             Err(status) => status,
         },

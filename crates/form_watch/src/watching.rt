@@ -1,7 +1,9 @@
 //! The two workers of a watch.
 ghost use Rattle.std.specs.Prelude.{◌≡◌, ◌≤◌, [], ◌∷◌, List, length, IfOk, IfErr, OnOk};
 ghost use Rattle.std.specs.Thread.{IsSync};
+ghost use Rattle.peer_core.specs.Peer.{fresh_peer};
 ghost use Rattle.peer_lock.specs.Rule.{newcomer};
+ghost use Rattle.peer_lock.specs.Run.{peer_after_run, recorded};
 ghost use Rattle.screen_read.specs.Pages.{IsNewest};
 ghost use Rattle.form_watch.specs.Run.{each_shown, watch_run};
 ghost use Rattle.form_watch.specs.Workers.{Opens, IsCurrent, Publishing, StopsShort, HasStopped, HasRead, BothBegin, AreReadPages};
@@ -10,6 +12,7 @@ use crate::limits::MAX_LINES;
 use crate::reading::read_all;
 use crate::writing::publish_all;
 use element_name::NoMemory;
+use peer_core::Peer;
 use peer_lock::{History, Pass, SharedPeer};
 use peer_step::Step;
 use race_run::Gate;
@@ -21,6 +24,7 @@ use std::thread::{Threads, join};
 /// What a watch leaves.
 #[derive(Drop)]
 pub(crate) struct Watched {
+    pub(crate) peer: Peer,
     pub(crate) history: History,
     /// The pages that were read, in order.
     pub(crate) pages: Vec<Page>,
@@ -135,8 +139,9 @@ pub(crate) fn watch<R: Threads + Wait + Sync, G: Gate + Sync>(
     gate: &G,
 ) -> Result<Watched, NoMemory>
     requires { length steps.now ≤ MAX_LINES }
-    ensures run { IfOk result (λ w. w.history ≡ watch_run steps.now) }
-    ensures pages { IfOk result (λ w. AreReadPages site reads w.history w.pages.items w.newest) }
+    ensures run { IfOk result (λ w. w.history ≡ recorded site (watch_run steps.now)) }
+    ensures peer { IfOk result (λ w. w.peer ≡ peer_after_run (fresh_peer site) w.history.run) }
+    ensures pages { IfOk result (λ w. AreReadPages site reads w.history.run w.pages.items w.newest) }
 {
     let (shared, pass) = start(alloc, site)?;
     let ends = match open(rt, alloc, &shared, pass) {
@@ -151,8 +156,8 @@ pub(crate) fn watch<R: Threads + Wait + Sync, G: Gate + Sync>(
     let (reader, pages) = read?;
     let newest = settle(screen, reader)?;
     let (peer, history) = shared.close(pass);
-    drop(peer);
     Ok(Watched {
+        peer,
         history,
         pages,
         newest,

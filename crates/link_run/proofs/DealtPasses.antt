@@ -10,7 +10,7 @@ use Rattle.peer_lock.specs.declared.call.Call.{Call}
 use Rattle.peer_lock.specs.declared.view.View.{View}
 use Rattle.peer_lock.specs.KnownPass.{KnownPass}
 use Rattle.peer_lock.specs.Rule.{newcomer, HasNumber}
-use Rattle.peer_lock.specs.Run.{steps_by, peer_after_run}
+use Rattle.peer_lock.specs.Run.{steps_by, peer_after_run, Recorded, recorded}
 use Rattle.peer_lock.specs.Laws.{steps_below}
 use Rattle.peer_lock.specs.Answers.{ClosesRun}
 use Rattle.peer_lock.proofs.ByCaller.{all_owned}
@@ -70,13 +70,14 @@ jobs_dealt {L} table site passes ks jobs o e = λ i d h.
     (subst (λ (k : KnownPass). k.table ≡ table) is dealt.2, subst (λ (k : KnownPass). k.view ≡ newcomer (i + 1) 0 site) is dealt.3)
 
 -- the run of a peer that was closed before any step
-pub idle_run : (v : View) (p : Peer) (run : List Call) (site : ℕ) → v ≡ newcomer 0 1 site → ClosesRun v p run → (p ≡ fresh_peer site) × (run ≡ [])
-idle_run v p run site new closes =
+pub idle_run : (v : View) (p : Peer) (history : Recorded) (site : ℕ) → v ≡ newcomer 0 1 site → ClosesRun v p history.run → history.site ≡ v.origin → (p ≡ fresh_peer site) × (history ≡ recorded site [])
+idle_run v p history site new closes of =
+    let run : List Call = history.run in
     let one : v.made ≡ 1 = ap (λ (x : View). x.made) new in
     let mine : HasNumber v.numbers 0 = has_one 0 v.numbers (ap (λ (x : View). x.numbers) new) in
     let none : steps_by 0 run ≡ [] = closes.steps 0 mine ∙ ap (λ (x : View). steps_by 0 x.seen) new in
     let all : length run ≡ steps_below 1 run = all_owned 1 run (λ n h. closes.callers n (omega (arith, one, h))) in
     let empty : run ≡ [] = nil_from_length run (omega (arith, all, ap (λ (l : List Step). length l) none)) in (
       closes.peer ∙ ap (λ (l : List Call). peer_after_run (fresh_peer v.origin) l) empty ∙ ap (λ (x : View). fresh_peer x.origin) new,
-      empty,
+      λ i. recorded ((of ∙ ap (λ (x : View). x.origin) new) i) (empty i),
     )

@@ -4,6 +4,7 @@ ghost use Rattle.peer_core.specs.Peer.{fresh_peer};
 ghost use Rattle.peer_lock.specs.declared.limits.TheConstants.{MAX_PASSES};
 ghost use Rattle.peer_lock.specs.Dealt.{Others};
 ghost use Rattle.peer_lock.specs.Rule.{newcomer};
+ghost use Rattle.peer_lock.specs.Run.{recorded};
 
 use element_name::NoMemory;
 use peer_core::Peer;
@@ -35,7 +36,7 @@ pub(crate) fn deal_one(alloc: Global, site: u16) -> Result<(SharedPeer, Pass), N
 
 /// The fresh peer of a site, and the run without steps.
 pub(crate) fn idle_peer(alloc: Global, site: u16) -> Result<(Peer, History), NoMemory>
-    ensures { IfOk result (λ r. (r.0 ≡ fresh_peer site) × (r.1 ≡ [])) }
+    ensures { IfOk result (λ r. (r.0 ≡ fresh_peer site) × (r.1 ≡ recorded site [])) }
 {
     let (shared, pass) = deal_one(alloc, site)?;
     Ok(shared.close(pass))

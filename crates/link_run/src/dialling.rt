@@ -31,7 +31,8 @@ fn close_alone(
 ) -> LinkRun
     requires own { pass.table ≡ shared }
     requires whole { length pass.view.numbers ≡ pass.view.made }
-    ensures closes { ClosesRun pass.view result.peer result.history }
+    ensures closes { ClosesRun pass.view result.peer result.history.run }
+    ensures site { result.history.site ≡ pass.view.origin }
     ensures ends { (result.own ≡ Some own) × (result.door_failed ≡ door_failed) × (result.links.items ≡ links.items) }
 {
     let (peer, history) = shared.close(pass);
@@ -60,9 +61,10 @@ fn dial_over<D: Door, R: Threads + Wait + Sync>(
     requires unused { IsUnused (D.Line.faults link) (D.Line.closes link) (D.Line.got link) (D.Line.sent link) }
     requires given { D.returned door.old < D.given door.old }
     requires room { (outcomes.items ≡ []) × (0 < vec_capacity outcomes) }
-    ensures peer { result.peer ≡ peer_after_run (fresh_peer site) result.history }
+    ensures peer { result.peer ≡ peer_after_run (fresh_peer site) result.history.run }
+    ensures site { result.history.site ≡ site }
     ensures ends { DialEnds D.Line.got D.Line.sent D.Line.faults D.Line.closes site rounds (pass_steps pass)
-        (D.used door.old) (D.used door.new) result.own result.door_failed result.links.items result.history }
+        (D.used door.old) (D.used door.new) result.own result.door_failed result.links.items result.history.run }
     ensures whole { (result.door_failed ≡ false) × (length result.links.items ≡ 1) }
     ensures given { D.given door.new ≡ D.given door.old }
     ensures returned { D.returned door.new ≡ D.returned door.old + 1 }
@@ -88,8 +90,9 @@ pub fn run_alone<R: Threads + Wait + Sync>(
     site: u16,
     steps: &[Step],
 ) -> Result<LinkRun, NoMemory>
-    ensures peer { IfOk result (λ r. r.peer ≡ peer_after_run (fresh_peer site) r.history) }
-    ensures ends { IfOk result (λ r. AloneEnds steps.now r.own r.door_failed r.links.items r.history) }
+    ensures peer { IfOk result (λ r. r.peer ≡ peer_after_run (fresh_peer site) r.history.run) }
+    ensures site { IfOk result (λ r. r.history.site ≡ site) }
+    ensures ends { IfOk result (λ r. AloneEnds steps.now r.own r.door_failed r.links.items r.history.run) }
 {
     let (shared, pass) = deal_one(alloc, site)?;
     let (pass, own) = make_own(rt, alloc, &shared, pass, steps);
@@ -114,10 +117,11 @@ pub fn dial<D: Door, R: Threads + Wait + Sync>(
     requires room { HasRoom (D.faults door.old) (D.given door.old) }
     requires back { D.returned door.old ≤ D.given door.old }
     // The peer is what the run leads to.
-    ensures peer { IfOk result (λ r. r.peer ≡ peer_after_run (fresh_peer site) r.history) }
+    ensures peer { IfOk result (λ r. r.peer ≡ peer_after_run (fresh_peer site) r.history.run) }
+    ensures site { IfOk result (λ r. r.history.site ≡ site) }
     // The own steps stand in the run, and behind them those of the session on the link that came back.
     ensures ends { IfOk result (λ r. DialEnds D.Line.got D.Line.sent D.Line.faults D.Line.closes site rounds steps.now
-        (D.used door.old) (D.used door.new) r.own r.door_failed r.links.items r.history) }
+        (D.used door.old) (D.used door.new) r.own r.door_failed r.links.items r.history.run) }
     // The door gave no more links than came back, and counts those that failed, and its own failure.
     ensures given { D.given door.new ≡ D.given door.old + links_given result }
     ensures returned { D.returned door.new ≡ D.returned door.old + links_given result }

@@ -46,9 +46,10 @@ fn serve_taken<D: Door, R: Threads + Wait + Sync>(
     requires ready { EachOf (IsUnservedJob D.Line.got D.Line.sent D.Line.faults D.Line.closes) jobs.items }
     requires given { D.returned door.old + vec_len jobs ≤ D.given door.old }
     requires room { (outcomes.items ≡ []) × (vec_len jobs ≤ vec_capacity outcomes) }
-    ensures peer { result.peer ≡ peer_after_run (fresh_peer site) result.history }
+    ensures peer { result.peer ≡ peer_after_run (fresh_peer site) result.history.run }
+    ensures site { result.history.site ≡ site }
     ensures ends { ServedAll D.Line.got D.Line.sent D.Line.faults D.Line.closes site (vec_len jobs) steps.now
-        (D.used door.old) (D.used door.new) result.own result.links.items result.history }
+        (D.used door.old) (D.used door.new) result.own result.links.items result.history.run }
     ensures whole { result.door_failed ≡ false }
     ensures given { D.given door.new ≡ D.given door.old }
     ensures returned { D.returned door.new ≡ D.returned door.old + vec_len jobs }
@@ -83,10 +84,10 @@ fn give_back<D: Door>(
     requires ready { EachOf (IsUnservedJob D.Line.got D.Line.sent D.Line.faults D.Line.closes) jobs.items }
     requires given { D.returned door.old + vec_len jobs ≤ D.given door.old }
     requires room { (outcomes.items ≡ []) × (vec_len jobs ≤ vec_capacity outcomes) }
-    requires idle { idle.1 ≡ [] }
-    ensures peer { result.peer ≡ idle.0 }
+    requires idle { idle.1.run ≡ [] }
+    ensures peer { (result.peer ≡ idle.0) × (result.history.site ≡ idle.1.site) }
     ensures ends { ServedNone D.Line.got D.Line.sent D.Line.faults D.Line.closes (vec_len jobs)
-        (D.used door.old) (D.used door.new) result.own result.links.items result.history }
+        (D.used door.old) (D.used door.new) result.own result.links.items result.history.run }
     ensures many { length result.links.items ≡ vec_len jobs }
     ensures failed { result.door_failed ≡ true }
     ensures given { D.given door.new ≡ D.given door.old }
@@ -127,11 +128,12 @@ pub fn serve<D: Door, R: Threads + Wait + Sync>(
     requires room { HasRoomForLinks links (D.faults door.old) (D.given door.old) }
     requires back { D.returned door.old ≤ D.given door.old }
     // The peer is what the run leads to.
-    ensures peer { IfOk result (λ r. r.peer ≡ peer_after_run (fresh_peer site) r.history) }
+    ensures peer { IfOk result (λ r. r.peer ≡ peer_after_run (fresh_peer site) r.history.run) }
+    ensures site { IfOk result (λ r. r.history.site ≡ site) }
     // The own steps stand in the run, and those of the session on each link that came back; nothing is in it where the
     // door failed.
     ensures ends { IfOk result (λ r. ServeEnds D.Line.got D.Line.sent D.Line.faults D.Line.closes site links steps.now
-        (D.used door.old) (D.used door.new) r.own r.door_failed r.links.items r.history) }
+        (D.used door.old) (D.used door.new) r.own r.door_failed r.links.items r.history.run) }
     // The door gave no more links than came back, and counts those that failed, and its own failure.
     ensures given { D.given door.new ≡ D.given door.old + links_given result }
     ensures returned { D.returned door.new ≡ D.returned door.old + links_given result }

@@ -23,7 +23,9 @@ use Rattle.peer_step.specs.contracts.step.LocalEdit as LocalEdit
 use Rattle.peer_step.specs.contracts.step.Step as Step
 use Rattle.peer_tables.specs.contracts.journal.Journal as Journal
 use Rattle.peer_core.specs.contracts.peer.Peer as Peer
+use Rattle.peer_lock.specs.contracts.boxed_message.BoxedMessage as BoxedMessage
 use Rattle.peer_lock.specs.contracts.call.Call as Call
+use Rattle.peer_lock.specs.contracts.kept_answer.KeptAnswer as KeptAnswer
 use Rattle.peer_lock.specs.contracts.recorder.Recorder as Recorder
 use Rattle.peer_lock.specs.contracts.pass.Pass as Pass
 use Rattle.peer_lock.specs.contracts.shared_peer.SharedPeer as SharedPeer
@@ -60,6 +62,12 @@ PackedStep-send = search (AdminOp-send, PackedMessage-send, plain) depth 100 fit
 Call-send : IsSend Call.the_row
 Call-send = search (PackedStep-send, plain) depth 100 fits 100000
 
+BoxedMessage-send : IsSend BoxedMessage.the_row
+BoxedMessage-send = search (PackedMessage-send, plain) depth 100 fits 100000
+
+KeptAnswer-send : IsSend KeptAnswer.the_row
+KeptAnswer-send = search (BoxedMessage-send, plain) depth 100 fits 100000
+
 -- ---- the peer
 
 Policy-send : IsSend Policy.the_row
@@ -89,7 +97,7 @@ Peer-send = search (Journal-send, HoldBack-send, plain) depth 100 fits 100000
 -- ---- what is shared
 
 Recorder-send : IsSend Recorder.the_row
-Recorder-send = search (Peer-send, Call-send, plain) depth 100 fits 100000
+Recorder-send = search (Peer-send, Call-send, KeptAnswer-send, plain) depth 100 fits 100000
 
 pub Pass-send : IsSend Pass.the_row
 Pass-send = search (seat.the_send, Recorder-send, plain) depth 100 fits 100000

@@ -1,4 +1,5 @@
 pub mod RunLemmas
+pub mod AnswerLemmas
 pub mod Lists
 pub mod ByCaller
 pub mod Crossing

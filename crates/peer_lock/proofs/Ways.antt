@@ -164,3 +164,10 @@ closed origin id v ws xs held p run live free whole final there peer is =
       callers = λ n high. ap (steps_by n) (is ∙ ap (λ (h : Recorded). h.run) (sym same)) ∙ t.5 n high;
       room = omega (arith, t.6, ap (λ (r : List Call). length r) (is ∙ ap (λ (h : Recorded). h.run) (sym same)));
     }
+
+pub closed_site : (origin id : ℕ) (v : View) (ws : List ℕ) (xs : List Recorded) (held : Recorded) → 0 < length v.numbers → v.hand ≡ false → length v.numbers ≡ v.made
+    → Final (Seen (IsOneRun origin) id v) ws xs → get_elem? xs 0 ≡ some held → held.site ≡ v.origin
+closed_site origin id v ws xs held live free whole final there =
+    let t = closes origin id v ws xs live free whole final in
+    let same : t.0 ≡ held = some-injective t.0 held (sym t.1 ∙ there) in
+    ap (λ (h : Recorded). h.site) (sym same) ∙ t.2

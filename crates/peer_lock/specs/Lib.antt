@@ -1,4 +1,5 @@
 pub mod Run
+pub mod KeptAnswers
 pub mod Rule
 pub mod KnownPass
 pub mod Answers

@@ -7,10 +7,12 @@
 //! It must not know where steps come from: lines, links, or a screen.
 #![tactic(auto)]
 
+mod boxed_message;
 mod call;
 mod dealing;
 mod fail;
 mod history;
+mod kept_answer;
 pub mod laws;
 mod limits;
 mod lock_table;
@@ -22,8 +24,10 @@ mod shared_peer;
 mod view;
 mod wide_step;
 
+pub use boxed_message::BoxedMessage;
 pub use fail::{StepFail, TryFail};
 pub use history::History;
+pub use kept_answer::KeptAnswer;
 pub use limits::{MAX_PASSES, MAX_RUN};
 pub use pass::Pass;
 pub use shared_peer::SharedPeer;

@@ -52,8 +52,8 @@ impl SharedPeer {
     /// Makes the step if the gate is free, and waits for nobody: one grab of the gate, and then the step, its count and
     /// the way back. A step that another pass makes at that moment gives `Busy`, and the step comes back.
     ///
-    /// The gate is held while the step is made: for the time of `Peer::step`, a copy of the step, and now and then the
-    /// time in which the run doubles its room. A long step, such as an entry that undoes much, makes other passes'
+    /// The gate is held while the step is made: for the time of `Peer::step`, copies of the step and of what is kept of its
+    /// answer, and now and then the time in which the run doubles its room. A long step, such as an entry that undoes much, makes other passes'
     /// tries `Busy` for as long.
     pub fn try_step(&self, pass: &mut Pass, step: Step) -> Result<Answer, TryFail>
         requires { pass.old.table ≡ self.now }
@@ -172,7 +172,8 @@ impl SharedPeer {
         requires own { pass.table ≡ self }
         requires whole { length pass.view.numbers ≡ pass.view.made }
         ensures gate { pass.view.hand ≡ false }
-        ensures closes { ClosesRun pass.view result.0 result.1 }
+        ensures closes { ClosesRun pass.view result.0 result.1.run }
+        ensures site { result.1.site ≡ pass.view.origin }
     {
         let SharedPeer { lock } = self;
         let LockTable { table } = lock;
@@ -185,7 +186,6 @@ impl SharedPeer {
         let mut closed = table.close_with(seat);
         let recorder = closed.take(0);
         closed.free();
-        let (peer, run) = recorder.into_parts();
-        (peer, History::of(run))
+        recorder.into_parts()
     }
 }

@@ -31,6 +31,11 @@ nothing_said site xs ys zs a =
 pub handed : (xs ys zs : List Step) (l : WorkLists) (run : List Call) → xs ≡ l.edits → ys ≡ l.arrivals → zs ≡ l.operations → IsRaceOf xs ys zs run → IsRaceOf l.edits l.arrivals l.operations run
 handed xs ys zs l run p q r is = record { editor = is.editor ∙ p; receiver = is.receiver ∙ q; administrator = is.administrator ∙ r; others = is.others }
 
+-- what was said of a history's site was said of this one
+pub said_of : (site of : ℕ) (run : List Call) (a b : Option (List ℕ)) (status : Status) → of ≡ site
+    → (w : List ℕ) × Says a b status (report_output of run) w → (w : List ℕ) × Says a b status (report_output site run) w
+said_of site of run a b status is said = subst (λ (n : ℕ). (w : List ℕ) × Says a b status (report_output n run) w) is said
+
 -- ---- the whole form
 
 -- reading ended otherwise than with Done

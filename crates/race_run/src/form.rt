@@ -31,10 +31,7 @@ fn race_and_report<R: Threads + Wait + Sync, K: Sink, G: Gate + Sync>(
 {
     let (edits, arrivals, operations) = lists.into_lists();
     match race(rt, alloc, site, edits, arrivals, operations, gate) {
-        Ok((peer, history)) => {
-            drop(peer);
-            report(alloc, site, &history, sink)
-        }
+        Ok((peer, history)) => report(alloc, peer, &history, sink),
         Err(_) => Status::NoMemory,
     }
 }
@@ -44,8 +41,8 @@ fn race_and_report<R: Threads + Wait + Sync, K: Sink, G: Gate + Sync>(
 /// The input is read to its end first. At a bad line the line that says so is written alone, and where the input is
 /// too long `too long` alone; where the source fails nothing is written. In each of these cases nothing is run.
 ///
-/// It takes the time of the steps twice, in the race and in the report, and the memory of the steps, of the run and of
-/// the peer.
+/// It takes the time of the steps and of [`report`](report_run::report), and the memory of the steps, of the run and of the
+/// peer.
 pub fn race_form<R: Threads + Wait + Sync, S: Source, K: Sink, G: Gate + Sync>(
     rt: &R,
     alloc: Global,

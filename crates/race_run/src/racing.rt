@@ -80,8 +80,9 @@ fn race_lists<R: Threads + Wait + Sync, G: Gate + Sync>(
     gate: &G,
 ) -> Result<(Peer, History), NoMemory>
     requires { length edits.now + length arrivals.now + length operations.now ≤ MAX_RUN }
-    ensures run { IfOk result (λ r. IsRaceOf edits.now arrivals.now operations.now r.1) }
-    ensures peer { IfOk result (λ r. r.0 ≡ peer_after_run (fresh_peer site) r.1) }
+    ensures run { IfOk result (λ r. IsRaceOf edits.now arrivals.now operations.now r.1.run) }
+    ensures site { IfOk result (λ r. r.1.site ≡ site) }
+    ensures peer { IfOk result (λ r. r.0 ≡ peer_after_run (fresh_peer site) r.1.run) }
 {
     let (shared, zero, one, two) = start(alloc, site)?;
     let (zero, others) = join(
@@ -136,8 +137,9 @@ pub fn race<R: Threads + Wait + Sync, G: Gate + Sync>(
     gate: &G,
 ) -> Result<(Peer, History), NoMemory>
     requires { length edits.items + length arrivals.items + length operations.items ≤ MAX_RUN }
-    ensures run { IfOk result (λ r. IsRaceOf edits.items arrivals.items operations.items r.1) }
-    ensures peer { IfOk result (λ r. r.0 ≡ peer_after_run (fresh_peer site) r.1) }
+    ensures run { IfOk result (λ r. IsRaceOf edits.items arrivals.items operations.items r.1.run) }
+    ensures site { IfOk result (λ r. r.1.site ≡ site) }
+    ensures peer { IfOk result (λ r. r.0 ≡ peer_after_run (fresh_peer site) r.1.run) }
 {
     race_lists(rt, alloc, site, &edits, &arrivals, &operations, gate)
 }

@@ -4,6 +4,7 @@
 //! It must not know whether workers, links or a screen made the run.
 #![tactic(auto)]
 
+mod kept;
 mod lines;
 mod reporting;
 

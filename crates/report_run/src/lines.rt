@@ -1,12 +1,18 @@
 //! The lines of a report.
-ghost use Rattle.std.specs.Prelude.{◌≡◌, ◌++◌, OnOk, decimal};
+ghost use Rattle.std.specs.Prelude.{◌≡◌, ◌≢◌, ◌++◌, OnOk, decimal};
+ghost use Rattle.peer_core.specs.Peer.{Peer};
+ghost use Rattle.peer_core.specs.Answers.{answer_of};
 ghost use Rattle.peer_core.specs.After.{peer_after};
+ghost use Rattle.peer_lock.specs.Run.{call};
+ghost use Rattle.peer_lock.specs.KeptAnswers.{kept_answer_of};
 ghost use Rattle.report_run.specs.Report.{run_line, asked_text, call_line};
 
+use crate::kept::put_kept_answer;
 use element_name::NoMemory;
 use itoa::Buffer;
 use line_write::{put, put_number_word, step_text};
 use peer_core::Peer;
+use peer_lock::KeptAnswer;
 use peer_step::Step;
 use report_text::answer_line_of;
 use std::alloc::Global;
@@ -57,4 +63,20 @@ pub(crate) fn put_call(
             Err(NoMemory)
         }
     }
+}
+
+/// Appends the line of a step, by what is kept of its answer, which is no text.
+pub(crate) fn put_kept_call(
+    alloc: Global,
+    caller: u32,
+    step: &Step,
+    answer: &KeptAnswer,
+    out: &mut Vec<u8>,
+) -> Result<(), NoMemory>
+    requires { answer.now ≢ KeptAnswer.Shown }
+    ensures { (p : Peer) → answer.now ≡ kept_answer_of (answer_of p step.now)
+        → OnOk result (out.new.items ≡ out.old.items ++ call_line p (call caller step.now)) }
+{
+    put_asked(alloc, caller, step, out)?;
+    put_kept_answer(alloc, answer, out)
 }

@@ -17,6 +17,10 @@ pub returns-clause-peer : goal.returns-clause-peer
 returns-clause-peer g c =
     peer_of_run c.args.shared c.args.site c.dial_link-ended.new.pass _ _ (sole_same c.args.shared c.args.site c.args.pass c.dial_link-ended.new.pass c.requires.own c.dial_link-ended.ensures.same) c.close_alone.ensures.closes
 
+pub returns-clause-site : goal.returns-clause-site
+returns-clause-site g c =
+    c.close_alone.ensures.site ∙ (sole_same c.args.shared c.args.site c.args.pass c.dial_link-ended.new.pass c.requires.own c.dial_link-ended.ensures.same).origin_is
+
 pub returns-clause-ends : goal.returns-clause-ends
 returns-clause-ends g c =
     let ended = c.dial_link-ended.result in
@@ -27,7 +31,7 @@ returns-clause-ends g c =
     dial_ends_at g.D.Line.Link.got g.D.Line.Link.sent g.D.Line.Link.faults g.D.Line.Link.closes c.args.site c.args.rounds _ _ _ _ _ _ _ _ _ _ c.close_alone.ensures.ends.0 c.close_alone.ensures.ends.1 one (
       link,
       c.back.ensures.used,
-      run_of_all last.view c.close_alone.result.peer c.close_alone.result.history 1 sole.made_is c.close_alone.ensures.closes,
+      run_of_all last.view c.close_alone.result.peer c.close_alone.result.history.run 1 sole.made_is c.close_alone.ensures.closes,
       dialled_in_run g.D.Line.Link.got g.D.Line.Link.sent g.D.Line.Link.faults g.D.Line.Link.closes (dialling (c.args.site == 0) c.args.rounds) c.args.shared c.args.site c.args.pass last c.args.link link ended _ _
           c.dial_link-ended.ensures.session c.dial_link-ended.ensures.full c.requires.unused c.dial_link-ended.ensures.closes c.dial_link-ended.ensures.faults sole c.close_alone.ensures.closes,
     )

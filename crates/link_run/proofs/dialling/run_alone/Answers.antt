@@ -15,12 +15,18 @@ pub returns-clause-peer : goal.returns-clause-peer
 returns-clause-peer g c =
     let k = c.in_ok-shared.pass in
     let sole = sole_same c.in_ok-shared.shared c.args.site k c.make_own-pass.result.0 (fresh_sole k c.in_ok-shared.shared c.args.site c.in_ok-shared.ensures.0 c.in_ok-shared.ensures.1) c.make_own-pass.ensures.same in
-    peer_of_run c.in_ok-shared.shared c.args.site c.make_own-pass.result.0 c.close_alone.result.peer c.close_alone.result.history sole c.close_alone.ensures.closes
+    peer_of_run c.in_ok-shared.shared c.args.site c.make_own-pass.result.0 c.close_alone.result.peer c.close_alone.result.history.run sole c.close_alone.ensures.closes
+
+pub returns-clause-site : goal.returns-clause-site
+returns-clause-site g c =
+    let k = c.in_ok-shared.pass in
+    let sole = sole_same c.in_ok-shared.shared c.args.site k c.make_own-pass.result.0 (fresh_sole k c.in_ok-shared.shared c.args.site c.in_ok-shared.ensures.0 c.in_ok-shared.ensures.1) c.make_own-pass.ensures.same in
+    c.close_alone.ensures.site ∙ sole.origin_is
 
 pub returns-clause-ends : goal.returns-clause-ends
 returns-clause-ends g c =
     let k = c.in_ok-shared.pass in
-    let run = c.close_alone.result.history in
+    let run = c.close_alone.result.history.run in
     let sole = sole_same c.in_ok-shared.shared c.args.site k c.make_own-pass.result.0 (fresh_sole k c.in_ok-shared.shared c.args.site c.in_ok-shared.ensures.0 c.in_ok-shared.ensures.1) c.make_own-pass.ensures.same in record {
       own_steps = subst (λ (o : Option OwnEnd). OwnEnds c.args.steps.now o run) (sym c.close_alone.ensures.ends.0)
           (own_in_run k c.make_own-pass.result.0 c.in_ok-shared.shared c.args.site c.args.steps.now c.make_own-pass.result.1 c.close_alone.result.peer run c.in_ok-shared.ensures.1 sole c.make_own-pass.ensures.mine c.close_alone.ensures.closes);

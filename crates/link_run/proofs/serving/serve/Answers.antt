@@ -2,6 +2,7 @@ use Rattle.std.proofs.Common.{◌≡◌, ℕ, ◌+◌, Bool, false, List, Option
 use Rattle.peer_step.specs.declared.step.Step.{Step}
 use Rattle.peer_lock.specs.declared.call.Call.{Call}
 use Rattle.peer_lock.specs.KnownPass.{KnownPass}
+use Rattle.peer_lock.specs.Run.{Recorded}
 use Rattle.peer_lock.specs.Rule.{newcomer}
 use Rattle.session_core.specs.declared.fault.SessionFault.{SessionFault}
 use Rattle.link_run.specs.declared.own.OwnEnd.{OwnEnd}
@@ -31,6 +32,9 @@ pub serve_taken-requires-clause-theirs : goal.serve_taken-requires-clause-theirs
 serve_taken-requires-clause-theirs g c κs within =
     jobs_dealt c.in_ok-shared.shared c.args.site (c.args.links + 1) c.in_ok-shared.passes.items c.take_links.new.jobs.items c.in_ok-shared.ensures.theirs c.in-Ok.ensures.all
 
+pub give_back-requires-clause-idle : goal.give_back-requires-clause-idle
+give_back-requires-clause-idle g c κs within = ap (λ (r : Recorded). r.run) c.in_ok-idle.ensures.1
+
 pub give_back-requires-clause-theirs : goal.give_back-requires-clause-theirs
 give_back-requires-clause-theirs g c κs within =
     each_front (λ (k : KnownPass). k.table ≡ c.in_ok-shared.shared) (passes_of c.take_links.new.jobs.items) c.in-Err.ensures.first.0
@@ -49,5 +53,5 @@ returns-in-Ok-clause-ends g c =
     let many : vec_len c.take_links.new.jobs ≡ c.args.links =
     omega (arith, ap (λ (l : List KnownPass). length l) c.in-Ok.ensures.all, length-passes_of js, c.in_ok-shared.ensures.theirs.rest, c.take_links.new.jobs.ok.0) in
     as_served g.D.Line.Link.got g.D.Line.Link.sent g.D.Line.Link.faults g.D.Line.Link.closes c.args.site c.args.links (vec_len c.take_links.new.jobs) c.args.steps.now
-    (g.D.Door.used c.take_links.new.door) (g.D.Door.used c.args.door.now) (g.D.Door.used c.serve_taken.new.door) c.serve_taken.result.own c.serve_taken.result.door_failed c.serve_taken.result.links.items c.serve_taken.result.history
+    (g.D.Door.used c.take_links.new.door) (g.D.Door.used c.args.door.now) (g.D.Door.used c.serve_taken.new.door) c.serve_taken.result.own c.serve_taken.result.door_failed c.serve_taken.result.links.items c.serve_taken.result.history.run
     c.serve_taken.ensures.whole many c.in-Ok.ensures.used c.serve_taken.ensures.ends

@@ -46,7 +46,11 @@ close-peer-requires-clause-whole g c =
 pub returns-clause-peer : goal.returns-clause-peer
 returns-clause-peer g c =
     c.close-peer.ensures.closes.peer
-    ∙ ap (λ (o : ℕ). peer_after_run (fresh_peer o) c.close-peer.result.1) (c.finish_jobs.ensures.joined.origin ∙ c.run_workers-pass.ensures.own.0.origin ∙ ap (λ (v : View). v.origin) c.requires.own.1)
+    ∙ ap (λ (o : ℕ). peer_after_run (fresh_peer o) c.close-peer.result.1.run) (c.finish_jobs.ensures.joined.origin ∙ c.run_workers-pass.ensures.own.0.origin ∙ ap (λ (v : View). v.origin) c.requires.own.1)
+
+pub returns-clause-site : goal.returns-clause-site
+returns-clause-site g c =
+    c.close-peer.ensures.site ∙ c.finish_jobs.ensures.joined.origin ∙ c.run_workers-pass.ensures.own.0.origin ∙ ap (λ (v : View). v.origin) c.requires.own.1
 
 pub returns-clause-ends : goal.returns-clause-ends
 returns-clause-ends g c =
@@ -60,14 +64,14 @@ returns-clause-ends g c =
     let many : length after ≡ length c.args.jobs.items = omega (arith, c.run_workers-pass.ensures.many, c.run_workers-pass.result.1.ok.0, c.args.jobs.ok.0) in
     let joined = c.finish_jobs.ensures.joined in
     let mine : HasNumber k.view.numbers 0 = has_one 0 k.view.numbers (c.run_workers-pass.ensures.own.0.numbers ∙ ap (λ (v : View). v.numbers) c.requires.own.1) in
-    let links = links_in got sent faults closes c.args.site c.args.shared c.args.jobs.items after last c.close-peer.result.0 c.close-peer.result.1
+    let links = links_in got sent faults closes c.args.site c.args.shared c.args.jobs.items after last c.close-peer.result.0 c.close-peer.result.1.run
     c.requires.theirs many (λ i d h. c.run_workers-pass.ensures.each i d (omega (arith, c.args.jobs.ok.0))) joined.theirs c.close-peer.ensures.closes
     (g.D.Door.used c.args.door.now) (g.D.Door.used c.finish_jobs.new.door) (g.D.Door.hurt c.args.door.now) (g.D.Door.hurt c.finish_jobs.new.door) c.finish_jobs.new.outcomes.items
     c.finish_jobs.ensures.used c.finish_jobs.ensures.hurt (c.finish_jobs.ensures.outcomes ∙ ap (λ l. l ++ outcomes_of after) c.requires.room.0) in record {
       taken = omega (arith, links_counted got sent faults closes c.args.site c.args.jobs.items _ _ _ _ _ _ links, c.args.jobs.ok.0);
-      own_steps = own_steps_in_run c.args.pass.view k.view _ c.args.site c.args.steps.now c.run_workers-pass.result.0.1 c.close-peer.result.1 c.requires.own.1
+      own_steps = own_steps_in_run c.args.pass.view k.view _ c.args.site c.args.steps.now c.run_workers-pass.result.0.1 c.close-peer.result.1.run c.requires.own.1
           (c.close-peer.ensures.closes.steps 0 (joined.mine.numbers 0 mine) ∙ joined.mine.steps 0 mine) (omega (arith, joined.mine.floor, c.close-peer.ensures.closes.floor)) c.run_workers-pass.ensures.own.1;
-      callers = run_of_all last.view c.close-peer.result.0 c.close-peer.result.1 (vec_len c.args.jobs + 1)
+      callers = run_of_all last.view c.close-peer.result.0 c.close-peer.result.1.run (vec_len c.args.jobs + 1)
           (joined.made ∙ c.run_workers-pass.ensures.own.0.made ∙ ap (λ (v : View). v.made) c.requires.own.1) c.close-peer.ensures.closes;
       in_run = links_stand got sent faults closes c.args.site c.args.shared c.args.jobs.items _ _ _ _ _ _ c.requires.theirs c.requires.ready links;
     }
@@ -81,7 +85,7 @@ returns-clause-hurt g c =
     let after = c.run_workers-pass.result.1.items in
     let many : length after ≡ length c.args.jobs.items = omega (arith, c.run_workers-pass.ensures.many, c.run_workers-pass.result.1.ok.0, c.args.jobs.ok.0) in
     links_failed got sent faults closes c.args.site c.args.jobs.items _ _ _ _ _ _ c.requires.ready
-    (links_in got sent faults closes c.args.site c.args.shared c.args.jobs.items after c.finish_jobs.new.pass c.close-peer.result.0 c.close-peer.result.1
+    (links_in got sent faults closes c.args.site c.args.shared c.args.jobs.items after c.finish_jobs.new.pass c.close-peer.result.0 c.close-peer.result.1.run
     c.requires.theirs many (λ i d h. c.run_workers-pass.ensures.each i d (omega (arith, c.args.jobs.ok.0))) c.finish_jobs.ensures.joined.theirs c.close-peer.ensures.closes
     (g.D.Door.used c.args.door.now) (g.D.Door.used c.finish_jobs.new.door) (g.D.Door.hurt c.args.door.now) (g.D.Door.hurt c.finish_jobs.new.door) c.finish_jobs.new.outcomes.items
     c.finish_jobs.ensures.used c.finish_jobs.ensures.hurt (c.finish_jobs.ensures.outcomes ∙ ap (λ l. l ++ outcomes_of after) c.requires.room.0))

@@ -1,7 +1,7 @@
 use Rattle.std.proofs.Common.{[], refl, ◌∙◌}
 use Rattle.std.proofs.KnownBytes.{Appends-nil}
 use Rattle.std.proofs.lemmas.Result.{err_from_is_err_and}
-use Rattle.report_run.proofs.Tellings.{one_told, one_short, peer_on, all_told, peer_last}
+use Rattle.report_run.proofs.Tellings.{one_told, one_short, peer_on}
 use Rattle.report_run.proofs.reporting.tell_calls.Goals as goal
 
 pub loop-i-init : goal.loop-i-init
@@ -13,7 +13,7 @@ loop-i-init g c = record {
 
 pub loop-i-preserved : goal.loop-i-preserved
 loop-i-preserved g c =
-    let run = c.args.history.now in
+    let run = c.args.history.now.run in
     let told = c.loop-i.invariant.told in
     let line = c.in_ok-tell_call.ensures in
     record {
@@ -25,4 +25,4 @@ loop-i-preserved g c =
 pub returns-in_err-tell_call-clause-gathers : goal.returns-in_err-tell_call-clause-gathers
 returns-in_err-tell_call-clause-gathers g c =
     let p = err_from_is_err_and c.from_residual.result c.from_residual.ensures.1 in
-    rw (p.1, p.2) (one_short _ _ _ _ c.args.history.now _ _ _ _ _ c.in-Some.ensures c.in-Some-step_at.ensures c.loop-i.invariant.told _ _ c.in_err-tell_call.ensures.gathers)
+    rw (p.1, p.2) (one_short _ _ _ _ c.args.history.now.run _ _ _ _ _ c.in-Some.ensures c.in-Some-step_at.ensures c.loop-i.invariant.told _ _ c.in_err-tell_call.ensures.gathers)

@@ -6,7 +6,7 @@ use Rattle.report_run.proofs.reporting.tell_calls.Given as goal
 
 abbrev pub invariant-loop-i : goal.invariant-loop-i
 invariant-loop-i g l = record {
-  told : (said : List ℕ) × Appends (g.K.Sink.written l.fn.sink) (g.K.Sink.written l.sink) said × (l.fn.out.items ++ call_lines l.fn.peer l.history ≡ (said ++ l.out.items) ++ call_lines l.peer (drop l.i l.history));
-  peer : peer_after_run l.peer (drop l.i l.history) ≡ peer_after_run l.fn.peer l.history;
+  told : (said : List ℕ) × Appends (g.K.Sink.written l.fn.sink) (g.K.Sink.written l.sink) said × (l.fn.out.items ++ call_lines l.fn.peer l.history.run ≡ (said ++ l.out.items) ++ call_lines l.peer (drop l.i l.history.run));
+  peer : peer_after_run l.peer (drop l.i l.history.run) ≡ peer_after_run l.fn.peer l.history.run;
   faults : g.K.Sink.faults l.sink ≡ g.K.Sink.faults l.fn.sink;
 }
