@@ -1,12 +1,12 @@
 -- Rows of tickets as they change, and what a search by halves finds in them.
-use Rattle.std.proofs.Common.{◌≡◌, ℕ, ◌+◌, ◌-◌, ◌/◌, ◌%◌, ◌<◌, ◌≤◌, zero, suc, Bool, true, false, cond, List, [], ◌∷◌, ◌++◌, None, Some, length, drop, get_or, set}
+use Rattle.std.proofs.Common.{◌≡◌, ℕ, ◌+◌, ◌-◌, ◌<◌, ◌≤◌, zero, suc, Bool, true, false, cond, List, [], ◌∷◌, ◌++◌, None, Some, length, drop, get_or, set}
 use Rattle.std.proofs.Common.{remove, refl, sym, ap, subst, ◌∙◌, arith, eqb, ltb, ltb-true}
-use Rattle.std.specs.Prelude.{option_map, position}
+use Rattle.std.specs.Prelude.{option_map, position, map}
 use Rattle.std.specs.List.{All, AllPairs, insert, position_or_len}
-use Rattle.std.specs.List.Sorted.{IsNonDecreasing, IsPartitionPoint}
+use Rattle.std.specs.List.Sorted.{IsNonDecreasing, IsNonDecreasingBy, IsPartitionPoint}
 use Rattle.std.proofs.lemmas.Bool.{eqb-true, eq-eqb}
 use Rattle.std.proofs.lemmas.Bool.Decides.{nat_tests}
-use Rattle.std.proofs.lemmas.List.{length-set, get_or-set_other, length_push, get_or-drop, length-drop}
+use Rattle.std.proofs.lemmas.List.{length-set, get_or-set_other, length_push, get_or-drop, length-drop, get_or-map, length-map, map-set}
 use Rattle.std.proofs.lemmas.List.Edits.{length-remove, get_or-remove_below, get_or-remove_above}
 use Rattle.std.proofs.lemmas.List.Elements.{All-push}
 use Rattle.std.proofs.lemmas.List.Quantifiers.{all_pairs_push, all_pairs_remove}
@@ -14,7 +14,10 @@ use Rattle.std.proofs.lemmas.List.Sorted.{IsNonDecreasingBy-insert}
 use Rattle.std.proofs.lemmas.Option.{get_or_from_slice_get, slice_get_read, slice_get-get_or}
 use Rattle.std.proofs.lemmas.Grind.{get_or-set_at}
 use Rattle.std.proofs.lemmas.List.Sums.{sum_by-cons, sum_by_push, sum_by-insert, sum_by-remove, sum_by-set, get_or-le-sum_by, position_or_len_is}
-use Rattle.hold_back.specs.Index.{ticket, tickets, times_in, IsFirstNotBelow, IsRisingRow, IsWith, IsWithout, AreArrivals, IsTicketRow}
+use Rattle.hold_back.specs.declared.awaited.Awaited.{Awaited}
+use Rattle.hold_back.specs.declared.awaited.Awaited.TheVariants.{Nothing}
+use Rattle.hold_back.specs.declared.ticket.Ticket.{Ticket}
+use Rattle.hold_back.specs.Index.{awaited_rank, rank, ranks, ticket_rank, ticket_ranks, times_in, IsFirstNotBelow, IsRisingRow, IsWith, IsWithout, AreArrivals, IsTicketRow}
 
 -- ---- one row
 
@@ -161,60 +164,132 @@ put_over row x y i up place there low high =
           omega (arith, put, gone);
     }
 
--- ---- tickets
+-- ---- tickets and their ranks
 
-pub length-tickets : (ns us : List ℕ) → length ns ≡ length us → length (tickets ns us) ≡ length ns
-length-tickets [] us same = refl
-length-tickets (n ∷ ns) [] same = absurd (omega (arith, same))
-length-tickets (n ∷ ns) (a ∷ us) same =
-    let rest = length-tickets ns us (omega (arith, same)) in
+pub map_remove : {X : Type 0} (f : X → ℕ) (xs : List X) (i : ℕ) → map f (remove xs i) ≡ remove (map f xs) i
+map_remove f [] zero = refl
+map_remove f [] (suc i) = refl
+map_remove f (x ∷ xs) zero = refl
+map_remove f (x ∷ xs) (suc i) = ap (λ ys. f x ∷ ys) (map_remove f xs i)
+
+pub map_insert : {X : Type 0} (f : X → ℕ) (xs : List X) (i : ℕ) (x : X) → map f (insert xs i x) ≡ insert (map f xs) i (f x)
+map_insert f xs zero x = refl
+map_insert f [] (suc i) x = refl
+map_insert f (y ∷ xs) (suc i) x = ap (λ ys. f y ∷ ys) (map_insert f xs i x)
+
+-- the rank of the ticket that is read at a place
+pub rank_read : (row : List Ticket) (i : ℕ) (t : Ticket) → i < length row → t ≡ get_or row i t → get_or (ticket_ranks row) i 0 ≡ ticket_rank t
+rank_read row i t within same = get_or-map ticket_rank row i t 0 within ∙ ap ticket_rank (sym same)
+
+-- where a search for the ticket at a place in the order of arrival ends
+pub first_place : (row : List Ticket) (us : List ℕ) (w : Awaited) (t : Ticket) (a from at : ℕ) → from < length us → a ≡ get_or us from a → t ≡ record { awaited = w; arrival = a }
+    → IsFirstNotBelow (ticket_rank t) (ticket_ranks row) at → IsFirstNotBelow (rank (awaited_rank w) (get_or us from 0)) (ticket_ranks row) at
+first_place row us w t a from at within read same place =
+    subst (λ (x : ℕ). IsFirstNotBelow x (ticket_ranks row) at) (ap ticket_rank same ∙ ap (rank (awaited_rank w)) (sym (read_at us from a within read))) place
+
+pub ranks_rise : (row : List Ticket) → IsRisingRow (ticket_ranks row) → IsNonDecreasingBy ticket_rank row
+ranks_rise row up i j d le within =
+    let long = length-map row ticket_rank in
+    let rising = rises (ticket_ranks row) up i j 0 le (omega (arith, within, long)) in
+    let first = get_or-map ticket_rank row i d 0 (omega (arith, le, within)) in
+    let second = get_or-map ticket_rank row j d 0 within in
+    omega (arith, rising, first, second)
+
+pub found_ticket : (row : List Ticket) (x i : ℕ) → i ≤ length row → IsPartitionPoint (λ y. ltb (ticket_rank y) x ≡ true) (λ y. ltb (ticket_rank y) x ≡ false) row i
+    → IsFirstNotBelow x (ticket_ranks row) i
+found_ticket row x i within point = record {
+  within = let long = length-map row ticket_rank in omega (arith, within, long);
+  below = λ k d lt.
+      let there = get_or-map ticket_rank row k none d (omega (arith, lt, within)) in
+      let low = ltb-true (ticket_rank (get_or row k none)) x (point.0 k none (omega (arith, lt, within)) lt) in
+      omega (arith, there, low);
+  above = λ k d from to.
+      let long = length-map row ticket_rank in
+      let there = get_or-map ticket_rank row k none d (omega (arith, to, long)) in
+      let no = point.1 k none from (omega (arith, to, long)) in
+      grind (arith, nat_tests, there, no);
+}
+  where
+    none : Ticket
+    none = record { awaited = Nothing; arrival = 0 }
+
+-- a ticket that stands in a row has a place there
+pub ticket_place : (row : List Ticket) (x i : ℕ) → IsRisingRow (ticket_ranks row) → IsFirstNotBelow x (ticket_ranks row) i → 1 ≤ times_in x (ticket_ranks row) → i < length row
+ticket_place row x i up place there =
+    let within = (its_place (ticket_ranks row) x i up place there).0 in
+    let long = length-map row ticket_rank in
+    omega (arith, within, long)
+
+pub with_ticket : (row : List Ticket) (t : Ticket) (i : ℕ) → IsRisingRow (ticket_ranks row) → IsFirstNotBelow (ticket_rank t) (ticket_ranks row) i
+    → IsWith (ticket_rank t) (ticket_ranks row) (ticket_ranks (insert row i t))
+with_ticket row t i up place = subst (λ (new : List ℕ). IsWith (ticket_rank t) (ticket_ranks row) new) (sym (map_insert ticket_rank row i t)) (with_one (ticket_ranks row) (ticket_rank t) i up place)
+
+pub without_ticket : (row : List Ticket) (x i : ℕ) → IsRisingRow (ticket_ranks row) → IsFirstNotBelow x (ticket_ranks row) i → 1 ≤ times_in x (ticket_ranks row)
+    → IsWithout x (ticket_ranks row) (ticket_ranks (remove row i))
+without_ticket row x i up place there = subst (λ (new : List ℕ). IsWithout x (ticket_ranks row) new) (sym (map_remove ticket_rank row i)) (without_one (ticket_ranks row) x i up place there)
+
+pub over_ticket : (row : List Ticket) (x : ℕ) (t : Ticket) (i : ℕ) → IsRisingRow (ticket_ranks row) → IsFirstNotBelow x (ticket_ranks row) i → 1 ≤ times_in x (ticket_ranks row)
+    → (0 < i → get_or (ticket_ranks row) (i - 1) 0 ≤ ticket_rank t) → (i + 1 < length row → ticket_rank t ≤ get_or (ticket_ranks row) (i + 1) 0)
+    → IsWith (ticket_rank t) (ticket_ranks (remove row i)) (ticket_ranks (set row i t))
+over_ticket row x t i up place there low high =
+    let over = put_over (ticket_ranks row) x (ticket_rank t) i up place there low (λ lt. high (let long = length-map row ticket_rank in omega (arith, lt, long))) in
+    subst (λ (new : List ℕ). IsWith (ticket_rank t) (ticket_ranks (remove row i)) new) (sym (map-set ticket_rank row i t))
+    (subst (λ (less : List ℕ). IsWith (ticket_rank t) less (set (ticket_ranks row) i (ticket_rank t))) (sym (map_remove ticket_rank row i)) over)
+
+-- ---- the ranks of a row
+
+pub length-ranks : (ns us : List ℕ) → length ns ≡ length us → length (ranks ns us) ≡ length ns
+length-ranks [] us same = refl
+length-ranks (n ∷ ns) [] same = absurd (omega (arith, same))
+length-ranks (n ∷ ns) (a ∷ us) same =
+    let rest = length-ranks ns us (omega (arith, same)) in
     omega (arith, rest)
 
-pub ticket_at : (ns us : List ℕ) (i : ℕ) → length ns ≡ length us → i < length ns → get_or (tickets ns us) i 0 ≡ ticket (get_or ns i 0) (get_or us i 0)
-ticket_at [] us i same within = absurd (omega (arith, within))
-ticket_at (n ∷ ns) [] i same within = absurd (omega (arith, same))
-ticket_at (n ∷ ns) (a ∷ us) zero same within = refl
-ticket_at (n ∷ ns) (a ∷ us) (suc i) same within = ticket_at ns us i (omega (arith, same)) (omega (arith, within))
+pub rank_at : (ns us : List ℕ) (i : ℕ) → length ns ≡ length us → i < length ns → get_or (ranks ns us) i 0 ≡ rank (get_or ns i 0) (get_or us i 0)
+rank_at [] us i same within = absurd (omega (arith, within))
+rank_at (n ∷ ns) [] i same within = absurd (omega (arith, same))
+rank_at (n ∷ ns) (a ∷ us) zero same within = refl
+rank_at (n ∷ ns) (a ∷ us) (suc i) same within = rank_at ns us i (omega (arith, same)) (omega (arith, within))
 
-tickets_push : (ns us : List ℕ) (n a : ℕ) → length ns ≡ length us → tickets (ns ++ n ∷ []) (us ++ a ∷ []) ≡ tickets ns us ++ ticket n a ∷ []
-tickets_push [] [] n a same = refl
-tickets_push [] (b ∷ us) n a same = absurd (omega (arith, same))
-tickets_push (m ∷ ns) [] n a same = absurd (omega (arith, same))
-tickets_push (m ∷ ns) (b ∷ us) n a same = ap (λ ts. ticket m b ∷ ts) (tickets_push ns us n a (omega (arith, same)))
+ranks_push : (ns us : List ℕ) (n a : ℕ) → length ns ≡ length us → ranks (ns ++ n ∷ []) (us ++ a ∷ []) ≡ ranks ns us ++ rank n a ∷ []
+ranks_push [] [] n a same = refl
+ranks_push [] (b ∷ us) n a same = absurd (omega (arith, same))
+ranks_push (m ∷ ns) [] n a same = absurd (omega (arith, same))
+ranks_push (m ∷ ns) (b ∷ us) n a same = ap (λ ts. rank m b ∷ ts) (ranks_push ns us n a (omega (arith, same)))
 
-tickets_remove : (ns us : List ℕ) (i : ℕ) → length ns ≡ length us → i < length ns → tickets (remove ns i) (remove us i) ≡ remove (tickets ns us) i
-tickets_remove [] us i same within = absurd (omega (arith, within))
-tickets_remove (n ∷ ns) [] i same within = absurd (omega (arith, same))
-tickets_remove (n ∷ ns) (a ∷ us) zero same within = refl
-tickets_remove (n ∷ ns) (a ∷ us) (suc i) same within = ap (λ ts. ticket n a ∷ ts) (tickets_remove ns us i (omega (arith, same)) (omega (arith, within)))
+ranks_remove : (ns us : List ℕ) (i : ℕ) → length ns ≡ length us → i < length ns → ranks (remove ns i) (remove us i) ≡ remove (ranks ns us) i
+ranks_remove [] us i same within = absurd (omega (arith, within))
+ranks_remove (n ∷ ns) [] i same within = absurd (omega (arith, same))
+ranks_remove (n ∷ ns) (a ∷ us) zero same within = refl
+ranks_remove (n ∷ ns) (a ∷ us) (suc i) same within = ap (λ ts. rank n a ∷ ts) (ranks_remove ns us i (omega (arith, same)) (omega (arith, within)))
 
-tickets_set : (ns us : List ℕ) (i n : ℕ) → length ns ≡ length us → i < length ns → tickets (set ns i n) us ≡ set (tickets ns us) i (ticket n (get_or us i 0))
-tickets_set [] us i n same within = absurd (omega (arith, within))
-tickets_set (m ∷ ns) [] i n same within = absurd (omega (arith, same))
-tickets_set (m ∷ ns) (a ∷ us) zero n same within = refl
-tickets_set (m ∷ ns) (a ∷ us) (suc i) n same within = ap (λ ts. ticket m a ∷ ts) (tickets_set ns us i n (omega (arith, same)) (omega (arith, within)))
+ranks_set : (ns us : List ℕ) (i n : ℕ) → length ns ≡ length us → i < length ns → ranks (set ns i n) us ≡ set (ranks ns us) i (rank n (get_or us i 0))
+ranks_set [] us i n same within = absurd (omega (arith, within))
+ranks_set (m ∷ ns) [] i n same within = absurd (omega (arith, same))
+ranks_set (m ∷ ns) (a ∷ us) zero n same within = refl
+ranks_set (m ∷ ns) (a ∷ us) (suc i) n same within = ap (λ ts. rank m a ∷ ts) (ranks_set ns us i n (omega (arith, same)) (omega (arith, within)))
 
 -- a message's ticket stands in the row
-pub ticket_there : (ns us row : List ℕ) (i : ℕ) → IsTicketRow ns us row → i < length ns → 1 ≤ times_in (ticket (get_or ns i 0) (get_or us i 0)) row
+pub ticket_there : (ns us row : List ℕ) (i : ℕ) → IsTicketRow ns us row → i < length ns → 1 ≤ times_in (rank (get_or ns i 0) (get_or us i 0)) row
 ticket_there ns us row i is within =
-    let long = length-tickets ns us is.count in
-    let one = times_at (tickets ns us) (ticket (get_or ns i 0) (get_or us i 0)) i (omega (arith, long, within)) (ticket_at ns us i is.count within) in
-    let same = is.tickets (ticket (get_or ns i 0) (get_or us i 0)) in
+    let long = length-ranks ns us is.count in
+    let one = times_at (ranks ns us) (rank (get_or ns i 0) (get_or us i 0)) i (omega (arith, long, within)) (rank_at ns us i is.count within) in
+    let same = is.tickets (rank (get_or ns i 0) (get_or us i 0)) in
     omega (arith, one, same)
 
-pub row_push : (ns us row new : List ℕ) (n a : ℕ) → IsTicketRow ns us row → IsWith (ticket n a) row new → IsTicketRow (ns ++ n ∷ []) (us ++ a ∷ []) new
+pub row_push : (ns us row new : List ℕ) (n a : ℕ) → IsTicketRow ns us row → IsWith (rank n a) row new → IsTicketRow (ns ++ n ∷ []) (us ++ a ∷ []) new
 row_push ns us row new n a is more = record {
   count = let x = length_push ns n in let y = length_push us a in let z = is.count in omega (arith, x, y, z);
   rising = more.rising;
   tickets = λ x.
       let up = more.times x in
       let old = is.tickets x in
-      let last = sum_by_push (λ z. cond (eqb z x) 1 0) (tickets ns us) (ticket n a) in
-      let all = ap (times_in x) (tickets_push ns us n a is.count) in
+      let last = sum_by_push (λ z. cond (eqb z x) 1 0) (ranks ns us) (rank n a) in
+      let all = ap (times_in x) (ranks_push ns us n a is.count) in
       omega (arith, up, old, last, all);
 }
 
-pub row_remove : (ns us row new : List ℕ) (i : ℕ) → IsTicketRow ns us row → i < length ns → IsWithout (ticket (get_or ns i 0) (get_or us i 0)) row new
+pub row_remove : (ns us row new : List ℕ) (i : ℕ) → IsTicketRow ns us row → i < length ns → IsWithout (rank (get_or ns i 0) (get_or us i 0)) row new
     → IsTicketRow (remove ns i) (remove us i) new
 row_remove ns us row new i is within less = record {
   count = let x = length-remove ns i within in let z = is.count in let y = length-remove us i (omega (arith, within, z)) in omega (arith, x, y, z);
@@ -222,15 +297,15 @@ row_remove ns us row new i is within less = record {
   tickets = λ x.
       let down = less.times x in
       let old = is.tickets x in
-      let long = length-tickets ns us is.count in
-      let gone = sum_by-remove (λ z. cond (eqb z x) 1 0) (tickets ns us) i 0 (omega (arith, long, within)) in
-      let same = ap {B = ℕ} (λ (z : ℕ). cond (eqb z x) 1 0) (ticket_at ns us i is.count within) in
-      let all = ap (times_in x) (tickets_remove ns us i is.count within) in
+      let long = length-ranks ns us is.count in
+      let gone = sum_by-remove (λ z. cond (eqb z x) 1 0) (ranks ns us) i 0 (omega (arith, long, within)) in
+      let same = ap {B = ℕ} (λ (z : ℕ). cond (eqb z x) 1 0) (rank_at ns us i is.count within) in
+      let all = ap (times_in x) (ranks_remove ns us i is.count within) in
       omega (arith, down, old, gone, same, all);
 }
 
-pub row_set : (ns us row mid new : List ℕ) (i n : ℕ) → IsTicketRow ns us row → i < length ns → IsWithout (ticket (get_or ns i 0) (get_or us i 0)) row mid
-    → IsWith (ticket n (get_or us i 0)) mid new → IsTicketRow (set ns i n) us new
+pub row_set : (ns us row mid new : List ℕ) (i n : ℕ) → IsTicketRow ns us row → i < length ns → IsWithout (rank (get_or ns i 0) (get_or us i 0)) row mid
+    → IsWith (rank n (get_or us i 0)) mid new → IsTicketRow (set ns i n) us new
 row_set ns us row mid new i n is within less more = record {
   count = length-set ns i n ∙ is.count;
   rising = more.rising;
@@ -238,10 +313,10 @@ row_set ns us row mid new i n is within less more = record {
       let down = less.times x in
       let up = more.times x in
       let old = is.tickets x in
-      let long = length-tickets ns us is.count in
-      let put = sum_by-set (λ z. cond (eqb z x) 1 0) (tickets ns us) i (ticket n (get_or us i 0)) 0 (omega (arith, long, within)) in
-      let same = ap {B = ℕ} (λ (z : ℕ). cond (eqb z x) 1 0) (ticket_at ns us i is.count within) in
-      let all = ap (times_in x) (tickets_set ns us i n is.count within) in
+      let long = length-ranks ns us is.count in
+      let put = sum_by-set (λ z. cond (eqb z x) 1 0) (ranks ns us) i (rank n (get_or us i 0)) 0 (omega (arith, long, within)) in
+      let same = ap {B = ℕ} (λ (z : ℕ). cond (eqb z x) 1 0) (rank_at ns us i is.count within) in
+      let all = ap (times_in x) (ranks_set ns us i n is.count within) in
       omega (arith, down, up, old, put, same, all);
 }
 
@@ -306,7 +381,7 @@ next_at ns n from i low within here none =
         let at = get_or-drop from ns k 0 in
         absurd (none (from + k) (omega arith) (omega (arith, lt)) (sym at ∙ eqb-true (get_or (drop from ns) k 0) n e))
 
-module _ (ns us row : List ℕ) (n from at : ℕ) (are : AreArrivals us) (is : IsTicketRow ns us row) (within : from < length us) (place : IsFirstNotBelow (ticket n (get_or us from 0)) row at) where
+module _ (ns us row : List ℕ) (n from at : ℕ) (are : AreArrivals us) (is : IsTicketRow ns us row) (within : from < length us) (place : IsFirstNotBelow (rank n (get_or us from 0)) row at) where
   later : (k : ℕ) → from ≤ k → k < length us → get_or us from 0 ≤ get_or us k 0
   later k low inside = by (ltb from k) refl
     where
@@ -316,39 +391,39 @@ module _ (ns us row : List ℕ) (n from at : ℕ) (are : AreArrivals us) (is : I
           let same : from ≡ k = grind (arith, nat_tests) in
           subst (λ (m : ℕ). get_or us from 0 ≤ get_or us m 0) same (omega arith)
 
-  -- a later message of the number has a ticket that isn't below the one at the place
-  bound : (k : ℕ) → from ≤ k → k < length ns → get_or ns k 0 ≡ n → (at < length row) × (get_or row at 0 ≤ ticket n (get_or us k 0))
+  -- a later message of the rank has a ticket that isn't below the one at the place
+  bound : (k : ℕ) → from ≤ k → k < length ns → get_or ns k 0 ≡ n → (at < length row) × (get_or row at 0 ≤ rank n (get_or us k 0))
   bound k low inside same =
       let long = is.count in
-      let here = subst (λ (m : ℕ). 1 ≤ times_in (ticket m (get_or us k 0)) row) same (ticket_there ns us row k is inside) in
+      let here = subst (λ (m : ℕ). 1 ≤ times_in (rank m (get_or us k 0)) row) same (ticket_there ns us row k is inside) in
       let le = later k low (omega (arith, inside, long)) in
-      least row (ticket n (get_or us from 0)) at (ticket n (get_or us k 0)) is.rising place here (omega (arith, le))
+      least row (rank n (get_or us from 0)) at (rank n (get_or us k 0)) is.rising place here (omega (arith, le))
 
   pub none_past : length row ≤ at → None ≡ option_map (λ k. from + k) (position (λ m. eqb m n) (drop from ns))
   none_past past = no_next ns n from (λ k low inside same. let in_row = (bound k low inside same).0 in omega (arith, in_row, past))
 
-  pub none_other : (found : ℕ) → get_or row at 0 ≡ found → at < length row → (found / 4294967296 ≡ n → ⊥) → None ≡ option_map (λ k. from + k) (position (λ m. eqb m n) (drop from ns))
-  none_other found here in_row other = no_next ns n from (λ k low inside same.
+  pub none_other : (m a : ℕ) → get_or row at 0 ≡ rank m a → a < 4294967296 → at < length row → (m ≡ n → ⊥) → None ≡ option_map (λ k. from + k) (position (λ m. eqb m n) (drop from ns))
+  none_other m a here few in_row other = no_next ns n from (λ k low inside same.
       let long = is.count in
       let le = (bound k low inside same).1 in
       let ge = place.above at 0 (omega arith) in_row in
       let small = are.small k 0 (omega (arith, inside, long)) in
-      other (omega (arith, le, ge, small, here)))
+      other (omega (arith, le, ge, small, few, here)))
 
-  pub found_next : (found i : ℕ) → get_or row at 0 ≡ found → at < length row → found / 4294967296 ≡ n → IsFirstNotBelow (found % 4294967296) us i
+  pub found_next : (m a i : ℕ) → get_or row at 0 ≡ rank m a → a < 4294967296 → at < length row → m ≡ n → IsFirstNotBelow a us i
       → Some i ≡ option_map (λ k. from + k) (position (λ m. eqb m n) (drop from ns))
-  found_next found i here in_row number first =
+  found_next m a i here few in_row number first =
       let long = is.count in
-      let longer = length-tickets ns us long in
-      let some = times_at row found at in_row here in
-      let same = is.tickets found in
-      let stands = there_at (tickets ns us) found (omega (arith, some, same)) in
+      let longer = length-ranks ns us long in
+      let some = times_at row (rank m a) at in_row here in
+      let same = is.tickets (rank m a) in
+      let stands = there_at (ranks ns us) (rank m a) (omega (arith, some, same)) in
       let j = stands.0 in
       let inside : j < length ns = let lt = stands.1 in omega (arith, lt, longer) in
-      let parts : ticket (get_or ns j 0) (get_or us j 0) ≡ found = sym (ticket_at ns us j long inside) ∙ stands.2 in
+      let parts : rank (get_or ns j 0) (get_or us j 0) ≡ rank m a = sym (rank_at ns us j long inside) ∙ stands.2 in
       let small = are.small j 0 (omega (arith, inside, long)) in
-      let its_number : get_or ns j 0 ≡ n = omega (arith, parts, small, number) in
-      let its_arrival : get_or us j 0 ≡ found % 4294967296 = omega (arith, parts, small) in
+      let its_number : get_or ns j 0 ≡ n = omega (arith, parts, small, few, number) in
+      let its_arrival : get_or us j 0 ≡ a = omega (arith, parts, small, few) in
       let le : i ≤ j = not_before j inside its_arrival (ltb j i) refl in
       let j_is : i ≡ j = not_after j inside its_arrival le (ltb i j) refl in
       let ge = place.above at 0 (omega arith) in_row in
@@ -359,11 +434,11 @@ module _ (ns us row : List ℕ) (n from at : ℕ) (are : AreArrivals us) (is : I
       let most = (bound k low (omega (arith, lt, inside)) same).1 in
       omega (arith, before, most, here, parts, its_number)))
     where
-      not_before : (j : ℕ) → j < length ns → get_or us j 0 ≡ found % 4294967296 → (b : Bool) → ltb j i ≡ b → i ≤ j
+      not_before : (j : ℕ) → j < length ns → get_or us j 0 ≡ a → (b : Bool) → ltb j i ≡ b → i ≤ j
       not_before j inside its true e = let under = first.below j 0 (ltb-true j i e) in absurd (omega (arith, under, its))
       not_before j inside its false e = grind (arith, nat_tests)
 
-      not_after : (j : ℕ) → j < length ns → get_or us j 0 ≡ found % 4294967296 → i ≤ j → (b : Bool) → ltb i j ≡ b → i ≡ j
+      not_after : (j : ℕ) → j < length ns → get_or us j 0 ≡ a → i ≤ j → (b : Bool) → ltb i j ≡ b → i ≡ j
       not_after j inside its le true e =
           let long = is.count in
           let under = are.rising i j 0 (ltb-true i j e) (omega (arith, inside, long)) in

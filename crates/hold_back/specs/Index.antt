@@ -1,72 +1,88 @@
--- What is kept beside the held messages: their numbers of arrival, and rows of what they wait for and of their keys.
+-- What is kept beside the held messages: their numbers of arrival, and rows of tickets for what they wait for and for their keys.
 use Rattle.std.specs.Prelude.{◌≡◌, ℕ, ◌+◌, ◌*◌, ◌<◌, ◌≤◌, ◌==◌, Bool, true, ◌&&◌, List, [], ◌∷◌, Option, None, Some, map, length, nat_lt, slice_index_or, if◌then◌else◌}
 use Rattle.std.specs.VecDeque.{deque_len, deque_capacity}
 use Rattle.std.specs.List.{All, AllPairs, list_all, count_by}
-use Rattle.element_name.specs.Name.{Name}
 use Rattle.edit_message.specs.Message.{key_of}
 use Rattle.edit_message.specs.declared.message.Key.{Key}
 use Rattle.edit_message.specs.declared.message.Key.TheVariants.{Coop, Admin}
 use Rattle.hold_back.specs.declared.held.Held.{Held}
+use Rattle.hold_back.specs.declared.awaited.Awaited.{Awaited}
+use Rattle.hold_back.specs.declared.awaited.Awaited.TheVariants as awaited
+use Rattle.hold_back.specs.declared.awaited.Awaited.TheVariants.{Nothing}
 use Rattle.hold_back.specs.declared.index.Index.{Index}
 use Rattle.hold_back.specs.declared.need.Need.{Need}
 use Rattle.hold_back.specs.declared.need.Need.TheVariants.{Element, Front}
+use Rattle.hold_back.specs.declared.ticket.Ticket.{Ticket}
 use Rattle.hold_back.specs.Hold.{IsHold}
 
--- the number of a name: even, and none is 0
-abbrev pub name_number : Name → ℕ
-name_number name = (name.stamp * 65536 + name.site) * 2 + 2
+-- what a message awaits: nothing where it is woken
+abbrev pub awaited_need : Option Need → Awaited
+awaited_need None = Nothing
+awaited_need (Some (Element name)) = awaited.Element name
+awaited_need (Some (Front version)) = awaited.Version version
 
--- the number of a version: odd
-abbrev pub version_number : ℕ → ℕ
-version_number version = version * 2 + 1
+-- what has a key: a request's name, or an entry's version
+abbrev pub awaited_key : Key → Awaited
+awaited_key (Coop name) = awaited.Element name
+awaited_key (Admin version) = awaited.Version version
 
--- the number of what a message waits for, 0 where it is woken
-abbrev pub need_number : Option Need → ℕ
-need_number None = 0
-need_number (Some (Element name)) = name_number name
-need_number (Some (Front version)) = version_number version
+-- the place of what is awaited in the order: nothing comes first, then versions, then names in their own order
+abbrev pub awaited_rank : Awaited → ℕ
+awaited_rank Nothing = 0
+awaited_rank (awaited.Version version) = version + 1
+awaited_rank (awaited.Element name) = 4294967297 + name.stamp * 65536 + name.site
 
--- the number of a key
-abbrev pub key_number : Key → ℕ
-key_number (Coop name) = name_number name
-key_number (Admin version) = version_number version
+-- it is in the range of its type, so that its rank is that of no other
+abbrev pub is_ranked : Awaited → Bool
+is_ranked Nothing = true
+is_ranked (awaited.Version version) = nat_lt version 4294967296
+is_ranked (awaited.Element name) = nat_lt name.site 65536
 
--- its site has 16 bits, so that its number is that of no other
-abbrev pub site_fits : Name → Bool
-site_fits name = nat_lt name.site 65536
-
--- so has the site of a name that is waited for
+-- so is what a message awaits
 abbrev pub need_fits : Option Need → Bool
-need_fits None = true
-need_fits (Some (Element name)) = site_fits name
-need_fits (Some (Front version)) = true
+need_fits need = is_ranked (awaited_need need)
 
--- so has the site of a request's name
+-- so is what has the key
 abbrev pub key_fits : Key → Bool
-key_fits (Coop name) = site_fits name
-key_fits (Admin version) = true
+key_fits key = is_ranked (awaited_key key)
 
--- so have both
+-- so are both
 abbrev pub held_fits : Held → Bool
 held_fits h = need_fits h.need && key_fits (key_of h.message)
 
--- the numbers of what the messages wait for, in order of arrival
-abbrev pub need_numbers : List Held → List ℕ
-need_numbers held = map (λ h. need_number h.need) held
+-- the rank of what a message awaits
+abbrev pub need_rank : Option Need → ℕ
+need_rank need = awaited_rank (awaited_need need)
 
--- the numbers of their keys, in order of arrival
-abbrev pub key_numbers : List Held → List ℕ
-key_numbers held = map (λ h. key_number (key_of h.message)) held
+-- the rank of a key
+abbrev pub key_rank : Key → ℕ
+key_rank key = awaited_rank (awaited_key key)
 
--- a number and below it, in 32 bits, a number of arrival
-abbrev pub ticket : ℕ → ℕ → ℕ
-ticket number arrival = number * 4294967296 + arrival
+-- the ranks of what the messages await, in order of arrival
+abbrev pub need_ranks : List Held → List ℕ
+need_ranks held = map (λ h. need_rank h.need) held
 
--- the tickets of messages of these numbers that came so
-abbrev pub tickets : List ℕ → List ℕ → List ℕ
-tickets [] arrivals = []
-tickets (n ∷ numbers) [] = []
-tickets (n ∷ numbers) (a ∷ arrivals) = ticket n a ∷ tickets numbers arrivals
+-- the ranks of their keys, in order of arrival
+abbrev pub key_ranks : List Held → List ℕ
+key_ranks held = map (λ h. key_rank (key_of h.message)) held
+
+-- the rank of a ticket: that of what is awaited, and then the number of arrival
+abbrev pub rank : ℕ → ℕ → ℕ
+rank awaited arrival = awaited * 4294967296 + arrival
+
+-- the rank of a ticket, by which tickets are ordered
+abbrev pub ticket_rank : Ticket → ℕ
+ticket_rank t = rank (awaited_rank t.awaited) t.arrival
+
+-- those of the tickets in a row
+abbrev pub ticket_ranks : List Ticket → List ℕ
+ticket_ranks row = map ticket_rank row
+
+-- the ranks of the tickets of messages that await what has these ranks, and came so
+abbrev pub ranks : List ℕ → List ℕ → List ℕ
+ranks [] arrivals = []
+ranks (n ∷ awaited) [] = []
+ranks (n ∷ awaited) (a ∷ arrivals) = rank n a ∷ ranks awaited arrivals
 
 -- how often x stands in the row
 abbrev pub times_in : ℕ → List ℕ → ℕ
@@ -97,11 +113,11 @@ pub record AreArrivals (arrivals : List ℕ) : Type 0 where
   pub rising : AllPairs (λ a b. a < b) arrivals
   pub small : All (λ a. a < 4294967296) arrivals
 
--- the row has the tickets of messages of these numbers that came so, in rising order
-pub record IsTicketRow (numbers arrivals row : List ℕ) : Type 0 where
-  pub count : length numbers ≡ length arrivals
+-- the row has the ranks of the tickets of messages that await what has these ranks, and came so, in rising order
+pub record IsTicketRow (awaited arrivals row : List ℕ) : Type 0 where
+  pub count : length awaited ≡ length arrivals
   pub rising : IsRisingRow row
-  pub tickets : (x : ℕ) → times_in x row ≡ times_in x (tickets numbers arrivals)
+  pub tickets : (x : ℕ) → times_in x row ≡ times_in x (ranks awaited arrivals)
 
 -- there is room for one more message
 pub record HasIndexRoom (index : Index) : Type 0 where
@@ -109,14 +125,28 @@ pub record HasIndexRoom (index : Index) : Type 0 where
   pub needs : deque_len index.needs < deque_capacity index.needs
   pub keys : deque_len index.keys < deque_capacity index.keys
 
--- the rows are those of messages with these numbers of needs and of keys
+-- a message of this number of arrival comes behind all
+pub record IsNextArrival (index : Index) (arrival : ℕ) : Type 0 where
+  pub later : All (λ a. a < arrival) index.arrivals.items
+  pub small : arrival < 4294967296
+
+-- there is room for a message of this number of arrival, which comes behind all
+pub record HasRoomFor (index : Index) (arrival : ℕ) : Type 0 where
+  pub room : HasIndexRoom index
+  pub next : IsNextArrival index arrival
+
+-- the rows are those of messages that await what has these ranks, and with keys of these ranks
 pub record IsIndexOf (needs keys : List ℕ) (index : Index) : Type 0 where
   pub arrivals : AreArrivals index.arrivals.items
-  pub waiting : IsTicketRow needs index.arrivals.items index.needs.items
-  pub keyed : IsTicketRow keys index.arrivals.items index.keys.items
+  pub waiting : IsTicketRow needs index.arrivals.items (ticket_ranks index.needs.items)
+  pub keyed : IsTicketRow keys index.arrivals.items (ticket_ranks index.keys.items)
+
+-- the rows are those of the messages
+abbrev pub AreRowsOf : List Held → Index → Type 0
+AreRowsOf held index = IsIndexOf (need_ranks held) (key_ranks held) index
 
 -- the rows are those of the held messages
 pub record IsIndexed (held : List Held) (index : Index) : Type 0 where
   pub hold : IsHold held
   pub fit : list_all held_fits held ≡ true
-  pub rows : IsIndexOf (need_numbers held) (key_numbers held) index
+  pub rows : AreRowsOf held index

@@ -7,18 +7,17 @@ ghost use Rattle.hold_back.specs.declared.fault.HoldFault.TheVariants.{NoMemory 
 ghost use Rattle.hold_back.specs.declared.held.Held.{Held};
 ghost use Rattle.element_name.specs.Growing.{EachAfter};
 ghost use Rattle.edit_message.specs.Message.{key_of, key_eq};
-ghost use Rattle.hold_back.specs.Hold.{find_held, keep_fault, woken_at, waiting_at, woken_from, waiting_from, due_at};
+ghost use Rattle.hold_back.specs.Hold.{find_held, keep_fault, needing_at, woken_at, waiting_at, woken_from, waiting_from, due_at};
 ghost use Rattle.hold_back.specs.Hold.{only_woken_due, is_woken, waits_for, IsNewKey, keys_of};
-ghost use Rattle.hold_back.specs.Index.{IsIndexed, IsIndexOf, HasIndexRoom, need_numbers, key_numbers, held_fits};
+ghost use Rattle.hold_back.specs.Index.{IsIndexed, AreRowsOf, HasRoomFor, awaited_rank, need_ranks, held_fits};
 ghost use Rattle.std.specs.List.{All};
 
+use crate::awaited::Awaited;
 use crate::fault::HoldFault;
 use crate::held::Held;
 use crate::index::Index;
 use crate::need::Need;
-use crate::number::{key_number, need_number};
 use crate::parcel::Parcel;
-use crate::row::NUMBERS;
 use edit_message::{Key, Message};
 use std::alloc::Global;
 use std::marker::Model;
@@ -41,7 +40,7 @@ pub trait Due {
 
 /// Held messages in order of arrival, each waiting under its need, or woken. Each lies behind a pointer, so that little
 /// moves where one is taken out; it takes about 450 bytes. Rows beside them, in rising order, have what each waits for and
-/// its key, in 36 bytes, so that a message is found by halves and no call passes over the held ones.
+/// its key, in 52 bytes, so that a message is found by halves and no call passes over the held ones.
 #[derive(Drop)]
 pub struct HoldBack {
     alloc: Global,
@@ -90,7 +89,7 @@ impl HoldBack {
     pub fn find(&self, key: Key) -> Option<&Message>
         ensures { option_copied result ≡ find_held key self.now }
     {
-        match self.index.place(key_number(&key)) {
+        match self.index.place(&Awaited::of_key(key)) {
             Some(place) => message_at(&self.held, place),
             None => None,
         }
@@ -108,11 +107,11 @@ impl HoldBack {
         if self.held.len() >= MAX_HELD {
             return Err(HoldFault::Full);
         }
-        let key = key_number(&message.key());
-        let number = need_number(&Some(need));
+        let key = Awaited::of_key(message.key());
+        let awaited = Awaited::of_need(&Some(need));
         let arrival = make_room(&mut self.index, self.alloc, &self.held)?;
         put(&mut self.held, self.alloc, message, &need)?;
-        self.index.enter(arrival, number, key);
+        self.index.enter(arrival, &awaited, &key);
         Ok(())
     }
 
@@ -122,9 +121,7 @@ impl HoldBack {
         requires { i < length self.old }
         ensures { self.new ≡ woken_at i self.old }
     {
-        let left = need_number(&need_at(&self.held, i as usize));
-        set_woken(&mut self.held, i as usize);
-        self.index.exchange(i as usize, left, 0);
+        self.need_anew(i as usize, None);
     }
 
     /// Lets go of a need that is met, under which no message waits any more. Nothing is kept for such a need, so nothing is
@@ -140,17 +137,25 @@ impl HoldBack {
         requires { i < length self.old }
         ensures { self.new ≡ waiting_at i need self.old }
     {
-        let left = need_number(&need_at(&self.held, i as usize));
-        set_need(&mut self.held, i as usize, &need);
-        self.index
-            .exchange(i as usize, left, need_number(&Some(need)));
+        self.need_anew(i as usize, Some(need));
+    }
+
+    // Has the message at a place wait under a need, or no more where there is none.
+    fn need_anew(&mut self, i: usize, need: Option<Need>)
+        requires { i < length self.old }
+        ensures { self.new ≡ needing_at i need self.old }
+    {
+        let left = Awaited::of_need(&need_at(&self.held, i));
+        let awaited = Awaited::of_need(&need);
+        set_need(&mut self.held, i, &need);
+        self.index.exchange(i, &left, &awaited);
     }
 
     /// The least place at or above `from` whose message is woken, in time logarithmic in the number of held messages.
     pub fn woken(&self, from: u32) -> Option<u32>
         ensures { result ≡ woken_from from self.now }
     {
-        self.next(0, from)
+        self.next(&Awaited::Nothing, from)
     }
 
     /// The least place at or above `from` whose message waits under the need, in time logarithmic in the number of held
@@ -158,17 +163,16 @@ impl HoldBack {
     pub fn waiting(&self, need: Need, from: u32) -> Option<u32>
         ensures { result ≡ waiting_from need from self.now }
     {
-        self.next(need_number(&Some(need)), from)
+        self.next(&Awaited::of_need(&Some(need)), from)
     }
 
-    // The least place at or above `from` of a message whose need has the number.
-    fn next(&self, number: u128, from: u32) -> Option<u32>
-        requires { number < NUMBERS }
-        ensures place { result ≡ option_map (λ k. from + k) (position (λ n. n == number) (drop from (need_numbers self.now))) }
+    // The least place at or above `from` of a message that awaits this.
+    fn next(&self, awaited: &Awaited, from: u32) -> Option<u32>
+        ensures place { result ≡ option_map (λ k. from + k) (position (λ n. n == awaited_rank awaited.now) (drop from (need_ranks self.now))) }
         ensures within { IfSome result (λ i. i < length self.now) }
         ensures fit { list_all held_fits self.now ≡ true }
     {
-        match self.index.waiting(number, from as usize) {
+        match self.index.waiting(awaited, from as usize) {
             Some(place) => Some(place as u32),
             None => None,
         }
@@ -198,8 +202,9 @@ impl HoldBack {
         ensures rest { self.new ≡ remove self.old i }
     {
         let held = take_out(&mut self.held, i as usize);
-        let key = key_number(&held.message.key());
-        self.index.leave(i as usize, need_number(&held.need), key);
+        let key = Awaited::of_key(held.message.key());
+        let awaited = Awaited::of_need(&held.need);
+        self.index.leave(i as usize, &awaited, &key);
         held.message
     }
 }
@@ -259,18 +264,11 @@ fn need_at(held: &[Parcel], i: usize) -> Option<Need>
     held[i].need()
 }
 
-fn set_need(held: &mut Vec<Parcel>, i: usize, need: &Need)
+fn set_need(held: &mut Vec<Parcel>, i: usize, need: &Option<Need>)
     requires { i < length held.old.items }
-    ensures { held.new.items ≡ waiting_at i need.now held.old.items }
+    ensures { held.new.items ≡ needing_at i need.now held.old.items }
 {
     held[i].wait(*need);
-}
-
-fn set_woken(held: &mut Vec<Parcel>, i: usize)
-    requires { i < length held.old.items }
-    ensures { held.new.items ≡ woken_at i held.old.items }
-{
-    held[i].hear();
 }
 
 fn take_out(held: &mut Vec<Parcel>, i: usize) -> Held
@@ -284,7 +282,7 @@ fn take_out(held: &mut Vec<Parcel>, i: usize) -> Held
 /// The index of messages that are numbered anew, by their places.
 fn numbered(alloc: Global, held: &[Parcel]) -> Result<Index, HoldFault>
     requires { length held.now ≤ MAX_HELD }
-    ensures ok { IfOk result (λ index. IsIndexOf (need_numbers held.now) (key_numbers held.now) index × All (λ a. a < length held.now) index.arrivals.items) }
+    ensures ok { IfOk result (λ index. AreRowsOf held.now index × All (λ a. a < length held.now) index.arrivals.items) }
     ensures fault { IfErr result (λ fault. fault ≡ no_memory) }
 {
     let mut index = Index::new(alloc);
@@ -292,8 +290,9 @@ fn numbered(alloc: Global, held: &[Parcel]) -> Result<Index, HoldFault>
     while i < held.len() {
         index.reserve()?;
         let parcel = &held[i];
-        let key = key_number(&parcel.message().key());
-        index.enter(i as u32, need_number(&parcel.need()), key);
+        let key = Awaited::of_key(parcel.message().key());
+        let awaited = Awaited::of_need(&parcel.need());
+        index.enter(i as u32, &awaited, &key);
         i += 1;
     }
     Ok(index)
@@ -303,9 +302,9 @@ fn numbered(alloc: Global, held: &[Parcel]) -> Result<Index, HoldFault>
 #[inline(never)]
 fn renumber(index: &mut Index, alloc: Global, held: &[Parcel]) -> Result<u32, HoldFault>
     requires few { length held.now ≤ MAX_HELD }
-    requires index { IsIndexOf (need_numbers held.now) (key_numbers held.now) index.old }
-    ensures index { IsIndexOf (need_numbers held.now) (key_numbers held.now) index.new }
-    ensures ok { IfOk result (λ a. HasIndexRoom index.new × All (λ b. b < a) index.new.arrivals.items × (a < 4294967296)) }
+    requires index { AreRowsOf held.now index.old }
+    ensures index { AreRowsOf held.now index.new }
+    ensures ok { IfOk result (λ a. HasRoomFor index.new a) }
     ensures fault { IfErr result (λ fault. fault ≡ no_memory) }
 {
     let mut fresh = numbered(alloc, held)?;
@@ -318,9 +317,9 @@ fn renumber(index: &mut Index, alloc: Global, held: &[Parcel]) -> Result<u32, Ho
 /// numbered anew.
 fn make_room(index: &mut Index, alloc: Global, held: &[Parcel]) -> Result<u32, HoldFault>
     requires few { length held.now ≤ MAX_HELD }
-    requires index { IsIndexOf (need_numbers held.now) (key_numbers held.now) index.old }
-    ensures index { IsIndexOf (need_numbers held.now) (key_numbers held.now) index.new }
-    ensures ok { IfOk result (λ a. HasIndexRoom index.new × All (λ b. b < a) index.new.arrivals.items × (a < 4294967296)) }
+    requires index { AreRowsOf held.now index.old }
+    ensures index { AreRowsOf held.now index.new }
+    ensures ok { IfOk result (λ a. HasRoomFor index.new a) }
     ensures fault { IfErr result (λ fault. fault ≡ no_memory) }
 {
     index.reserve()?;

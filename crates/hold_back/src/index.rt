@@ -3,19 +3,21 @@ ghost use Rattle.std.specs.Prelude.{◌≡◌, ◌<◌, ◌≤◌, ◌+◌, ◌=
 ghost use Rattle.std.specs.List.{All};
 ghost use Rattle.std.specs.VecDeque.{deque_len, deque_capacity};
 ghost use Rattle.hold_back.specs.declared.fault.HoldFault.TheVariants.{NoMemory as no_memory};
-ghost use Rattle.hold_back.specs.Index.{ticket, times_in, IsRisingRow, IsWith, IsWithout, HasIndexRoom, AreArrivals, IsTicketRow, IsIndexOf};
+ghost use Rattle.hold_back.specs.Index.{awaited_rank, rank, ticket_ranks, times_in, IsRisingRow, IsWith, IsWithout, HasIndexRoom, IsNextArrival, AreArrivals, IsTicketRow, IsIndexOf};
 
+use crate::awaited::Awaited;
 use crate::fault::HoldFault;
-use crate::row::{self, NUMBERS};
+use crate::row;
+use crate::ticket::Ticket;
 use std::alloc::Global;
 use std::collections::VecDeque;
 
-/// The messages' numbers of arrival, and rows of tickets: what each waits for, and its key, with its number of arrival.
+/// The messages' numbers of arrival, and rows of tickets: of what each waits for, and of its key. A message takes 52 bytes.
 #[derive(Drop)]
 pub(crate) struct Index {
     arrivals: VecDeque<u32>,
-    needs: VecDeque<u128>,
-    keys: VecDeque<u128>,
+    needs: VecDeque<Ticket>,
+    keys: VecDeque<Ticket>,
 }
 
 impl Index {
@@ -46,7 +48,7 @@ impl Index {
     /// The number of arrival of the next message; none where all are used.
     pub(crate) fn next_arrival(&self) -> Option<u32>
         requires { AreArrivals self.now.arrivals.items }
-        ensures { IfSome result (λ a. All (λ b. b < a) self.now.arrivals.items × (a < 4294967296)) }
+        ensures { IfSome result (λ a. IsNextArrival self.now a) }
     {
         match self.arrivals.back() {
             None => Some(0),
@@ -54,78 +56,70 @@ impl Index {
         }
     }
 
-    /// The least place at or above `from` of a message of the need. Takes time logarithmic in the number of messages.
-    pub(crate) fn waiting(&self, need: u128, from: usize) -> Option<usize>
-        requires need { need < NUMBERS }
+    /// The least place at or above `from` of a message that awaits this. Takes time logarithmic in the number of messages.
+    pub(crate) fn waiting(&self, need: &Awaited, from: usize) -> Option<usize>
         requires arrivals { AreArrivals self.now.arrivals.items }
-        requires rising { IsRisingRow self.now.needs.items }
-        ensures { (needs : List ℕ) → IsTicketRow needs self.now.arrivals.items self.now.needs.items
-            → result ≡ option_map (λ k. from + k) (position (λ n. n == need) (drop from needs)) }
+        requires rising { IsRisingRow (ticket_ranks self.now.needs.items) }
+        ensures { (needs : List ℕ) → IsTicketRow needs self.now.arrivals.items (ticket_ranks self.now.needs.items)
+            → result ≡ option_map (λ k. from + k) (position (λ n. n == awaited_rank need.now) (drop from needs)) }
     {
         row::next(&self.needs, &self.arrivals, need, from)
     }
 
     /// The least place of a message of the key. Takes time logarithmic in the number of messages.
-    pub(crate) fn place(&self, key: u128) -> Option<usize>
-        requires key { key < NUMBERS }
+    pub(crate) fn place(&self, key: &Awaited) -> Option<usize>
         requires arrivals { AreArrivals self.now.arrivals.items }
-        requires rising { IsRisingRow self.now.keys.items }
-        ensures { (keys : List ℕ) → IsTicketRow keys self.now.arrivals.items self.now.keys.items
-            → result ≡ position (λ n. n == key) keys }
+        requires rising { IsRisingRow (ticket_ranks self.now.keys.items) }
+        ensures { (keys : List ℕ) → IsTicketRow keys self.now.arrivals.items (ticket_ranks self.now.keys.items)
+            → result ≡ position (λ n. n == awaited_rank key.now) keys }
     {
         row::next(&self.keys, &self.arrivals, key, 0)
     }
 
-    /// One more message, of this number of arrival, need and key. The memory is there.
-    pub(crate) fn enter(&mut self, arrival: u32, need: u128, key: u128)
+    /// One more message, of this number of arrival, which awaits this and has this key. The memory is there.
+    pub(crate) fn enter(&mut self, arrival: u32, need: &Awaited, key: &Awaited)
         requires room { HasIndexRoom self.old }
-        requires need { need < NUMBERS }
-        requires key { key < NUMBERS }
-        requires needs { IsRisingRow self.old.needs.items }
-        requires keys { IsRisingRow self.old.keys.items }
+        requires needs { IsRisingRow (ticket_ranks self.old.needs.items) }
+        requires keys { IsRisingRow (ticket_ranks self.old.keys.items) }
         ensures arrivals { self.new.arrivals.items ≡ self.old.arrivals.items ++ arrival ∷ [] }
-        ensures needs { IsWith (ticket need arrival) self.old.needs.items self.new.needs.items }
-        ensures keys { IsWith (ticket key arrival) self.old.keys.items self.new.keys.items }
+        ensures needs { IsWith (rank (awaited_rank need.now) arrival) (ticket_ranks self.old.needs.items) (ticket_ranks self.new.needs.items) }
+        ensures keys { IsWith (rank (awaited_rank key.now) arrival) (ticket_ranks self.old.keys.items) (ticket_ranks self.new.keys.items) }
     {
-        row::enter(&mut self.needs, row::ticket(need, arrival));
-        row::enter(&mut self.keys, row::ticket(key, arrival));
+        row::enter(&mut self.needs, &Ticket::of(need, arrival));
+        row::enter(&mut self.keys, &Ticket::of(key, arrival));
         row::push(&mut self.arrivals, arrival);
     }
 
-    /// The message at a place, which has this need and key, no more.
-    pub(crate) fn leave(&mut self, i: usize, need: u128, key: u128)
+    /// The message at a place, which awaits this and has this key, no more.
+    pub(crate) fn leave(&mut self, i: usize, need: &Awaited, key: &Awaited)
         requires within { i < length self.old.arrivals.items }
-        requires need { need < NUMBERS }
-        requires key { key < NUMBERS }
-        requires needs { IsRisingRow self.old.needs.items }
-        requires keys { IsRisingRow self.old.keys.items }
-        requires in_needs { 1 ≤ times_in (ticket need (slice_index_or self.old.arrivals.items i 0)) self.old.needs.items }
-        requires in_keys { 1 ≤ times_in (ticket key (slice_index_or self.old.arrivals.items i 0)) self.old.keys.items }
+        requires needs { IsRisingRow (ticket_ranks self.old.needs.items) }
+        requires keys { IsRisingRow (ticket_ranks self.old.keys.items) }
+        requires in_needs { 1 ≤ times_in (rank (awaited_rank need.now) (slice_index_or self.old.arrivals.items i 0)) (ticket_ranks self.old.needs.items) }
+        requires in_keys { 1 ≤ times_in (rank (awaited_rank key.now) (slice_index_or self.old.arrivals.items i 0)) (ticket_ranks self.old.keys.items) }
         ensures arrivals { self.new.arrivals.items ≡ remove self.old.arrivals.items i }
-        ensures needs { IsWithout (ticket need (slice_index_or self.old.arrivals.items i 0)) self.old.needs.items self.new.needs.items }
-        ensures keys { IsWithout (ticket key (slice_index_or self.old.arrivals.items i 0)) self.old.keys.items self.new.keys.items }
+        ensures needs { IsWithout (rank (awaited_rank need.now) (slice_index_or self.old.arrivals.items i 0)) (ticket_ranks self.old.needs.items) (ticket_ranks self.new.needs.items) }
+        ensures keys { IsWithout (rank (awaited_rank key.now) (slice_index_or self.old.arrivals.items i 0)) (ticket_ranks self.old.keys.items) (ticket_ranks self.new.keys.items) }
     {
         let arrival = self.arrivals[i];
-        row::leave(&mut self.needs, row::ticket(need, arrival));
-        row::leave(&mut self.keys, row::ticket(key, arrival));
+        row::leave(&mut self.needs, &Ticket::of(need, arrival));
+        row::leave(&mut self.keys, &Ticket::of(key, arrival));
         row::take_at(&mut self.arrivals, i);
     }
 
-    /// The message at a place has another need. Takes no memory.
-    pub(crate) fn exchange(&mut self, i: usize, left: u128, need: u128)
+    /// The message at a place awaits another thing. Takes no memory.
+    pub(crate) fn exchange(&mut self, i: usize, left: &Awaited, need: &Awaited)
         requires within { i < length self.old.arrivals.items }
-        requires left { left < NUMBERS }
-        requires need { need < NUMBERS }
-        requires needs { IsRisingRow self.old.needs.items }
-        requires in_needs { 1 ≤ times_in (ticket left (slice_index_or self.old.arrivals.items i 0)) self.old.needs.items }
+        requires needs { IsRisingRow (ticket_ranks self.old.needs.items) }
+        requires in_needs { 1 ≤ times_in (rank (awaited_rank left.now) (slice_index_or self.old.arrivals.items i 0)) (ticket_ranks self.old.needs.items) }
         ensures arrivals { self.new.arrivals.items ≡ self.old.arrivals.items }
         ensures keys { self.new.keys.items ≡ self.old.keys.items }
-        ensures needs { (between : List ℕ) × IsWithout (ticket left (slice_index_or self.old.arrivals.items i 0)) self.old.needs.items between
-            × IsWith (ticket need (slice_index_or self.old.arrivals.items i 0)) between self.new.needs.items }
+        ensures needs { (between : List ℕ) × IsWithout (rank (awaited_rank left.now) (slice_index_or self.old.arrivals.items i 0)) (ticket_ranks self.old.needs.items) between
+            × IsWith (rank (awaited_rank need.now) (slice_index_or self.old.arrivals.items i 0)) between (ticket_ranks self.new.needs.items) }
     {
         let arrival = self.arrivals[i];
-        let left = row::ticket(left, arrival);
-        row::exchange(&mut self.needs, left, row::ticket(need, arrival));
+        let left = Ticket::of(left, arrival);
+        row::exchange(&mut self.needs, &left, &Ticket::of(need, arrival));
     }
 }
 

@@ -4,15 +4,16 @@
 //! It must not know what becomes of a message that is let go.
 #![tactic(auto)]
 
+mod awaited;
 mod fault;
 mod held;
 mod hold;
 mod index;
 pub mod laws;
 mod need;
-mod number;
 mod parcel;
 mod row;
+mod ticket;
 
 pub use fault::HoldFault;
 pub use held::Held;

@@ -1,5 +1,5 @@
 //! Held messages behind pointers.
-ghost use Rattle.std.specs.Prelude.{◌≡◌, IfOk, None};
+ghost use Rattle.std.specs.Prelude.{◌≡◌, IfOk};
 
 use crate::held::Held;
 use crate::need::Need;
@@ -48,16 +48,10 @@ impl Parcel {
         self.inside.need
     }
 
-    // Woken.
-    pub(crate) fn hear(&mut self)
-        ensures { self.new ≡ record { message = self.old.message; need = None } }
+    // It waits under this need, or is woken where there is none.
+    pub(crate) fn wait(&mut self, need: Option<Need>)
+        ensures { self.new ≡ record { message = self.old.message; need = need } }
     {
-        self.inside.need = None;
-    }
-
-    pub(crate) fn wait(&mut self, need: Need)
-        ensures { self.new ≡ record { message = self.old.message; need = Some need } }
-    {
-        self.inside.need = Some(need);
+        self.inside.need = need;
     }
 }

@@ -1,0 +1,88 @@
+//! What is awaited.
+ghost use Rattle.std.specs.Prelude.{◌≡◌, ◌==◌, ◌<◌, true, nat_lt};
+ghost use Rattle.hold_back.specs.declared.awaited.Awaited.TheVariants as awaited;
+ghost use Rattle.hold_back.specs.Index.{awaited_need, awaited_key, awaited_rank, is_ranked, need_fits, key_fits};
+
+use crate::need::Need;
+use edit_message::Key;
+use name_index::PackedName;
+
+/// What a message awaits, or what has its key. In the order nothing comes first, then versions, and then elements.
+#[derive(Clone, Copy)]
+pub(crate) enum Awaited {
+    /// Nothing: the message is woken.
+    Nothing,
+    /// This version, or as many entries of the log.
+    Version(u32),
+    /// The element or the request of this name.
+    Element(PackedName),
+}
+
+impl Awaited {
+    /// What a message awaits that has this need, or none.
+    pub(crate) fn of_need(need: &Option<Need>) -> Awaited
+        ensures value { result ≡ awaited_need need.now }
+        ensures fits { need_fits need.now ≡ true }
+    {
+        match *need {
+            None => Awaited::Nothing,
+            Some(Need::Element(name)) => Awaited::Element(PackedName::of(name)),
+            Some(Need::Front(version)) => Awaited::of_version(version),
+        }
+    }
+
+    /// What has the key.
+    pub(crate) fn of_key(key: Key) -> Awaited
+        ensures value { result ≡ awaited_key key }
+        ensures fits { key_fits key ≡ true }
+    {
+        match key {
+            Key::Coop(name) => Awaited::Element(PackedName::of(name)),
+            Key::Admin(version) => Awaited::of_version(version),
+        }
+    }
+
+    fn of_version(version: u32) -> Awaited
+        ensures value { result ≡ awaited.Version version }
+        ensures fits { is_ranked result ≡ true }
+    {
+        Awaited::Version(version)
+    }
+
+    /// Whether this is before the other in the order.
+    pub(crate) fn is_before(&self, other: &Awaited) -> bool
+        ensures { result ≡ nat_lt (awaited_rank self.now) (awaited_rank other.now) }
+    {
+        match (self, other) {
+            (_, Awaited::Nothing) => false,
+            (Awaited::Nothing, _) => true,
+            (Awaited::Version(own), Awaited::Version(version)) => own < version,
+            (Awaited::Version(own), Awaited::Element(_)) => precedes_names(*own),
+            (Awaited::Element(_), Awaited::Version(version)) => !precedes_names(*version),
+            (Awaited::Element(own), Awaited::Element(name)) => is_lesser(*own, *name),
+        }
+    }
+
+    /// Whether both are one.
+    pub(crate) fn is_same(&self, other: &Awaited) -> bool
+        ensures { result ≡ (awaited_rank self.now == awaited_rank other.now) }
+    {
+        !self.is_before(other) && !other.is_before(self)
+    }
+}
+
+// Each version does.
+fn precedes_names(version: u32) -> bool
+    ensures value { result ≡ true }
+    ensures small { version < 4294967296 }
+{
+    true
+}
+
+fn is_lesser(own: PackedName, name: PackedName) -> bool
+    ensures { result ≡ nat_lt (awaited_rank (awaited.Element own)) (awaited_rank (awaited.Element name)) }
+{
+    let own = own.name();
+    let name = name.name();
+    own.stamp() < name.stamp() || (own.stamp() == name.stamp() && own.site() < name.site())
+}
