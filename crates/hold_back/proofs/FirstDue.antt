@@ -13,12 +13,12 @@ use Rattle.hold_back.specs.declared.held.Held.{Held}
 use Rattle.hold_back.specs.Hold.{is_woken, woken_from, due_at, only_woken_due}
 
 -- what the first woken one from a place on is
-pub record IsFirstWoken (held : List Held) (from i : ℕ) : Type 0 where
+record IsFirstWoken (held : List Held) (from i : ℕ) : Type 0 where
   pub low : from ≤ i
   pub within : i < length held
   pub before : (k : ℕ) (d : Held) → from ≤ k → k < i → is_woken (get_or held k d) ≡ false
 
-pub first_woken : (held : List Held) (from i : ℕ) → Some i ≡ woken_from from held → IsFirstWoken held from i
+first_woken : (held : List Held) (from i : ℕ) → Some i ≡ woken_from from held → IsFirstWoken held from i
 first_woken held from i found = by (position is_woken (drop from held)) refl found
   where
     by : (x : Option ℕ) → position is_woken (drop from held) ≡ x → Some i ≡ option_map (λ k. from + k) x → IsFirstWoken held from i
@@ -81,21 +81,30 @@ none_up_to due held from i only before first k d lt = by (ltb k from) refl
         let low : from ≤ k = grind (arith, nat_tests, e) in
         not_due due held only k d (omega (arith, lt, inside)) (first.before k d low lt)
 
-pub none_more : (due : Message → Bool) (held : List Held) (from i : ℕ) → only_woken_due due held ≡ true → NoneBefore due held from → IsFirstWoken held from i
+-- what a test of the one at a place says
+pub tested : (due : Message → Bool) (given held : List Held) (i : ℕ) (r b : Bool) → ((d : Held) → r ≡ due (get_or given i d).message) → given ≡ held → r ≡ b
+    → (d : Held) → due (get_or held i d).message ≡ b
+tested due given held i r b says same is d = sym (says d ∙ ap (λ (hs : List Held). due (get_or hs i d).message) same) ∙ is
+
+pub none_more : (due : Message → Bool) (held : List Held) (from i : ℕ) → only_woken_due due held ≡ true → NoneBefore due held from → Some i ≡ woken_from from held
     → ((d : Held) → due (get_or held i d).message ≡ false) → NoneBefore due held (i + 1)
-none_more due held from i only before first it k d lt = by (ltb k i) refl
+none_more due held from i only before found it k d lt = by (ltb k i) refl
   where
+    first : IsFirstWoken held from i
+    first = first_woken held from i found
+
     by : (b : Bool) → ltb k i ≡ b → due (get_or held k d).message ≡ false
     by true e = none_up_to due held from i only before first k d (ltb-true k i e)
     by false e =
         let same : i ≡ k = grind (arith, nat_tests, e, lt) in
         ap (λ m. due (get_or held m d).message) (sym same) ∙ it d
 
-pub due_found : (due : Message → Bool) (held : List Held) (from i : ℕ) → only_woken_due due held ≡ true → NoneBefore due held from → IsFirstWoken held from i
+pub due_found : (due : Message → Bool) (held : List Held) (from i : ℕ) → only_woken_due due held ≡ true → NoneBefore due held from → Some i ≡ woken_from from held
     → ((d : Held) → due (get_or held i d).message ≡ true) → Some i ≡ due_at due held
-due_found due [] from i only before first it = absurd (let lt = first.within in omega (arith, lt))
-due_found due (h ∷ held) from i only before first it =
+due_found due [] from i only before found it = absurd (let lt = (first_woken [] from i found).within in omega (arith, lt))
+due_found due (h ∷ held) from i only before found it =
     let p = λ (x : Held). due x.message in
+    let first = first_woken (h ∷ held) from i found in
     let inside = first.within in
     let at : position_or_len p (h ∷ held) ≡ i = position_or_len_is p (h ∷ held) i h (omega (arith, inside)) (λ k lt. none_up_to due (h ∷ held) from i only before first k h lt) (λ lt. it h) in
     let yes : ltb (position_or_len p (h ∷ held)) (length (h ∷ held)) ≡ true = grind (arith, nat_tests, at, inside) in
