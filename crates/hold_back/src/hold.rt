@@ -298,19 +298,16 @@ fn numbered(alloc: Global, held: &[Parcel]) -> Result<Index, HoldFault>
     Ok(index)
 }
 
-/// Numbers the messages anew, and takes the memory for one more; its number of arrival.
+/// The index of messages that are numbered anew, with the memory for one more.
 #[inline(never)]
-fn renumber(index: &mut Index, alloc: Global, held: &[Parcel]) -> Result<u32, HoldFault>
-    requires few { length held.now ≤ MAX_HELD }
-    requires index { AreRowsOf held.now index.old }
-    ensures index { AreRowsOf held.now index.new }
-    ensures ok { IfOk result (λ a. HasRoomFor index.new a) }
+fn renumbered(alloc: Global, held: &[Parcel]) -> Result<Index, HoldFault>
+    requires { length held.now ≤ MAX_HELD }
+    ensures ok { IfOk result (λ index. AreRowsOf held.now index × HasRoomFor index (length held.now)) }
     ensures fault { IfErr result (λ fault. fault ≡ no_memory) }
 {
-    let mut fresh = numbered(alloc, held)?;
-    fresh.reserve()?;
-    *index = fresh;
-    Ok(held.len() as u32)
+    let mut index = numbered(alloc, held)?;
+    index.reserve()?;
+    Ok(index)
 }
 
 /// Takes the memory for one more message in the index; its number of arrival. Once in 4,294,967,296 messages they are
@@ -323,8 +320,9 @@ fn make_room(index: &mut Index, alloc: Global, held: &[Parcel]) -> Result<u32, H
     ensures fault { IfErr result (λ fault. fault ≡ no_memory) }
 {
     index.reserve()?;
-    match index.next_arrival() {
-        Some(arrival) => Ok(arrival),
-        None => renumber(index, alloc, held),
+    if let Some(arrival) = index.next_arrival() {
+        return Ok(arrival);
     }
+    *index = renumbered(alloc, held)?;
+    Ok(held.len() as u32)
 }
