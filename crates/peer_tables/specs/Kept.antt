@@ -73,12 +73,12 @@ abbrev pub with_element : Table → Request → Table
 with_element cells q = if is_insert q.edit then record cells { inserts = including q cells.inserts } else cells
 
 -- the table with the request among those that count
-abbrev pub with_counted : Table → Request → Table
-with_counted cells q = record cells { counted = including q cells.counted }
+abbrev pub with_one_counted : Table → Request → Table
+with_one_counted cells q = record cells { counted = including q cells.counted }
 
 -- the same, unless its state is Invalid
 abbrev pub counted_by : Table → Request → State → Table
-counted_by cells q state = if is_invalid state then cells else with_counted cells q
+counted_by cells q state = if is_invalid state then cells else with_one_counted cells q
 
 -- both
 abbrev pub cells_joined : Table → Request → State → Table

@@ -6,7 +6,7 @@ ghost use Rattle.request_state.specs.Table.{kept_of, with_request};
 ghost use Rattle.check_remote.specs.State.{state_by, state_of};
 ghost use Rattle.tomb_seq.specs.declared.slot.Slot.{Slot};
 ghost use Rattle.tomb_seq.specs.Slots.{names_in, with_mark};
-ghost use Rattle.peer_tables.specs.Kept.{judged_by, names_after, slots_after, IsPlaceable, is_addable, with_element, with_counted, cells_joined, IsGivenState, IsJoinable};
+ghost use Rattle.peer_tables.specs.Kept.{judged_by, names_after, slots_after, IsPlaceable, is_addable, with_element, with_one_counted, cells_joined, IsGivenState, IsJoinable};
 ghost use Rattle.elem_show.specs.Table.{shows_by};
 
 use admin_log::AdminLog;
@@ -73,7 +73,7 @@ fn add_cell(cells: &mut ElemTable, request: &LentRequest<'_>) -> Result<(), NoMe
 fn count(cells: &mut ElemTable, request: &LentRequest<'_>) -> Result<bool, NoMemory>
     requires joinable { IsJoinable cells.old request.now }
     requires addable { IsTrue (is_addable cells.old request.now.id request.now.edit) }
-    ensures counted { OnOk result (cells.new ≡ with_counted (with_element cells.old request.now) request.now) }
+    ensures counted { OnOk result (cells.new ≡ with_one_counted (with_element cells.old request.now) request.now) }
     ensures shows { IfOk result (λ shows. shows ≡ shows_by cells.new (element_of request.now)) }
     ensures unchanged { OnErr result (cells.new ≡ cells.old) }
 {

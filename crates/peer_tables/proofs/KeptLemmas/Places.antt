@@ -24,7 +24,7 @@ use Rattle.tomb_seq.specs.declared.slot.Slot.{Slot}
 use Rattle.tomb_seq.specs.Slots.{names_in, without_slot}
 use Rattle.tomb_seq.proofs.SlotEdits.{IsFree-no_fault, without_none}
 use Rattle.peer_tables.proofs.JournalLemmas.{none_is}
-use Rattle.peer_tables.specs.Kept.{names_after, slots_after, IsPlaceable, is_addable, with_element, with_counted, IsJoinable, IsGrantable}
+use Rattle.peer_tables.specs.Kept.{names_after, slots_after, IsPlaceable, is_addable, with_element, with_one_counted, IsJoinable, IsGrantable}
 
 -- ---- the element
 
@@ -104,10 +104,10 @@ pub other_grantable : (cells : Table) (q : Request) → is_insert q.edit ≡ fal
 other_grantable cells q other joinable addable = subst (λ (t : Table). IsGrantable t q) (other_element cells q other) (grantable cells q joinable addable)
 
 -- what it leaves where it counts
-pub other_counted : (cells new : Table) (q : Request) → is_insert q.edit ≡ false → new ≡ with_counted cells q → new ≡ with_counted (with_element cells q) q
-other_counted cells new q other is = is ∙ ap (λ (t : Table). with_counted t q) (sym (other_element cells q other))
+pub other_counted : (cells new : Table) (q : Request) → is_insert q.edit ≡ false → new ≡ with_one_counted cells q → new ≡ with_one_counted (with_element cells q) q
+other_counted cells new q other is = is ∙ ap (λ (t : Table). with_one_counted t q) (sym (other_element cells q other))
 
 -- what an insert leaves where it counts
 pub insert_counted : (cells new : Table) (q : Request) → is_insert q.edit ≡ true
-    → new ≡ record { inserts = including q cells.inserts; counted = including q cells.counted } → new ≡ with_counted (with_element cells q) q
-insert_counted cells new q insert is = is ∙ ap (λ (b : Bool). with_counted (if b then record cells { inserts = including q cells.inserts } else cells) q) (sym insert)
+    → new ≡ record { inserts = including q cells.inserts; counted = including q cells.counted } → new ≡ with_one_counted (with_element cells q) q
+insert_counted cells new q insert is = is ∙ ap (λ (b : Bool). with_one_counted (if b then record cells { inserts = including q cells.inserts } else cells) q) (sym insert)
