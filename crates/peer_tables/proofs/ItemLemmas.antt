@@ -1,6 +1,6 @@
 -- The messages of a journal are found by their keys, among the states and in the log.
 use Rattle.std.proofs.Common.{◌≡◌, ℕ, zero, suc, ◌+◌, ◌-◌, ◌==◌, ⊎_elim, Bool, true, false, true≢false, not, ◌||◌, ◌&&◌, cond, List, [], ◌∷◌, ◌++◌, length, take, None, Some, refl, ap, sym, subst, ◌∙◌, arith, length-append}
-use Rattle.std.specs.Prelude.{map, slice_get, find, position, option_map, is_none, nat_lt, nat_le}
+use Rattle.std.specs.Prelude.{map, slice_get, find, position, option_map, is_none, nat_lt, nat_le, IsTrue}
 use Rattle.std.specs.List.{list_any, list_all, position_or_len}
 use Rattle.std.specs.declared.option.Option.{Option}
 use Rattle.std.proofs.lemmas.Bool.{or_parts, and_parts, cases_Bool}
@@ -97,10 +97,11 @@ module _ (known : List Key) (J : List Message) (are : AreKeysOf known J) where
       (λ i. list_any (packed_eq (same i)) (are.keys i)) ∙ any_keyed (key_of m) J (packable_key m own) are.formed ∙ new
 
   -- with one more
-  pub keyed_push : (key : Key) (m : Message) → key ≡ key_of m → is_message m ≡ true → AreKeysOf (known ++ key ∷ []) (J ++ m ∷ [])
-  keyed_push key m same own = record {
-    keys = (λ i. are.keys i ++ same i ∷ []) ∙ sym (map-append key_of J (m ∷ []));
-    formed = formed_push J m are.formed own;
+  pub keyed_push : (key : Key) (m : Message) (keys : List Key) (K : List Message) → key ≡ key_of m → is_message m ≡ true
+      → keys ≡ known ++ key ∷ [] → K ≡ J ++ m ∷ [] → AreKeysOf keys K
+  keyed_push key m keys K same own longer more = record {
+    keys = longer ∙ (λ i. are.keys i ++ same i ∷ []) ∙ sym (map-append key_of J (m ∷ [])) ∙ sym (ap (λ (M : List Message). map key_of M) more);
+    formed = subst (λ (M : List Message). IsTrue (list_all is_message M)) (sym more) (formed_push J m are.formed own);
   }
 
   -- without the last

@@ -44,25 +44,24 @@ use Rattle.peer_tables.proofs.KeptLemmas.Tables.{counts_by, counted_found, kept_
 abbrev pub confirm_state : State → ℕ → Bool → State
 confirm_state s version validation = judged_after s version Granted validation
 
--- a confirmed state is swept
+-- a confirmed state is swept, and is undone where it was Tentative and is Invalid then
+swept : (s : State) (version : ℕ) (w : Verdict) (validation : Bool) → (s ≡ Tentative → validation ≡ true → w ≡ Granted)
+    → (swept_after (confirm_state s version validation) version w ≡ judged_after s version w validation)
+    × ((is_tentative (confirm_state s version validation) && is_denied w) ≡ (is_tentative s && is_invalid (judged_after s version w validation)))
+swept Tentative version Granted true h = (refl, refl)
+swept Tentative version (Denied by) true h = absurd (let g = h refl refl in cc)
+swept Tentative version Granted false h = (refl, refl)
+swept Tentative version (Denied by) false h = (refl, refl)
+swept (Valid at) version w validation h = (refl, refl)
+swept (Invalid at by) version w validation h = (refl, refl)
+
 pub steps_law : (s : State) (version : ℕ) (w : Verdict) (validation : Bool) → (s ≡ Tentative → validation ≡ true → w ≡ Granted)
     → swept_after (confirm_state s version validation) version w ≡ judged_after s version w validation
-steps_law Tentative version Granted true h = refl
-steps_law Tentative version (Denied by) true h = absurd (let g = h refl refl in cc)
-steps_law Tentative version Granted false h = refl
-steps_law Tentative version (Denied by) false h = refl
-steps_law (Valid at) version w validation h = refl
-steps_law (Invalid at by) version w validation h = refl
+steps_law s version w validation h = (swept s version w validation h).0
 
--- it is undone where it was Tentative and is Invalid then
 pub undone_law : (s : State) (version : ℕ) (w : Verdict) (validation : Bool) → (s ≡ Tentative → validation ≡ true → w ≡ Granted)
     → (is_tentative (confirm_state s version validation) && is_denied w) ≡ (is_tentative s && is_invalid (judged_after s version w validation))
-undone_law Tentative version Granted true h = refl
-undone_law Tentative version (Denied by) true h = absurd (let g = h refl refl in cc)
-undone_law Tentative version Granted false h = refl
-undone_law Tentative version (Denied by) false h = refl
-undone_law (Valid at) version w validation h = refl
-undone_law (Invalid at by) version w validation h = refl
+undone_law s version w validation h = (swept s version w validation h).1
 
 pub confirm_invalid : (s : State) (version : ℕ) (validation : Bool) → is_invalid (confirm_state s version validation) ≡ is_invalid s
 confirm_invalid Tentative version true = refl

@@ -1,9 +1,7 @@
-use Rattle.std.proofs.Common.{◌≡◌, List, [], ◌∷◌, ◌++◌, false, sym, ap, subst, ◌∙◌}
-use Rattle.edit_message.specs.declared.message.Key.{Key}
+use Rattle.std.proofs.Common.{◌≡◌, List, false, sym, ap, subst, ◌∙◌}
 use Rattle.edit_message.specs.declared.message.Key.TheVariants as keys
 use Rattle.edit_message.specs.declared.message.Message.{Message}
 use Rattle.edit_message.specs.declared.message.Message.TheVariants.{Admin}
-use Rattle.peer_tables.specs.Items.{AreKeysOf}
 use Rattle.peer_tables.specs.Journal.{has_key_of}
 use Rattle.peer_tables.specs.PackedKey.{is_packable}
 use Rattle.peer_tables.proofs.ItemLemmas.{packable_key, new_keyed, keyed_push}
@@ -20,8 +18,5 @@ put-requires-clause-new c =
 
 pub invariant_of-self-2 : goal.invariant_of-self-2
 invariant_of-self-2 c =
-    let J : List Message = c.self.inside.messages.items in
-    let m : Message = Admin c.args.entry.now in
-    subst (AreKeysOf c.put.new.keys.keys) (sym c.changed-self-inside.ensures)
-    (subst (λ (ks : List Key). AreKeysOf ks (J ++ m ∷ [])) (sym c.in_ok-put.ensures.ok)
-    (keyed_push c.self.inside.keys.keys J c.self.invariant (keys.Admin c.version.result) m (ap keys.Admin c.version.ensures.value) c.version.ensures.entry))
+    keyed_push c.self.inside.keys.keys c.self.inside.messages.items c.self.invariant (keys.Admin c.version.result) (Admin c.args.entry.now) _ _
+    (ap keys.Admin c.version.ensures.value) c.version.ensures.entry c.in_ok-put.ensures.ok c.changed-self-inside.ensures

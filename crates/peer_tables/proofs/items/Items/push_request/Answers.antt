@@ -1,8 +1,6 @@
-use Rattle.std.proofs.Common.{◌≡◌, List, [], ◌∷◌, ◌++◌, false, sym, ap, subst, ◌∙◌}
-use Rattle.edit_message.specs.declared.message.Key.{Key}
+use Rattle.std.proofs.Common.{◌≡◌, List, false, sym, ap, subst, ◌∙◌}
 use Rattle.edit_message.specs.declared.message.Message.{Message}
 use Rattle.edit_message.specs.declared.message.Message.TheVariants.{Coop}
-use Rattle.peer_tables.specs.Items.{AreKeysOf}
 use Rattle.peer_tables.specs.Journal.{has_key_of}
 use Rattle.peer_tables.specs.PackedKey.{is_packable}
 use Rattle.peer_tables.proofs.ItemLemmas.{packable_key, new_keyed, keyed_push}
@@ -19,8 +17,5 @@ put-requires-clause-new c =
 
 pub invariant_of-self-2 : goal.invariant_of-self-2
 invariant_of-self-2 c =
-    let J : List Message = c.self.inside.messages.items in
-    let m : Message = Coop c.args.request.now in
-    subst (AreKeysOf c.put.new.keys.keys) (sym c.changed-self-inside.ensures)
-    (subst (λ (ks : List Key). AreKeysOf ks (J ++ m ∷ [])) (sym c.in_ok-put.ensures.ok)
-    (keyed_push c.self.inside.keys.keys J c.self.invariant c.of_request.result m c.of_request.ensures.value c.of_request.ensures.message))
+    keyed_push c.self.inside.keys.keys c.self.inside.messages.items c.self.invariant c.of_request.result (Coop c.args.request.now) _ _
+    c.of_request.ensures.value c.of_request.ensures.message c.in_ok-put.ensures.ok c.changed-self-inside.ensures
