@@ -1,11 +1,10 @@
 -- One verdict that is carried out.
-use Rattle.std.proofs.Common.{◌≡◌, ℕ, ◌+◌, Bool, true, false, cond, ◌&&◌, List, [], ◌∷◌, None, Some, refl, sym, ap, ◌∙◌, arith}
+use Rattle.std.proofs.Common.{◌≡◌, ℕ, ◌+◌, Bool, true, false, cond, ◌&&◌, List, [], ◌∷◌, Some, refl, sym, ap, ◌∙◌, arith}
 use Rattle.std.specs.declared.option.Option.{Option}
 use Rattle.std.specs.Option.{option_map, option_map_or}
 use Rattle.std.specs.List.{AllByRecursion}
 use Rattle.element_name.specs.Name.{Name, name_eq}
 use Rattle.element_name.proofs.NameOrder.{same_name, name_eq-comm, name_lt-apart}
-use Rattle.coop_request.specs.Request.{Request}
 use Rattle.policy_book.specs.Policy.{Policy}
 use Rattle.auth_match.specs.declared.verdict.Verdict.{Verdict}
 use Rattle.auth_match.specs.declared.verdict.Verdict.TheVariants.{Granted, Denied}
@@ -19,10 +18,10 @@ use Rattle.retro_undo.specs.Undo.{state_after_verdict, kept_after, is_denied, is
 use Rattle.retro_undo.specs.Part.{is_named}
 use Rattle.retro_undo.proofs.Parts.{all_by, count_cons}
 use Rattle.retro_undo.proofs.Found.{IsAbove, first_below, rest_in_order}
-use Rattle.retro_undo.proofs.Steps.{one_if}
+use Rattle.retro_undo.proofs.Steps.{one_if, tentative_is}
 use Rattle.par_sweep.specs.declared.judging.Judgement.{Judgement}
-use Rattle.par_sweep.specs.Judged.{verdict_on, judgement_on, tentative_named, is_tentative_named, with_verdict}
-use Rattle.par_sweep.proofs.Named.{maps_same, map_keeps, IsKeptAs, kept_named, tentative_kept, tentative_has_name, none_tentative}
+use Rattle.par_sweep.specs.Judged.{verdict_on, judgement_on, is_tentative_named, with_verdict}
+use Rattle.par_sweep.proofs.Named.{maps_same, map_keeps, IsKeptAs, kept_named}
 
 -- the state of one after a verdict
 abbrev pub after_verdict : ℕ → Verdict → Kept → Kept
@@ -52,23 +51,22 @@ module _ (version : ℕ) (j : Judgement) (table : List Kept) where
       each (k ∷ rows) = ap (λ x. x ∷ with_verdict version j rows) (here k (name_eq k.request.id j.id)) ∙ ap (λ rest. k ∷ rest) (each rows)
 
   -- nor does a verdict on what isn't Tentative
-  pub carried_settled : is_in_order table ≡ true → tentative_named table j.id ≡ None → table ≡ with_verdict version j table
+  pub carried_settled : is_in_order table ≡ true → is_tentative_named table j.id ≡ false → table ≡ with_verdict version j table
   carried_settled order none =
       sym (map_keeps (λ k. cond (name_eq k.request.id j.id) (after_verdict version j.verdict k) k) table
       (all_by (IsKeptAs j.id table) (λ k. cond (name_eq k.request.id j.id) (after_verdict version j.verdict k) k ≡ k) (λ k kept. here k (name_eq k.request.id j.id) kept) table (kept_named j.id table order)))
     where
       here : (k : Kept) (b : Bool) → (b ≡ true → kept_of table j.id ≡ Some k) → cond b (after_verdict version j.verdict k) k ≡ k
       here k true kept =
-          let settled : is_tentative k.state ≡ false = ap (λ x. option_map_or (λ (y : Kept). is_tentative y.state) x false) (sym (kept refl)) ∙ none_tentative table j.id none in
+          let settled : is_tentative k.state ≡ false = ap (λ x. option_map_or (λ (y : Kept). is_tentative y.state) x false) (sym (kept refl)) ∙ none in
           ap (λ s. record { request = k.request; state = s }) (settled_stays k.state version j.verdict settled)
       here k false kept = refl
 
   -- a denial makes a Tentative request Invalid
-  pub carried_denied : (q : Request) (a : Option ℕ) → is_in_order table ≡ true → tentative_named table j.id ≡ Some q → j.verdict ≡ Denied a
-      → with_state table q.id (Invalid version a) ≡ with_verdict version j table
-  carried_denied q a order found denied =
-      ap (λ n. with_state table n (Invalid version a)) (tentative_has_name table j.id q found)
-      ∙ maps_same (λ k. cond (name_eq k.request.id j.id) (record { request = k.request; state = Invalid version a }) k) (λ k. cond (name_eq k.request.id j.id) (after_verdict version j.verdict k) k) table
+  pub carried_denied : (a : Option ℕ) → is_in_order table ≡ true → is_tentative_named table j.id ≡ true → j.verdict ≡ Denied a
+      → with_state table j.id (Invalid version a) ≡ with_verdict version j table
+  carried_denied a order waits denied =
+      maps_same (λ k. cond (name_eq k.request.id j.id) (record { request = k.request; state = Invalid version a }) k) (λ k. cond (name_eq k.request.id j.id) (after_verdict version j.verdict k) k) table
       (all_by (IsKeptAs j.id table)
       (λ k. cond (name_eq k.request.id j.id) (record { request = k.request; state = Invalid version a }) k ≡ cond (name_eq k.request.id j.id) (after_verdict version j.verdict k) k)
       (λ k kept. here k (name_eq k.request.id j.id) kept) table (kept_named j.id table order))
@@ -76,9 +74,8 @@ module _ (version : ℕ) (j : Judgement) (table : List Kept) where
       here : (k : Kept) (b : Bool) → (b ≡ true → kept_of table j.id ≡ Some k)
           → cond b (record { request = k.request; state = Invalid version a }) k ≡ cond b (after_verdict version j.verdict k) k
       here k true kept =
-          let both : Some k ≡ Some (record { request = q; state = Tentative }) = sym (kept refl) ∙ tentative_kept table j.id q found in
-          let same : k ≡ record { request = q; state = Tentative } = cc in
-          let tentative : k.state ≡ Tentative = ap (λ (x : Kept). x.state) same in
+          let passes : is_tentative k.state ≡ true = ap (λ x. option_map_or (λ (y : Kept). is_tentative y.state) x false) (sym (kept refl)) ∙ waits in
+          let tentative : k.state ≡ Tentative = ap (λ (x : Kept). x.state) (tentative_is k passes) in
           sym (ap (λ w. after_verdict version w k) denied
           ∙ ap (λ s. record { request = k.request; state = state_after_verdict s version (Denied a) }) tentative)
       here k false kept = refl

@@ -1,4 +1,3 @@
 pub mod Named
-pub mod Within
 pub mod Carried
 pub mod Swept

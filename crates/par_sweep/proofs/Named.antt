@@ -1,25 +1,16 @@
 -- What is kept under a name, in a table whose names ascend.
-use Rattle.std.proofs.Common.{◌≡◌, Bool, true, false, cond, List, [], ◌∷◌, map, None, Some, refl, sym, ap, subst, ◌∙◌}
-use Rattle.std.specs.declared.option.Option.{Option}
-use Rattle.std.specs.Option.{option_map, option_map_or}
+use Rattle.std.proofs.Common.{◌≡◌, Bool, true, false, cond, List, [], ◌∷◌, map, Some, refl, sym, ap, subst, ◌∙◌}
+use Rattle.std.specs.Option.{option_map}
 use Rattle.std.specs.List.{AllByRecursion}
 use Rattle.std.proofs.lemmas.Bool.{and_parts}
 use Rattle.element_name.specs.Name.{Name, name_eq, has_name}
 use Rattle.element_name.proofs.NameOrder.{same_name, name_lt-apart}
 use Rattle.coop_request.specs.Request.{Request, element_of}
-use Rattle.request_state.specs.declared.state.State.TheVariants.{Tentative}
 use Rattle.request_state.specs.declared.kept.Kept.{Kept}
-use Rattle.request_state.specs.State.{is_tentative}
 use Rattle.request_state.specs.Table.{kept_of, kept_request, is_in_order}
 use Rattle.retro_undo.specs.Undo.{have_elements}
-use Rattle.retro_undo.proofs.Parts.{all_by}
-use Rattle.retro_undo.proofs.Found.{IsAbove, first_below, rest_in_order, request_named}
-use Rattle.retro_undo.proofs.Steps.{tentative_is}
-use Rattle.par_sweep.specs.Judged.{tentative_named, is_tentative_named}
-
-pub all_both : {X : Type 0} (P Q : X → Type 0) (xs : List X) → AllByRecursion P xs → AllByRecursion Q xs → AllByRecursion (λ x. P x × Q x) xs
-all_both P Q [] a b = tt
-all_both P Q (x ∷ xs) a b = ((a.0, b.0), all_both P Q xs a.1 b.1)
+use Rattle.retro_undo.proofs.Parts.{all_by, all_both}
+use Rattle.retro_undo.proofs.Found.{IsAbove, first_below, rest_in_order}
 
 -- two maps that agree at each item
 pub maps_same : {X : Type 0} (f g : X → X) (xs : List X) → AllByRecursion (λ x. f x ≡ g x) xs → map f xs ≡ map g xs
@@ -46,40 +37,6 @@ kept_named n (k ∷ table) order = (
     behind x both same =
         let apart : name_eq k.request.id n ≡ false = subst (λ m. name_eq k.request.id m ≡ false) (same_name x.request.id n same) (name_lt-apart k.request.id x.request.id both.0) in
         ap (λ b. cond b (Some k) (kept_of table n)) apart ∙ both.1 same
-
--- ---- the Tentative request of a name
-
-tentative_found : (x : Option Kept) (q : Request) → cond (option_map_or (λ k. is_tentative k.state) x false) (option_map (λ k. k.request) x) None ≡ Some q
-    → x ≡ Some (record { request = q; state = Tentative })
-tentative_found None q found = absurd cc
-tentative_found (Some k) q found = by (is_tentative k.state) refl found
-  where
-    by : (b : Bool) → is_tentative k.state ≡ b → cond b (Some k.request) None ≡ Some q → Some k ≡ Some (record { request = q; state = Tentative })
-    by true t found =
-        let same : k.request ≡ q = cc in
-        ap Some (tentative_is k t ∙ ap (λ r. record { request = r; state = Tentative }) same)
-    by false t found = absurd cc
-
-pub tentative_kept : (table : List Kept) (n : Name) (q : Request) → tentative_named table n ≡ Some q → kept_of table n ≡ Some (record { request = q; state = Tentative })
-tentative_kept table n q found = tentative_found (kept_of table n) q found
-
-pub tentative_has_name : (table : List Kept) (n : Name) (q : Request) → tentative_named table n ≡ Some q → q.id ≡ n
-tentative_has_name table n q found = request_named table n q (ap (λ x. option_map (λ (k : Kept). k.request) x) (tentative_kept table n q found))
-
-pub tentative_under : (table : List Kept) (n : Name) (q : Request) → tentative_named table n ≡ Some q → kept_of table q.id ≡ Some (record { request = q; state = Tentative })
-tentative_under table n q found = ap (kept_of table) (tentative_has_name table n q found) ∙ tentative_kept table n q found
-
-pub none_tentative : (table : List Kept) (n : Name) → tentative_named table n ≡ None → is_tentative_named table n ≡ false
-none_tentative table n none = by (kept_of table n) none
-  where
-    by : (x : Option Kept) → cond (option_map_or (λ k. is_tentative k.state) x false) (option_map (λ k. k.request) x) None ≡ None
-        → option_map_or (λ k. is_tentative k.state) x false ≡ false
-    by None none = refl
-    by (Some k) none = by_state (is_tentative k.state) none
-      where
-        by_state : (b : Bool) → cond b (Some k.request) None ≡ None → b ≡ false
-        by_state true none = absurd cc
-        by_state false none = refl
 
 -- ---- what the names have
 

@@ -1,9 +1,10 @@
 -- Verdicts that were taken early, carried out one after another.
-use Rattle.std.proofs.Common.{◌≡◌, ℕ, ◌+◌, ◌<◌, Bool, true, false, cond, ◌&&◌, ◌||◌, List, [], ◌∷◌, length, map, take, get_or, Some, refl, sym, ap, ◌∙◌, arith}
+use Rattle.std.proofs.Common.{◌≡◌, ℕ, ◌+◌, ◌<◌, Bool, true, false, cond, ◌&&◌, ◌||◌, List, [], ◌∷◌, length, map, take, get_or, None, Some, refl, sym, ap, ◌∙◌, arith}
 use Rattle.std.specs.Option.{option_map, option_map_or}
 use Rattle.std.specs.List.{AllByRecursion}
 use Rattle.std.proofs.Math.Seq.{take-length}
 use Rattle.std.proofs.lemmas.List.{take_more, get_or-map, length-map}
+use Rattle.std.proofs.lemmas.List.Folds.{list_any-append}
 use Rattle.element_name.specs.Name.{Name, start, name_eq, name_lt, has_name}
 use Rattle.coop_request.specs.Request.{Request, user_of}
 use Rattle.policy_book.specs.Policy.{Policy}
@@ -17,14 +18,17 @@ use Rattle.request_state.specs.Table.{name_of, kept_of, kept_request, is_in_orde
 use Rattle.retro_undo.specs.Undo.{kept_after, is_denied, is_undone, are_reached, states_after_in, undone_in}
 use Rattle.retro_undo.specs.Part.{is_named}
 use Rattle.retro_undo.specs.Sweep.{every_request}
-use Rattle.retro_undo.proofs.Parts.{all_by, each_by, kept_in, IsSameFor, within_reach, states_same, undone_same, states_twice, undone_twice}
+use Rattle.retro_undo.proofs.Parts.{all_by, all_both, each_by, kept_in, IsSameFor, within_reach, states_same, undone_same, states_twice, undone_twice}
 use Rattle.retro_undo.proofs.Steps.{one_if}
 use Rattle.par_sweep.specs.declared.judging.Judgement.{Judgement}
 use Rattle.par_sweep.specs.Judged.{verdict_on, judgement_on, is_tentative_named, with_verdict}
-use Rattle.par_sweep.specs.Listed.{names_within}
-use Rattle.par_sweep.proofs.Named.{all_both}
-use Rattle.par_sweep.proofs.Within.{is_listed, has-append, reach_listed}
+use Rattle.retro_undo.specs.Listed.{taken_within}
+use Rattle.retro_undo.proofs.Within.{IsListedIn, each_listed}
 use Rattle.par_sweep.proofs.Carried.{carried_as_judged, carried_count}
+
+-- the names of the requests within a reach
+abbrev pub names_within : Reach → List Kept → List Name
+names_within reach table = taken_within (λ (q : Request). q.id) reach table
 
 -- the requests of the names
 abbrev pub is_among : List Name → Request → Bool
@@ -86,7 +90,7 @@ module _ (names : List Name) (p : Policy) (version : ℕ) (ids : List Name) (tab
   among_more : (i : ℕ) → i < length ids → (q : Request) → (is_among (take i ids) q || is_named (get_or ids i start) q) ≡ is_among (take (i + 1) ids) q
   among_more i lt q =
       sym (ap (λ ns. is_among ns q) (take_more ids i start lt)
-      ∙ has-append q.id (take i ids) (get_or ids i start ∷ [])
+      ∙ list_any-append (name_eq q.id) (take i ids) (get_or ids i start ∷ [])
       ∙ ap (λ b. is_among (take i ids) q || b) (by (name_eq q.id (get_or ids i start))))
     where
       by : (b : Bool) → (b || false) ≡ b
@@ -148,38 +152,39 @@ module _ (names : List Name) (p : Policy) (version : ℕ) (ids : List Name) (tab
 -- ---- those within the reach are all that are undone
 
 module _ (names : List Name) (p : Policy) (version : ℕ) (reach : Reach) (table : List Kept) where
-  all_reached : are_reached reach names p table ≡ true → AllByRecursion (IsSameFor names p version (is_among (names_within reach table)) every_request) table
-  all_reached h =
+  abbrev IsListed : Kept → Type 0
+  IsListed k = IsListedIn (λ (q : Request). q.id) reach table k
+
+  all_reached : kept_of table start ≡ None → are_reached reach names p table ≡ true → AllByRecursion (IsSameFor names p version (is_among (names_within reach table)) every_request) table
+  all_reached absent h =
       all_by
-      (λ k. IsSameFor names p version (λ q. is_reached reach (user_of q)) (λ q. true) k
-      × (is_listed (λ q. is_reached reach (user_of q)) k ≡ true → has_name (names_within reach table) k.request.id ≡ true))
+      (λ k. IsSameFor names p version (λ q. is_reached reach (user_of q)) (λ q. true) k × IsListed k)
       (IsSameFor names p version (is_among (names_within reach table)) every_request)
       (λ k both. by (is_tentative k.state) (is_denied (request_verdict names p k.request)) (is_reached reach (user_of k.request)) (has_name (names_within reach table) k.request.id) both.0 both.1)
       table
-      (all_both (IsSameFor names p version (λ q. is_reached reach (user_of q)) (λ q. true))
-      (λ k. is_listed (λ q. is_reached reach (user_of q)) k ≡ true → has_name (names_within reach table) k.request.id ≡ true)
-      table (within_reach names p version reach table h) (reach_listed reach table))
+      (all_both (IsSameFor names p version (λ q. is_reached reach (user_of q)) (λ q. true)) IsListed
+      table (within_reach names p version reach table h) (each_listed (λ (q : Request). q.id) reach table absent))
     where
       none : (h : Bool) → (h && false) ≡ false
       none true = refl
       none false = refl
 
-      by : (t d r h : Bool) → (r && (t && d)) ≡ (true && (t && d)) → ((t && r) ≡ true → h ≡ true) → (h && (t && d)) ≡ (true && (t && d))
-      by true true true h same listed = ap (λ b. b && true) (listed refl)
+      by : (t d r h : Bool) → (r && (t && d)) ≡ (true && (t && d)) → (t ≡ true → r ≡ true → h ≡ true) → (h && (t && d)) ≡ (true && (t && d))
+      by true true true h same listed = ap (λ b. b && true) (listed refl refl)
       by true true false h same listed = absurd cc
       by true false r h same listed = none h
       by false d r h same listed = none h
 
-  pub states_swept : (i : ℕ) → i ≡ length (names_within reach table) → are_reached reach names p table ≡ true
+  pub states_swept : (i : ℕ) → i ≡ length (names_within reach table) → kept_of table start ≡ None → are_reached reach names p table ≡ true
       → states_after_in (is_among (take i (names_within reach table))) names p version table ≡ states_after_in every_request names p version table
-  states_swept i end h =
+  states_swept i end absent h =
       ap (λ n. states_after_in (is_among (take n (names_within reach table))) names p version table) end
       ∙ ap (λ ns. states_after_in (is_among ns) names p version table) (take-length (names_within reach table))
-      ∙ states_same names p version (is_among (names_within reach table)) every_request table (all_reached h)
+      ∙ states_same names p version (is_among (names_within reach table)) every_request table (all_reached absent h)
 
-  pub undone_swept : (i : ℕ) → i ≡ length (names_within reach table) → are_reached reach names p table ≡ true
+  pub undone_swept : (i : ℕ) → i ≡ length (names_within reach table) → kept_of table start ≡ None → are_reached reach names p table ≡ true
       → undone_in (is_among (take i (names_within reach table))) names p table ≡ undone_in every_request names p table
-  undone_swept i end h =
+  undone_swept i end absent h =
       ap (λ n. undone_in (is_among (take n (names_within reach table))) names p table) end
       ∙ ap (λ ns. undone_in (is_among ns) names p table) (take-length (names_within reach table))
-      ∙ undone_same names p version (is_among (names_within reach table)) every_request table (all_reached h)
+      ∙ undone_same names p version (is_among (names_within reach table)) every_request table (all_reached absent h)

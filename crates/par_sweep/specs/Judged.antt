@@ -1,8 +1,7 @@
 -- Verdicts that are taken early, and what they make.
-use Rattle.std.specs.Prelude.{ℕ, Bool, false, List, Option, None, map, if◌then◌else◌}
+use Rattle.std.specs.Prelude.{ℕ, Bool, false, List, map, if◌then◌else◌}
 use Rattle.std.specs.Option.{option_map_or}
 use Rattle.element_name.specs.Name.{Name, name_eq}
-use Rattle.coop_request.specs.Request.{Request}
 use Rattle.policy_book.specs.Policy.{Policy}
 use Rattle.auth_match.specs.declared.verdict.Verdict.{Verdict}
 use Rattle.auth_match.specs.declared.verdict.Verdict.TheVariants.{Granted}
@@ -23,10 +22,6 @@ judgement_on names p table n = record { id = n; verdict = verdict_on names p tab
 -- the request of a name is kept and Tentative
 abbrev pub is_tentative_named : List Kept → Name → Bool
 is_tentative_named table n = option_map_or (λ k. is_tentative k.state) (kept_of table n) false
-
--- that request
-abbrev pub tentative_named : List Kept → Name → Option Request
-tentative_named table n = if is_tentative_named table n then kept_request table n else None
 
 -- what is kept after a verdict on the request of a name is carried out
 abbrev pub with_verdict : ℕ → Judgement → List Kept → List Kept

@@ -3,7 +3,7 @@ ghost use Rattle.std.specs.Prelude.{◌≡◌, ◌≤◌, true, IfOk, map};
 ghost use Rattle.retro_undo.specs.Undo.{have_elements};
 ghost use Rattle.par_sweep.specs.Judged.{judgement_on};
 
-use auth_match::{Verdict, request_verdict};
+use auth_match::{Verdict, request_verdict_lent};
 use element_name::{Name, Places};
 use policy_book::Policy;
 use rayon::prelude::*;
@@ -28,8 +28,8 @@ fn judge_one<P: Places>(id: Name, policy: &Policy, states: &StateTable, places: 
     requires { have_elements (P.names places.now) states.now ≡ true }
     ensures { result ≡ judgement_on (P.names places.now) policy.now states.now id }
 {
-    let verdict = match states.request(id) {
-        Some(request) => request_verdict(policy, request, places),
+    let verdict = match states.lent_request(id) {
+        Some(request) => request_verdict_lent(policy, &request, places),
         None => Verdict::Granted,
     };
     Judgement { id, verdict }

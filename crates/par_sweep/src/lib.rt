@@ -6,7 +6,6 @@
 
 mod judging;
 pub mod laws;
-mod listing;
 mod setting;
 mod sweep;
 

@@ -2,23 +2,24 @@
 ghost use Rattle.std.specs.Prelude.{◌≡◌, ◌&&◌, IsTrue};
 ghost use Rattle.request_state.specs.Table.{is_in_order};
 ghost use Rattle.retro_undo.specs.Undo.{is_denied, counted_of, with_counted};
-ghost use Rattle.par_sweep.specs.Judged.{tentative_named, is_tentative_named, with_verdict};
+ghost use Rattle.par_sweep.specs.Judged.{is_tentative_named, with_verdict};
 
 use crate::judging::Judgement;
 use auth_match::Verdict;
-use coop_request::Request;
 use elem_show::ElemTable;
 use element_name::Name;
 use request_state::{State, StateTable};
 use retro_undo::undo;
 
-// The request of a name, if it is Tentative.
-fn tentative(states: &StateTable, id: Name) -> Option<Request>
-    ensures { result ≡ tentative_named states.now id }
+// Whether the request of a name is Tentative.
+fn is_tentative(states: &StateTable, id: Name) -> bool
+    ensures { result ≡ is_tentative_named states.now id }
 {
-    match states.state(id)? {
-        State::Tentative => states.request(id),
-        State::Valid { .. } | State::Invalid { .. } => None,
+    match states.state(id) {
+        Some(State::Tentative) => true,
+        Some(State::Valid { .. }) => false,
+        Some(State::Invalid { .. }) => false,
+        None => false,
     }
 }
 
@@ -40,11 +41,9 @@ pub(crate) fn carry_out(
     let Verdict::Denied { by } = judged.verdict else {
         return false;
     };
-    match tentative(states, judged.id) {
-        Some(request) => {
-            undo(request, version, by, states, table);
-            true
-        }
-        None => false,
+    if is_tentative(states, judged.id) {
+        undo(judged.id, version, by, states, table);
+        return true;
     }
+    false
 }

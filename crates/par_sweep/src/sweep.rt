@@ -1,19 +1,20 @@
 //! The sweep on several threads.
-ghost use Rattle.std.specs.Prelude.{◌≡◌, true, IfSome, IsTrue, map};
-ghost use Rattle.request_state.specs.Table.{is_in_order};
+ghost use Rattle.std.specs.Prelude.{◌≡◌, true, IfSome, IsTrue, None, map};
+ghost use Rattle.element_name.specs.Name.{start};
+ghost use Rattle.coop_request.specs.Request.{Request};
+ghost use Rattle.request_state.specs.Table.{kept_of, is_in_order};
 ghost use Rattle.retro_undo.specs.Undo.{have_elements, are_reached};
 ghost use Rattle.retro_undo.specs.Sweep.{every_request, MaySweep, IsSwept};
+ghost use Rattle.retro_undo.specs.Listed.{taken_within};
 ghost use Rattle.par_sweep.specs.Judged.{judgement_on};
-ghost use Rattle.par_sweep.specs.Listed.{names_within};
 
 use crate::judging::{Judgement, judge_each, share_len};
-use crate::listing::list_reach;
 use crate::setting::carry_out;
 use elem_show::ElemTable;
-use element_name::{Name, Places};
+use element_name::Places;
 use policy_book::{Policy, Reach};
 use request_state::{StateTable, Undone};
-use retro_undo::sweep_reach;
+use retro_undo::{Taken, below_all, list_reach, sweep_reach};
 use std::alloc::Global;
 use std::thread::Threads;
 
@@ -28,12 +29,13 @@ fn judge_reach<P: Places + Sync, R: Threads + Sync>(
 ) -> Option<Vec<Judgement>>
     requires { have_elements (P.names places.now) states.now ≡ true }
     ensures judged { IfSome result (λ judged. judged.items
-        ≡ map (judgement_on (P.names places.now) policy.now states.now) (names_within reach.now states.now)) }
+        ≡ map (judgement_on (P.names places.now) policy.now states.now) (taken_within (λ (q : Request). q.id) reach.now states.now)) }
     ensures in_order { IfSome result (λ judged. IsTrue (is_in_order states.now)) }
+    ensures no_start { IfSome result (λ judged. kept_of states.now start ≡ None) }
 {
     // Where no request is Tentative there is none to list.
-    states.next_tentative(Name::start())?;
-    let ids = list_reach(alloc, reach, states).ok()?;
+    states.next_tentative_lent(below_all(states))?;
+    let ids = list_reach(alloc, Taken::Id, reach, states).ok()?;
     if ids.len() < 2 * share_len(policy) {
         return None;
     }

@@ -1,5 +1,5 @@
 -- What an entry may undo, `specs/Undoing.antt`.
-use Rattle.std.proofs.Common.{◌≡◌, ℕ, ◌+◌, inl, inr, ⊎_elim, Bool, true, false, ◌&&◌, List, [], ◌∷◌, ◌++◌, length, None, Some, refl, ap, sym, subst, ◌∙◌, map, filter, ◌≤◌}
+use Rattle.std.proofs.Common.{◌≡◌, ℕ, ◌+◌, inl, inr, ⊎_elim, Bool, true, false, ◌&&◌, List, [], ◌∷◌, ◌++◌, length, Some, refl, ap, sym, subst, ◌∙◌, map, filter, ◌≤◌}
 use Rattle.admin_log.specs.Log.{FollowsLog, policy_of, validates}
 use Rattle.auth_match.specs.Requests.{request_verdict}
 use Rattle.auth_match.specs.declared.verdict.Verdict.{Verdict}
@@ -22,7 +22,10 @@ use Rattle.peer_tables.proofs.StableLemmas.{known_law}
 use Rattle.peer_tables.specs.Undoing.{next_reach, is_undone_between, has_tentative, AreOfTentative, HaveUndone}
 use Rattle.peer_tables.specs.Kept.{AreKnown, AreTablesOf, IsKeptOf}
 use Rattle.peer_tables.specs.Derived.{state_in}
-use Rattle.peer_tables.specs.Reached.{elements_above, elements_of_users, is_tentative_above, reached_elements}
+use Rattle.retro_undo.specs.declared.walk.Whose.{Whose}
+use Rattle.retro_undo.specs.declared.walk.Whose.TheVariants.{All, One}
+use Rattle.retro_undo.specs.Listed.{taken_above, taken_of_users, taken_within}
+use Rattle.retro_undo.specs.Part.{is_in, is_next}
 use Rattle.policy_book.specs.Entry.{Entry}
 use Rattle.policy_book.specs.Reach.{is_reached, narrowed_reach}
 use Rattle.policy_book.specs.declared.fault.EntryFault.{EntryFault}
@@ -35,7 +38,7 @@ use Rattle.request_state.specs.declared.state.State.{State}
 use Rattle.request_state.specs.declared.state.State.TheVariants.{Invalid, Tentative, Valid}
 use Rattle.std.proofs.lemmas.Bool.{and_from, and_parts, cases_Bool}
 use Rattle.std.proofs.lemmas.List.Folds.{list_any-from_Any}
-use Rattle.std.specs.Prelude.{if◌then◌else◌, is_some, nat_eq}
+use Rattle.std.specs.Prelude.{if◌then◌else◌, is_some}
 use Rattle.std.specs.declared.option.Option.{Option}
 use Rattle.tomb_seq.proofs.Has.{Has, Contains-from_Has, Has-from_Contains, Has-append_cases, has_name-from_Has, Has-from_has_name}
 use Rattle.tomb_seq.specs.declared.slot.Slot.{Slot}
@@ -71,26 +74,24 @@ module _ (R : List Request) (L : List Entry) (slots : List Slot) (cells : Table)
           (cases_Bool (name_eq e (element_of k.request)))
       by false fails g rest = rest g
 
-  above_tentative : (user : Option ℕ) (e : Name) → has_name (elements_above user start table) e ≡ true → has_tentative R L e ≡ true
-  above_tentative None e h =
-      mapped_tentative (is_tentative_above None start) (λ k passes. (and_parts (is_tentative k.state) (name_lt start k.request.id) passes).0) table (λ k there. there) e h
-  above_tentative (Some u) e h =
-      mapped_tentative (is_tentative_above (Some u) start)
-      (λ k passes. (and_parts (is_tentative k.state) (nat_eq (user_of k.request) u && name_lt start k.request.id) passes).0) table (λ k there. there) e h
+  above_tentative : (whose : Whose) (e : Name) → has_name (taken_above element_of whose start table) e ≡ true → has_tentative R L e ≡ true
+  above_tentative whose e h =
+      mapped_tentative (is_next whose start)
+      (λ k passes. (and_parts (is_tentative k.state) (is_in whose k.request && name_lt start k.request.id) passes).0) table (λ k there. there) e h
 
-  users_tentative : (users : List ℕ) (e : Name) → has_name (elements_of_users users table) e ≡ true → has_tentative R L e ≡ true
+  users_tentative : (users : List ℕ) (e : Name) → has_name (taken_of_users element_of users table) e ≡ true → has_tentative R L e ≡ true
   users_tentative [] e h = absurd cc
   users_tentative (u ∷ users) e h = ⊎_elim
-      (λ (own : Has (elements_above (Some u) start table) e). above_tentative (Some u) e (has_name-from_Has (elements_above (Some u) start table) e own))
-      (λ (others : Has (elements_of_users users table) e). users_tentative users e (has_name-from_Has (elements_of_users users table) e others))
-      (Has-append_cases (elements_above (Some u) start table) (elements_of_users users table) e
-      (Has-from_has_name (elements_above (Some u) start table ++ elements_of_users users table) e h))
+      (λ (own : Has (taken_above element_of (One u) start table) e). above_tentative (One u) e (has_name-from_Has (taken_above element_of (One u) start table) e own))
+      (λ (others : Has (taken_of_users element_of users table) e). users_tentative users e (has_name-from_Has (taken_of_users element_of users table) e others))
+      (Has-append_cases (taken_above element_of (One u) start table) (taken_of_users element_of users table) e
+      (Has-from_has_name (taken_above element_of (One u) start table ++ taken_of_users element_of users table) e h))
 
   -- what is reached is of Tentative requests
-  pub reached_tentative : (reach : Reach) → AreOfTentative R L (reached_elements reach table)
+  pub reached_tentative : (reach : Reach) → AreOfTentative R L (taken_within element_of reach table)
   reached_tentative Nobody e h = absurd cc
   reached_tentative (Users users) e h = users_tentative users e h
-  reached_tentative Everyone e h = above_tentative None e h
+  reached_tentative Everyone e h = above_tentative All e h
 
 -- ---- one more entry
 
@@ -133,13 +134,13 @@ module _ (R : List Request) (L : List Entry) (e : Entry) (known : AreKnown R L) 
 -- ---- a journal
 
 module _ (J : List Message) (log : List Entry) (slots : List Slot) (cells : Table) (table : List Kept) (stamp count : ℕ) (k : IsKeptOf J log slots cells table stamp count) where
-  pub journal_tentative : (reach : Reach) (elements : List Name) → elements ≡ reached_elements reach table → AreOfTentative (requests_of J) (entries_of J) elements
+  pub journal_tentative : (reach : Reach) (elements : List Name) → elements ≡ taken_within element_of reach table → AreOfTentative (requests_of J) (entries_of J) elements
   journal_tentative reach elements is e h =
       ap (λ (L : List Entry). has_tentative (requests_of J) L e) (sym k.entries)
       ∙ reached_tentative (requests_of J) log slots cells table stamp k.kept reach e (ap (λ (names : List Name). has_name names e) (sym is) ∙ h)
 
   pub journal_undone : (op : Option AdminOp) (reach : Reach) (elements : List Name) → reach ≡ next_reach (entries_of J) op
-      → elements ≡ reached_elements reach table → (e : Entry) → FollowsLog (entries_of J) e → op ≡ Some e.op
+      → elements ≡ taken_within element_of reach table → (e : Entry) → FollowsLog (entries_of J) e → op ≡ Some e.op
       → HaveUndone (requests_of J) (entries_of J) (entries_of J ++ e ∷ []) elements
   journal_undone op reach elements is_reach is e follows is_op =
       let R : List Request = requests_of J in
@@ -153,5 +154,5 @@ module _ (J : List Message) (log : List Entry) (slots : List Slot) (cells : Tabl
       (λ q there undone.
       let has : Has R q = Has-from_Contains R q there in
       let waits = (and_parts (is_tentative (state_in R log q)) (is_invalid (state_in R (log ++ e ∷ []) q)) undone).0 in
-      ap (λ (names : List Name). has_name names (element_of q)) (is ∙ ap (λ (r : Reach). reached_elements r table) reach_is)
+      ap (λ (names : List Name). has_name names (element_of q)) (is ∙ ap (λ (r : Reach). taken_within element_of r table) reach_is)
       ∙ covered R log slots cells table stamp e k.kept known here q has waits (undone_reached R log e known here q has undone))

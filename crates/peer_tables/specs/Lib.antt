@@ -5,7 +5,6 @@ pub mod PackedKey
 pub mod Items
 pub mod Part
 pub mod Kept
-pub mod Reached
 pub mod Awaiting
 pub mod Undoing
 pub mod TreePlaces

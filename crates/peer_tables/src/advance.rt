@@ -10,13 +10,13 @@ ghost use Rattle.elem_show.specs.Table.{shows_by};
 ghost use Rattle.peer_tables.specs.Derived.{undone_between};
 
 use crate::join::ByCells;
-use crate::reached::reached_elements;
 use crate::sweep::Sweep;
 use admin_log::{AdminLog, LogFault};
 use elem_show::ElemTable;
 use element_name::{Name, NoMemory};
 use policy_book::{AdminOp, Entry};
 use request_state::{State, StateTable, Undone};
+use retro_undo::{Taken, list_reach};
 use std::alloc::Global;
 use tomb_seq::TombSeq;
 
@@ -90,7 +90,7 @@ pub(crate) fn advance<W: Sweep>(
     let version = entry.version();
     let reach = log.policy().narrowed_reach(entry.op());
     let validated = validated_by(entry.op());
-    let elements = reached_elements(alloc, states, &reach)?;
+    let elements = list_reach(alloc, Taken::Element, &reach, states)?;
     push(log, entry)?;
     confirm(states, validated, version);
     let undone = sweep.sweep(reach, log.policy(), version, states, cells, seq);

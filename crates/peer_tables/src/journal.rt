@@ -26,7 +26,6 @@ use crate::item::{JournalItem, item_of};
 use crate::items::Items;
 use crate::join::{join, judged, validated_state};
 use crate::missing::{missing, missing_end};
-use crate::reached::reached_elements;
 use crate::sweep::Sweep;
 use crate::text::text_of;
 use admin_log::AdminLog;
@@ -39,6 +38,7 @@ use element_name::{Name, NoMemory};
 use peer_step::Text;
 use policy_book::{AdminOp, Entry, EntryFault, Extent, Policy, Reach};
 use request_state::{State, StateTable, Undone};
+use retro_undo::{Taken, list_reach};
 use std::alloc::Global;
 use std::marker::Model;
 use tomb_seq::TombSeq;
@@ -274,7 +274,7 @@ impl Journal {
         ensures undone { IfOk result (λ elements. (e : Entry) → FollowsLog (entries_of self.now) e → option_copied op.entry ≡ Some e.op
             → HaveUndone (requests_of self.now) (entries_of self.now) (entries_of self.now ++ e ∷ []) elements.items) }
     {
-        reached_elements(self.alloc, &self.states, &self.reach(op))
+        list_reach(self.alloc, Taken::Element, &self.reach(op), &self.states)
     }
 
     // Whose requests the next entry may deny, if its operation is legal.

@@ -14,7 +14,6 @@ mod journal;
 pub mod laws;
 mod missing;
 mod packed_key;
-mod reached;
 mod sweep;
 mod text;
 

@@ -2,3 +2,4 @@ pub mod Parts
 pub mod Found
 pub mod Undoing
 pub mod Steps
+pub mod Within

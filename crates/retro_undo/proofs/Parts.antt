@@ -44,6 +44,10 @@ pub all_by : {X : Type 0} (P Q : X → Type 0) → ((x : X) → P x → Q x) →
 all_by P Q weaker [] all = tt
 all_by P Q weaker (x ∷ xs) all = (weaker x all.0, all_by P Q weaker xs all.1)
 
+pub all_both : {X : Type 0} (P Q : X → Type 0) (xs : List X) → AllByRecursion P xs → AllByRecursion Q xs → AllByRecursion (λ x. P x × Q x) xs
+all_both P Q [] a b = tt
+all_both P Q (x ∷ xs) a b = ((a.0, b.0), all_both P Q xs a.1 b.1)
+
 pub each_by : {X : Type 0} (P : X → Type 0) → ((x : X) → P x) → (xs : List X) → AllByRecursion P xs
 each_by P every [] = tt
 each_by P every (x ∷ xs) = (every x, each_by P every xs)

@@ -17,17 +17,19 @@ use Rattle.policy_book.specs.Policy.{Policy}
 use Rattle.policy_book.specs.Lists.{has_number}
 use Rattle.policy_book.specs.declared.reach.Reach.{Reach}
 use Rattle.policy_book.specs.Reach.{is_reached}
+use Rattle.auth_match.specs.declared.verdict.Verdict.{Verdict}
 use Rattle.auth_match.specs.Requests.{request_verdict}
 use Rattle.request_state.specs.declared.state.State.{State}
 use Rattle.request_state.specs.declared.state.State.TheVariants.{Tentative, Valid, Invalid}
 use Rattle.request_state.specs.declared.kept.Kept.{Kept}
 use Rattle.request_state.specs.State.{is_tentative}
-use Rattle.request_state.specs.Table.{kept_of, is_in_order}
-use Rattle.retro_undo.specs.Undo.{kept_after, states_after, is_denied, is_undone, undone_count, have_elements, are_reached, states_after_in, undone_in}
-use Rattle.retro_undo.specs.Part.{is_named, is_in, is_above, next_of}
+use Rattle.request_state.specs.Table.{kept_of, with_state, is_in_order}
+use Rattle.retro_undo.specs.Undo.{state_after_verdict, kept_after, states_after, is_denied, is_undone, undone_count, have_elements, are_reached, states_after_in, undone_in}
+use Rattle.retro_undo.specs.Part.{is_named, is_in, is_above, is_next, next_of}
 use Rattle.retro_undo.specs.declared.walk.Whose.{Whose}
 use Rattle.retro_undo.specs.declared.walk.Whose.TheVariants.{One}
 use Rattle.retro_undo.proofs.Parts.{all_by, each_by, within_reach, count_cons, states_same, undone_same, states_twice, undone_twice, states_of_none, undone_of_none, IsSameFor}
+use Rattle.retro_undo.proofs.Undoing.{settled}
 use Rattle.retro_undo.proofs.Found.{IsAbove, IsAt, found_at, kept_at, at_passes, none_found, all_above_start}
 
 -- how many Tentative requests have a name above this one
@@ -45,10 +47,6 @@ one_counted judged holds n counted same = counted ∙ by judged ∙ ap one_if sa
     by : (b : Bool) → from_bool b ≡ one_if b
     by true = refl
     by false = refl
-
--- what a walk looks for
-abbrev pub is_next : Whose → Name → Kept → Bool
-is_next whose above k = is_tentative k.state && is_above whose above k.request
 
 -- what is kept and Tentative, by its request
 pub tentative_is : (k : Kept) → is_tentative k.state ≡ true → k ≡ record { request = k.request; state = Tentative }
@@ -345,25 +343,30 @@ module _ (names : List Name) (p : Policy) (version : ℕ) where
 
   -- ---- as a walk has it
 
-  pub walk_smaller : (whose : Whose) (above next : Name) (q : Request) (table new : List Kept) → is_in_order table ≡ true → next_of table whose above ≡ Some q → next ≡ q.id
-      → new ≡ states_after_in (is_named q.id) names p version table → waiting_count next new < waiting_count above table
-  walk_smaller whose above next q table new order found is made =
-      let fewer = waiting_step names p version whose above q table order found in
-      let same : waiting_count next new ≡ waiting_count q.id (states_after_in (is_named q.id) names p version table) = ap (λ n. waiting_count n new) is ∙ ap (waiting_count q.id) made in
-      omega (arith, fewer, same)
+  module _ (whose : Whose) (above : Name) (q : Request) (table : List Kept) (order : is_in_order table ≡ true) (found : next_of table whose above ≡ Some q) where
+    module _ (next : Name) (w : Verdict) (new : List Kept) (is : next ≡ q.id) (judged : w ≡ request_verdict names p q)
+        (set : new ≡ with_state table next (state_after_verdict Tentative version w)) where
+      pub walk_judged : new ≡ states_after_in (is_named q.id) names p version table
+      walk_judged = settled names p version q next w table new order (next_kept table whose above q order found) is judged set
 
-  pub walk_states : (whose : Whose) (above next : Name) (q : Request) (table new : List Kept) → is_in_order table ≡ true → next_of table whose above ≡ Some q → next ≡ q.id
-      → new ≡ states_after_in (is_named q.id) names p version table → states_after_in (is_above whose above) names p version table ≡ states_after_in (is_above whose next) names p version new
-  walk_states whose above next q table new order found is made =
-      states_step names p version whose above q table order found
-      ∙ sym (ap (λ t. states_after_in (is_above whose q.id) names p version t) made)
-      ∙ sym (ap (λ n. states_after_in (is_above whose n) names p version new) is)
+      pub walk_smaller : waiting_count next new < waiting_count above table
+      walk_smaller =
+          let fewer = waiting_step names p version whose above q table order found in
+          let same : waiting_count next new ≡ waiting_count q.id (states_after_in (is_named q.id) names p version table) = ap (λ n. waiting_count n new) is ∙ ap (waiting_count q.id) walk_judged in
+          omega (arith, fewer, same)
 
-  pub walk_count : (whose : Whose) (above next : Name) (q : Request) (table new : List Kept) → is_in_order table ≡ true → next_of table whose above ≡ Some q → next ≡ q.id
-      → new ≡ states_after_in (is_named q.id) names p version table
-      → undone_in (is_above whose above) names p table ≡ undone_in (is_above whose next) names p new + one_if (is_denied (request_verdict names p q))
-  walk_count whose above next q table new order found is made =
-      let step = undone_step names p version whose above q table order found in
-      let same : undone_in (is_above whose next) names p new ≡ undone_in (is_above whose q.id) names p (states_after_in (is_named q.id) names p version table) =
-      ap (λ n. undone_in (is_above whose n) names p new) is ∙ ap (undone_in (is_above whose q.id) names p) made in
-      omega (arith, step, same)
+      pub walk_states : states_after_in (is_above whose above) names p version table ≡ states_after_in (is_above whose next) names p version new
+      walk_states =
+          states_step names p version whose above q table order found
+          ∙ sym (ap (λ t. states_after_in (is_above whose q.id) names p version t) walk_judged)
+          ∙ sym (ap (λ n. states_after_in (is_above whose n) names p version new) is)
+
+    pub walk_count : (next : Name) (w : Verdict) (new : List Kept) (undone : Bool) (count : ℕ) → next ≡ q.id → w ≡ request_verdict names p q
+        → new ≡ with_state table next (state_after_verdict Tentative version w) → count ≡ from_bool undone → undone ≡ is_denied w
+        → undone_in (is_above whose above) names p table ≡ undone_in (is_above whose next) names p new + count
+    walk_count next w new undone count is judged set counted denied =
+        let step = undone_step names p version whose above q table order found in
+        let same : undone_in (is_above whose next) names p new ≡ undone_in (is_above whose q.id) names p (states_after_in (is_named q.id) names p version table) =
+        ap (λ n. undone_in (is_above whose n) names p new) is ∙ ap (undone_in (is_above whose q.id) names p) (walk_judged next w new is judged set) in
+        let one = one_counted undone (is_denied (request_verdict names p q)) count counted (denied ∙ ap is_denied judged) in
+        omega (arith, step, same, one)

@@ -1,3 +1,4 @@
 pub mod Undo
 pub mod Part
+pub mod Listed
 pub mod Sweep

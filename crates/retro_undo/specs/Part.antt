@@ -20,6 +20,10 @@ is_in (One user) q = user_of q == user
 abbrev pub is_above : Whose → Name → Request → Bool
 is_above whose above q = is_in whose q && name_lt above q.id
 
+-- a Tentative one of these: what a walk looks for
+abbrev pub is_next : Whose → Name → Kept → Bool
+is_next whose above k = is_tentative k.state && is_above whose above k.request
+
 -- the Tentative request of theirs with the least name above a name
 abbrev pub next_of : List Kept → Whose → Name → Option Request
-next_of table whose above = option_map (λ k. k.request) (find (λ k. is_tentative k.state && is_above whose above k.request) table)
+next_of table whose above = option_map (λ k. k.request) (find (is_next whose above) table)

@@ -5,9 +5,11 @@
 #![tactic(auto)]
 
 mod judge;
+mod listing;
 mod sweep;
 mod walk;
 
 pub use judge::undo;
+pub use listing::{Taken, list_reach};
 pub use sweep::sweep_reach;
-pub use walk::{Whose, below_all, next_tentative};
+pub use walk::{Whose, below_all};

@@ -5,8 +5,9 @@ ghost use Rattle.request_state.specs.Table.{kept_of, is_in_order};
 ghost use Rattle.retro_undo.specs.Part.{is_in, next_of};
 ghost use Rattle.retro_undo.specs.Sweep.{MaySweep, IsSwept};
 
-use crate::judge::judge;
-use coop_request::Request;
+use crate::judge::settle;
+use auth_match::request_verdict_lent;
+use coop_request::LentRequest;
 use elem_show::ElemTable;
 use element_name::{Name, Places};
 use policy_book::Policy;
@@ -22,13 +23,17 @@ pub enum Whose {
 }
 
 /// The next Tentative request of theirs above a name. Takes time logarithmic in the table.
-pub fn next_tentative(states: &StateTable, whose: Whose, above: Name) -> Option<Request>
+pub(crate) fn next_tentative(
+    states: &StateTable,
+    whose: Whose,
+    above: Name,
+) -> Option<LentRequest<'_>>
     ensures found { result ≡ next_of states.now whose above }
     ensures in_order { IsTrue (is_in_order states.now) }
 {
     match whose {
-        Whose::All => states.next_tentative(above),
-        Whose::One(user) => states.next_tentative_of(user, above),
+        Whose::All => states.next_tentative_lent(above),
+        Whose::One(user) => states.next_tentative_of_lent(user, above),
     }
 }
 
@@ -38,7 +43,7 @@ pub fn below_all(states: &StateTable) -> Name
     ensures value { result ≡ start }
     ensures absent { kept_of states.now start ≡ None }
 {
-    match states.request(Name::start()) {
+    match states.lent_request(Name::start()) {
         Some(request) => {
             // What it speaks of would have a stamp below 0.
             let _ = request.edit();
@@ -64,7 +69,8 @@ pub(crate) fn sweep_line<P: Places>(
     let mut above = below_all(states);
     while let Some(request) = next_tentative(states, whose, above) {
         above = request.id();
-        count += u32::from(judge(request, policy, version, states, table, places));
+        let verdict = request_verdict_lent(policy, &request, places);
+        count += u32::from(settle(above, verdict, version, states, table));
     }
     count
 }

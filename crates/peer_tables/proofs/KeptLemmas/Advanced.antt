@@ -6,7 +6,7 @@ use Rattle.std.proofs.lemmas.Bool.{cases_Bool, ltb-true, ltb-false}
 use Rattle.std.specs.Bool.{IsTrue}
 use Rattle.element_name.proofs.EachAfterLemmas.{EachAfter-push}
 use Rattle.element_name.specs.Name.{Name}
-use Rattle.coop_request.specs.Request.{Request}
+use Rattle.coop_request.specs.Request.{Request, element_of}
 use Rattle.policy_book.specs.declared.op.AdminOp.{AdminOp}
 use Rattle.policy_book.specs.Entry.{Entry, is_entry}
 use Rattle.edit_message.specs.declared.message.Message.{Message}
@@ -18,6 +18,7 @@ use Rattle.policy_book.specs.declared.reach.Reach.{Reach}
 use Rattle.policy_book.specs.Reach.{narrowed_reach}
 use Rattle.admin_log.specs.Log.{FollowsLog, policy_of}
 use Rattle.request_state.specs.declared.kept.Kept.{Kept}
+use Rattle.retro_undo.specs.Listed.{taken_within}
 use Rattle.retro_undo.specs.Undo.{states_after, undone_count, have_elements, are_reached, counted_of, with_counted}
 use Rattle.elem_show.specs.Table.{Table, shows_by}
 use Rattle.tomb_seq.specs.declared.slot.Slot.{Slot}
@@ -25,7 +26,6 @@ use Rattle.tomb_seq.specs.Slots.{names_in, marked_among}
 use Rattle.peer_tables.specs.Awaiting.{validated_by}
 use Rattle.peer_tables.specs.Derived.{undone_between}
 use Rattle.peer_tables.specs.Kept.{AreTablesOf, IsKeptOf, AreKnown, IsAdvancing, states_confirmed}
-use Rattle.peer_tables.specs.Reached.{reached_elements}
 use Rattle.peer_tables.specs.Journal.{FollowsJournal}
 use Rattle.peer_tables.proofs.JournalLemmas.{follows_log, formed_push, requests_entry, entries_entry}
 use Rattle.peer_tables.proofs.StableLemmas.{known_law}
@@ -102,10 +102,10 @@ module _ (L : List Entry) (slots : List Slot) (cells : Table) (table : List Kept
         (subst (λ (t : List Kept). AreTablesOf R (L ++ e ∷ []) new_slots new_cells t stamp) (sym states_are) k)
 
     advanced_marked : (known_op : AdminOp) (old : Policy) (reach : Reach) (elements : List Name) → known_op ≡ e.op → old ≡ policy_of L → reach ≡ narrowed_reach old known_op
-        → elements ≡ reached_elements reach table → (new_slots : List Slot) → new_slots ≡ map (marked_among elements (shows_by new_cells)) slots → AreTablesOf R M new_slots new_cells new stamp
+        → elements ≡ taken_within element_of reach table → (new_slots : List Slot) → new_slots ≡ map (marked_among elements (shows_by new_cells)) slots → AreTablesOf R M new_slots new_cells new stamp
     advanced_marked known_op old reach elements is_known is_old is_reach are new_slots marked =
         let reach_is : reach ≡ narrowed_reach (policy_of L) e.op = is_reach ∙ ap (λ (q : Policy). narrowed_reach q known_op) is_old ∙ ap (narrowed_reach (policy_of L)) is_known in
-        let elements_are : elements ≡ reached_elements (narrowed_reach (policy_of L) e.op) table = are ∙ ap (λ (r : Reach). reached_elements r table) reach_is in
+        let elements_are : elements ≡ taken_within element_of (narrowed_reach (policy_of L) e.op) table = are ∙ ap (λ (r : Reach). taken_within element_of r table) reach_is in
         kept_at new_slots
         (subst (λ (s : List Slot). AreTablesOf R (L ++ e ∷ []) s new_cells (states_after (names_in slots) (policy_of (L ++ e ∷ [])) e.version (states_confirmed (validated_by e.op) e.version table)) stamp)
         (sym (marked ∙ ap (λ (names : List Name). map (marked_among names (shows_by new_cells)) slots) elements_are))
@@ -118,7 +118,7 @@ module _ (L : List Entry) (slots : List Slot) (cells : Table) (table : List Kept
 
     -- with marks where anything was undone
     pub advanced : (known_op : AdminOp) (old : Policy) (reach : Reach) (elements : List Name) → known_op ≡ e.op → old ≡ policy_of L → reach ≡ narrowed_reach old known_op
-        → elements ≡ reached_elements reach table → (new_slots : List Slot) → (0 < count → new_slots ≡ map (marked_among elements (shows_by new_cells)) slots)
+        → elements ≡ taken_within element_of reach table → (new_slots : List Slot) → (0 < count → new_slots ≡ map (marked_among elements (shows_by new_cells)) slots)
         → (count ≤ 0 → new_slots ≡ slots) → AreTablesOf R M new_slots new_cells new stamp
     advanced known_op old reach elements is_known is_old is_reach are new_slots marked unmarked = ⊎_elim
         (λ (t : nat_lt 0 count ≡ true). advanced_marked known_op old reach elements is_known is_old is_reach are new_slots (marked (ltb-true 0 count t)))

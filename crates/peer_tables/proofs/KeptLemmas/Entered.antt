@@ -35,12 +35,12 @@ use Rattle.tomb_seq.proofs.MarkLemmas.{among_law, names_by, slots_agree}
 use Rattle.peer_tables.specs.Awaiting.{validated_by}
 use Rattle.peer_tables.specs.Derived.{state_in, counted_in, undone_between}
 use Rattle.peer_tables.specs.Kept.{AreTablesOf, AreKnown, states_confirmed, is_tentative_in, shows_in}
-use Rattle.peer_tables.specs.Reached.{reached_elements}
+use Rattle.retro_undo.specs.Listed.{taken_within}
 use Rattle.peer_tables.proofs.HistoryLemmas.{once_law}
 use Rattle.peer_tables.proofs.StableLemmas.{element_in_order}
 use Rattle.peer_tables.proofs.SameSetLemmas.{IsOnce, found_has, has_found, read_cells}
-use Rattle.retro_undo.proofs.Found.{IsAbove, all_above_start}
-use Rattle.peer_tables.proofs.ReachedLemmas.{has_reached, cell_filter, kept_has, no_start}
+use Rattle.retro_undo.proofs.Within.{IsListedIn, each_listed}
+use Rattle.peer_tables.proofs.ReachedLemmas.{cell_filter, kept_has, no_start}
 use Rattle.peer_tables.proofs.KeptLemmas.Tables.{counted_ordered, all_has, all_at, filter_has, count_has, count_none, count_alike, counted_once, requests_in, requests_once, requests_alike, count_requests, kept_by, IsBy, Stands, stands, order_mapped, by_mapped, by_same}
 use Rattle.peer_tables.proofs.KeptLemmas.OneMore.{granted_valid}
 use Rattle.peer_tables.proofs.KeptLemmas.States.{confirm_state, steps_law, undone_law, confirm_invalid, confirm_tentative, tentative_state, settled_invalid, confirm_none, confirm_other, confirm_own, undone_none, is_validation_of, validates_by, validation_reach, granted_later, counted_law, reached_by}
@@ -193,14 +193,15 @@ module _ (R : List Request) (L : List Entry) (slots : List Slot) (cells : Table)
 
   -- the elements of the Tentative requests within the reach
   abbrev reached : List Name
-  reached = reached_elements (narrowed_reach (policy_of L) e.op) table
+  reached = taken_within element_of (narrowed_reach (policy_of L) e.op) table
 
   pub covered : (q : Request) → Has R q → is_tentative (state_in R L q) ≡ true → is_reached (narrowed_reach (policy_of L) e.op) (user_of q) ≡ true → has_name reached (element_of q) ≡ true
   covered q h waits within =
       let k : Kept = kept_by (state_in R L) q in
       let absent : kept_of table start ≡ None = kept.states start ∙ ap (option_map (kept_by (state_in R L))) (no_start [] R known.history) in
       let there : Has table k = kept_has table q.id k (kept.states q.id ∙ ap (option_map (kept_by (state_in R L))) (has_found R q once h)) in
-      has_reached table k there waits (all_at (IsAbove start) table k (all_above_start table absent) there) (narrowed_reach (policy_of L) e.op) within
+      let reach = narrowed_reach (policy_of L) e.op in
+      all_at (IsListedIn element_of reach table) table k (each_listed element_of reach table absent) there waits within
 
   -- a request of another element is Invalid as before
   stays_invalid : (q : Request) → Has R q → has_name reached (element_of q) ≡ false → is_invalid (state_in R (L ++ e ∷ []) q) ≡ is_invalid (state_in R L q)

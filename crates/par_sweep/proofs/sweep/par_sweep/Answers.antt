@@ -8,8 +8,7 @@ use Rattle.retro_undo.proofs.Steps.{one_counted}
 use Rattle.retro_undo.proofs.Undoing.{counted_again, counted_last}
 use Rattle.par_sweep.specs.declared.judging.Judgement.{Judgement}
 use Rattle.par_sweep.specs.Judged.{judgement_on}
-use Rattle.par_sweep.specs.Listed.{names_within}
-use Rattle.par_sweep.proofs.Swept.{is_among, order_after, states_next, undone_next, states_swept, undone_swept}
+use Rattle.par_sweep.proofs.Swept.{names_within, is_among, order_after, states_next, undone_next, states_swept, undone_swept}
 use Rattle.par_sweep.proofs.sweep.par_sweep.Goals as goal
 
 pub loop-judgement-init : goal.loop-judgement-init
@@ -63,7 +62,7 @@ returns g c =
     let judged = ap (λ (js : List Judgement). length js) (c.as_slice-judgement-items.ensures.value ∙ c.in-Some.ensures.judged) ∙ length-map ids (judgement_on names p table) in
     let end : i ≡ length ids = omega (arith, judged, c.loop-judgement-test.false, c.loop-judgement.auto.judgement-index-end) in
     record {
-      states = c.loop-judgement.invariant.states ∙ states_swept names p c.args.version c.args.reach table i end c.requires.outside;
+      states = c.loop-judgement.invariant.states ∙ states_swept names p c.args.version c.args.reach table i end c.in-Some.ensures.no_start c.requires.outside;
       cells = c.loop-judgement.invariant.cells;
-      count = c.loop-judgement.invariant.count ∙ undone_swept names p c.args.version c.args.reach table i end c.requires.outside;
+      count = c.loop-judgement.invariant.count ∙ undone_swept names p c.args.version c.args.reach table i end c.in-Some.ensures.no_start c.requires.outside;
     }

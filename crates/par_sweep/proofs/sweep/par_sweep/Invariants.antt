@@ -1,7 +1,6 @@
 use Rattle.std.proofs.Common.{◌≡◌, take}
 use Rattle.retro_undo.specs.Undo.{with_counted, states_after_in, undone_in}
-use Rattle.par_sweep.specs.Listed.{names_within}
-use Rattle.par_sweep.proofs.Swept.{is_among}
+use Rattle.par_sweep.proofs.Swept.{names_within, is_among}
 use Rattle.par_sweep.proofs.sweep.par_sweep.Given as goal
 
 abbrev pub invariant-loop-judgement : goal.invariant-loop-judgement

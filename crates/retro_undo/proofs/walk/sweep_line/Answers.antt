@@ -1,12 +1,15 @@
+use Rattle.std.specs.declared.option.Option.{Option}
+use Rattle.std.specs.Option.{option_map}
 use Rattle.std.proofs.Common.{List, sym, ap, ◌∙◌, arith}
 use Rattle.element_name.specs.Name.{Name}
 use Rattle.request_state.specs.declared.kept.Kept.{Kept}
+use Rattle.request_state.specs.Table.{kept_state}
 use Rattle.retro_undo.specs.Undo.{have_elements, states_after_in, undone_in}
 use Rattle.retro_undo.specs.Part.{is_in, is_above, is_named}
 use Rattle.elem_show.specs.Table.{Table}
 use Rattle.retro_undo.proofs.Undoing.{counted_again, counted_last}
 use Rattle.retro_undo.proofs.Parts.{few_undone, elements_after}
-use Rattle.retro_undo.proofs.Steps.{one_counted, next_kept, kept_element, states_at_start, undone_at_start, states_at_end, undone_at_end, walk_smaller, walk_states, walk_count}
+use Rattle.retro_undo.proofs.Steps.{next_kept, kept_element, states_at_start, undone_at_start, states_at_end, undone_at_end, walk_judged, walk_smaller, walk_states, walk_count}
 use Rattle.retro_undo.proofs.walk.sweep_line.Goals as goal
 
 pub loop-request-init : goal.loop-request-init
@@ -24,48 +27,51 @@ loop-request-init g c =
       elements = c.requires.elements;
     }
 
-pub judge-requires-clause-tentative : goal.judge-requires-clause-tentative
-judge-requires-clause-tentative g c =
-    next_kept c.loop-request.states c.args.whose c.loop-request.above c.in-Some.request c.next_tentative.ensures.in_order (sym c.next_tentative.ensures.found ∙ c.in-Some.is)
-
-pub judge-requires-clause-element : goal.judge-requires-clause-element
-judge-requires-clause-element g c =
+pub request_verdict_lent-verdict-requires : goal.request_verdict_lent-verdict-requires
+request_verdict_lent-verdict-requires g c =
     kept_element (g.P.Places.names c.args.places.now) c.in-Some.request c.loop-request.states c.loop-request.invariant.elements
     (next_kept c.loop-request.states c.args.whose c.loop-request.above c.in-Some.request c.next_tentative.ensures.in_order (sym c.next_tentative.ensures.found ∙ c.in-Some.is))
 
-pub judge-requires-clause-counted : goal.judge-requires-clause-counted
-judge-requires-clause-counted g c = ap (λ (t : Table). t.counted) c.loop-request.invariant.cells
+pub settle-requires-clause-tentative : goal.settle-requires-clause-tentative
+settle-requires-clause-tentative g c =
+    ap (λ (n : Name). kept_state c.loop-request.states n) c.id-above.ensures.value
+    ∙ ap (λ (x : Option Kept). option_map (λ (k : Kept). k.state) x)
+    (next_kept c.loop-request.states c.args.whose c.loop-request.above c.in-Some.request c.next_tentative.ensures.in_order (sym c.next_tentative.ensures.found ∙ c.in-Some.is))
+
+pub settle-requires-clause-counted : goal.settle-requires-clause-counted
+settle-requires-clause-counted g c = ap (λ (t : Table). t.counted) c.loop-request.invariant.cells
 
 pub overflow_add-count : goal.overflow_add-count
 overflow_add-count g c =
     let names = g.P.Places.names c.args.places.now in
     let p = c.args.policy.now in
+    let found = sym c.next_tentative.ensures.found ∙ c.in-Some.is in
     let few = few_undone names p c.args.version (is_in c.args.whose) c.args.states.now in
-    let step = walk_count names p c.args.version c.args.whose c.loop-request.above c.id-above.result c.in-Some.request c.loop-request.states c.judge.new.states
-    c.next_tentative.ensures.in_order (sym c.next_tentative.ensures.found ∙ c.in-Some.is) c.id-above.ensures.value c.judge.ensures.states in
-    let one = one_counted _ _ _ c.from-count.ensures c.judge.ensures.undone in
-    omega (arith, few, step, one, c.loop-request.invariant.count, c.requires.few)
+    let step = walk_count names p c.args.version c.args.whose c.loop-request.above c.in-Some.request c.loop-request.states c.next_tentative.ensures.in_order found _ _ _ _ _
+    c.id-above.ensures.value c.request_verdict_lent-verdict.ensures c.settle.ensures.states c.from-count.ensures c.settle.ensures.undone in
+    omega (arith, few, step, c.loop-request.invariant.count, c.requires.few)
 
 pub loop-request-smaller : goal.loop-request-smaller
 loop-request-smaller g c =
-    walk_smaller (g.P.Places.names c.args.places.now) c.args.policy.now c.args.version c.args.whose c.loop-request.above c.id-above.result c.in-Some.request c.loop-request.states c.judge.new.states
-    c.next_tentative.ensures.in_order (sym c.next_tentative.ensures.found ∙ c.in-Some.is) c.id-above.ensures.value c.judge.ensures.states
+    walk_smaller (g.P.Places.names c.args.places.now) c.args.policy.now c.args.version c.args.whose c.loop-request.above c.in-Some.request c.loop-request.states
+    c.next_tentative.ensures.in_order (sym c.next_tentative.ensures.found ∙ c.in-Some.is) _ _ _ c.id-above.ensures.value c.request_verdict_lent-verdict.ensures c.settle.ensures.states
 
 pub loop-request-preserved : goal.loop-request-preserved
 loop-request-preserved g c =
     let names = g.P.Places.names c.args.places.now in
     let p = c.args.policy.now in
     let found = sym c.next_tentative.ensures.found ∙ c.in-Some.is in
-    let step = walk_count names p c.args.version c.args.whose c.loop-request.above c.id-above.result c.in-Some.request c.loop-request.states c.judge.new.states
-    c.next_tentative.ensures.in_order found c.id-above.ensures.value c.judge.ensures.states in
-    let one = one_counted _ _ _ c.from-count.ensures c.judge.ensures.undone in
+    let step = walk_count names p c.args.version c.args.whose c.loop-request.above c.in-Some.request c.loop-request.states c.next_tentative.ensures.in_order found _ _ _ _ _
+    c.id-above.ensures.value c.request_verdict_lent-verdict.ensures c.settle.ensures.states c.from-count.ensures c.settle.ensures.undone in
     record {
       states = c.loop-request.invariant.states
-          ∙ walk_states names p c.args.version c.args.whose c.loop-request.above c.id-above.result c.in-Some.request c.loop-request.states c.judge.new.states
-          c.next_tentative.ensures.in_order found c.id-above.ensures.value c.judge.ensures.states;
-      count = omega (arith, step, one, c.loop-request.invariant.count);
-      cells = counted_last c.args.table.now c.loop-request.table c.judge.new.table c.loop-request.states c.judge.new.states c.loop-request.invariant.cells c.judge.ensures.cells;
-      elements = ap (λ (t : List Kept). have_elements names t) c.judge.ensures.states
+          ∙ walk_states names p c.args.version c.args.whose c.loop-request.above c.in-Some.request c.loop-request.states c.next_tentative.ensures.in_order found _ _ _
+          c.id-above.ensures.value c.request_verdict_lent-verdict.ensures c.settle.ensures.states;
+      count = omega (arith, step, c.loop-request.invariant.count);
+      cells = counted_last c.args.table.now c.loop-request.table c.settle.new.table c.loop-request.states c.settle.new.states c.loop-request.invariant.cells c.settle.ensures.cells;
+      elements = ap (λ (t : List Kept). have_elements names t)
+          (walk_judged names p c.args.version c.args.whose c.loop-request.above c.in-Some.request c.loop-request.states c.next_tentative.ensures.in_order found _ _ _
+          c.id-above.ensures.value c.request_verdict_lent-verdict.ensures c.settle.ensures.states)
           ∙ elements_after names p c.args.version (is_named c.in-Some.request.id) c.loop-request.states ∙ c.loop-request.invariant.elements;
     }
 
