@@ -7,7 +7,7 @@ use Rattle.coop_request.specs.declared.edit.Edit.{Edit}
 use Rattle.coop_request.specs.declared.edit.Edit.TheVariants.{Insert, Delete, Update}
 use Rattle.coop_request.specs.declared.request.TheConstants.{MAX_REQUESTS}
 use Rattle.coop_request.specs.Edit.{is_insert}
-use Rattle.coop_request.specs.Request.{Request, element_of}
+use Rattle.coop_request.specs.Request.{Request}
 use Rattle.coop_request.specs.History.{text_order, elements_of, request_of, IsHistory}
 use Rattle.policy_book.specs.Entry.{Entry}
 use Rattle.auth_match.specs.declared.verdict.Judged.{Judged}
@@ -88,12 +88,6 @@ cells_joined cells q state = counted_by (with_element cells q) q state
 pub record IsJoinable (cells : Table) (q : Request) : Type 0 where
   pub new : request_of cells.counted q.id ≡ None
   pub few : length cells.counted < 2 ^ 32 - 1
-
--- q may be granted: its element has a cell, and is that of q where q is an insert
-pub record IsGrantable (cells : Table) (q : Request) : Type 0 where
-  pub joinable : IsJoinable cells q
-  pub element : is_some (cell_named cells (element_of q)) ≡ true
-  pub own : is_insert q.edit ≡ true → request_of cells.inserts q.id ≡ Some q
 
 -- a state that is given is that of the request
 abbrev pub IsGivenState : Option State → List Name → List Entry → Request → Type 0

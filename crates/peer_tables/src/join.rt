@@ -64,8 +64,7 @@ fn add_cell(cells: &mut ElemTable, request: &LentRequest<'_>) -> Result<(), NoMe
 {
     match request.edit() {
         LentEdit::Insert { .. } => cells.add_lent(request),
-        LentEdit::Delete { .. } => Ok(()),
-        LentEdit::Update { .. } => Ok(()),
+        LentEdit::Delete { .. } | LentEdit::Update { .. } => Ok(()),
     }
 }
 
@@ -82,8 +81,7 @@ fn count(cells: &mut ElemTable, request: &LentRequest<'_>) -> Result<bool, NoMem
             cells.add_granted_lent(request)?;
             Ok(true)
         }
-        LentEdit::Delete { .. } => cells.grant_lent(request),
-        LentEdit::Update { .. } => cells.grant_lent(request),
+        LentEdit::Delete { .. } | LentEdit::Update { .. } => cells.grant_lent(request),
     }
 }
 
@@ -104,8 +102,7 @@ fn join_cells(
             add_cell(cells, request)?;
             Ok(is_shown(cells, request.element()))
         }
-        State::Tentative => count(cells, request),
-        State::Valid { .. } => count(cells, request),
+        State::Tentative | State::Valid { .. } => count(cells, request),
     }
 }
 
