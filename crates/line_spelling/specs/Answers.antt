@@ -19,6 +19,8 @@ use Rattle.peer_step.specs.declared.answer.Answer.TheVariants.{AlreadyInvalid, N
 use Rattle.peer_step.specs.declared.answer.Answer.TheVariants.{Taken, Advanced, Quiet, Dropped, Settled, Item, Shown}
 use Rattle.peer_step.specs.declared.lent.EditAnswer.{EditAnswer}
 use Rattle.peer_step.specs.declared.lent.EditAnswer.TheVariants as told
+use Rattle.peer_step.specs.declared.lent.RequestAnswer.{RequestAnswer}
+use Rattle.peer_step.specs.declared.lent.RequestAnswer.TheVariants as came
 use Rattle.line_spelling.specs.Values.{spaced, name_text, text_text}
 use Rattle.line_spelling.specs.Steps.{message_text}
 
@@ -117,3 +119,13 @@ edit_answer_words number told.ClockEnd = codes "clock" ∷ codes "end" ∷ []
 edit_answer_words number told.HistoryFull = codes "history" ∷ codes "full" ∷ []
 edit_answer_words number (told.Denied version by) = codes "denied" ∷ decimal version ∷ by_words by
 edit_answer_words number (told.Done id version) = codes "done" ∷ number_words number ++ name_text id ∷ decimal version ∷ []
+
+-- ---- what is told of an answer to a request that comes
+
+abbrev pub request_answer_words : RequestAnswer → List (List ℕ)
+request_answer_words came.Repeat = codes "repeat" ∷ []
+request_answer_words came.OwnSite = codes "own" ∷ codes "site" ∷ []
+request_answer_words came.HistoryFull = codes "history" ∷ codes "full" ∷ []
+request_answer_words came.HoldFull = codes "hold" ∷ codes "full" ∷ []
+request_answer_words (came.Held missing) = codes "held" ∷ missing_words missing
+request_answer_words (came.Taken state) = codes "taken" ∷ state_words state

@@ -1,9 +1,9 @@
 //! The lines of answers.
-ghost use Rattle.std.specs.Prelude.{◌≡◌, ◌++◌, ◌∷◌, Some, OnOk, OnErr};
+ghost use Rattle.std.specs.Prelude.{◌≡◌, ◌++◌, ◌∷◌, Some, None, OnOk, OnErr};
 ghost use Rattle.peer_step.specs.declared.answer.Answer.{Answer};
-ghost use Rattle.peer_step.specs.Lent.{edit_answer_of};
+ghost use Rattle.peer_step.specs.Lent.{edit_answer_of, answer_told};
 ghost use Rattle.line_spelling.specs.Values.{spaced};
-ghost use Rattle.line_spelling.specs.Answers.{fault_words, state_words, item_words, answer_words, edit_answer_words, answer_line};
+ghost use Rattle.line_spelling.specs.Answers.{fault_words, state_words, item_words, answer_words, edit_answer_words, request_answer_words, answer_line};
 
 use crate::parts::{
     put_by, put_fault, put_missing, put_outcome, put_settled, put_shown, put_state, put_told,
@@ -14,7 +14,7 @@ use crate::values::{put, put_name_word, put_number_word};
 use edit_message::Message;
 use element_name::{Name, NoMemory};
 use line_spelling::LINE_END;
-use peer_step::{Answer, EditAnswer};
+use peer_step::{Answer, EditAnswer, RequestAnswer};
 use policy_book::{Entry, EntryFault};
 use request_state::{State, Undone};
 use std::alloc::Global;
@@ -96,6 +96,23 @@ pub fn put_with_state(line: &mut Vec<u8>, word: &[u8], state: State) -> Result<(
     put_state(line, state)
 }
 
+// Appends the words of an answer to a request that comes, without a line end, as `put_request_answer_line` does.
+fn put_request_answer(line: &mut Vec<u8>, told: RequestAnswer) -> Result<(), NoMemory>
+    ensures { OnOk result (line.new.items ≡ line.old.items ++ spaced (request_answer_words told)) }
+{
+    match told {
+        RequestAnswer::Repeat => put(line, b"repeat"),
+        RequestAnswer::OwnSite => put(line, b"own site"),
+        RequestAnswer::HistoryFull => put(line, b"history full"),
+        RequestAnswer::HoldFull => put(line, b"hold full"),
+        RequestAnswer::Held(missing) => {
+            put(line, b"held")?;
+            put_missing(line, missing)
+        }
+        RequestAnswer::Taken(state) => put_with_state(line, b"taken", state),
+    }
+}
+
 // Appends an answer, without a line end.
 fn put_answer(line: &mut Vec<u8>, number: Option<u32>, answer: &Answer) -> Result<(), NoMemory>
     ensures { OnOk result (line.new.items ≡ line.old.items ++ spaced (answer_words number answer.now)) }
@@ -120,20 +137,17 @@ fn put_answer(line: &mut Vec<u8>, number: Option<u32>, answer: &Answer) -> Resul
         Answer::AlreadyInvalid(state) => put_with_state(line, b"already", *state),
         Answer::NothingTentative => put(line, b"nothing tentative"),
         Answer::Issued(entry, undone) => put_issued(line, number, entry, *undone),
-        Answer::Repeat => put(line, b"repeat"),
+        Answer::Repeat => put_request_answer(line, RequestAnswer::Repeat),
         Answer::Conflict(kept) => {
             put(line, b"conflict ")?;
             put_message(line, kept)
         }
-        Answer::OwnSite => put(line, b"own site"),
+        Answer::OwnSite => put_request_answer(line, RequestAnswer::OwnSite),
         Answer::OwnLog => put(line, b"own log"),
         Answer::Illegal(fault) => put_with_fault(line, b"illegal", *fault),
-        Answer::HoldFull => put(line, b"hold full"),
-        Answer::Held(missing) => {
-            put(line, b"held")?;
-            put_missing(line, *missing)
-        }
-        Answer::Taken(state) => put_with_state(line, b"taken", *state),
+        Answer::HoldFull => put_request_answer(line, RequestAnswer::HoldFull),
+        Answer::Held(missing) => put_request_answer(line, RequestAnswer::Held(*missing)),
+        Answer::Taken(state) => put_request_answer(line, RequestAnswer::Taken(*state)),
         Answer::Advanced(entry, undone) => {
             put(line, b"version")?;
             put_number_word(line, u64::from(entry.version()))?;
@@ -198,6 +212,16 @@ pub fn put_edit_answer_line(
     ensures { (answer : Answer) → edit_answer_of answer ≡ Some told → OnOk result (out.new.items ≡ out.old.items ++ answer_line number answer) }
 {
     put_edit_answer(out, number, told)?;
+    out.push(LINE_END)?;
+    Ok(())
+}
+
+/// Appends the line of an answer to a request that comes, by what is told of it. Takes time in the length of the line. Fails
+/// where memory is wanting; a part may then stand in the output.
+pub fn put_request_answer_line(out: &mut Vec<u8>, told: RequestAnswer) -> Result<(), NoMemory>
+    ensures { OnOk result (out.new.items ≡ out.old.items ++ answer_line None (answer_told told)) }
+{
+    put_request_answer(out, told)?;
     out.push(LINE_END)?;
     Ok(())
 }

@@ -12,8 +12,8 @@ mod steps;
 mod values;
 
 pub use answer::{
-    answer_line, put_answer_line, put_edit_answer, put_edit_answer_line, put_with_fault,
-    put_with_state,
+    answer_line, put_answer_line, put_edit_answer, put_edit_answer_line, put_request_answer_line,
+    put_with_fault, put_with_state,
 };
 pub use parts::{put_fault, put_missing, put_outcome, put_shown, put_state, put_undone};
 pub use steps::{message_text, step_text};

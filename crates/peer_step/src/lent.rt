@@ -1,10 +1,13 @@
-//! A peer's own edits whose pieces lie elsewhere, and their answers without their requests.
+//! Own edits whose pieces lie elsewhere, and answers without the requests that they would have.
 ghost use Rattle.std.specs.Prelude.{◌≡◌};
-ghost use Rattle.peer_step.specs.Lent.{local_edit_lent};
+ghost use Rattle.peer_step.specs.Lent.{local_edit_lent, answer_told};
 
+use crate::answer::Answer;
 use crate::step::LocalEdit;
 use coop_request::LentPiece;
+use edit_message::Missing;
 use element_name::Name;
+use request_state::State;
 
 /// An edit at a place of the shown text, from 0, whose piece lies elsewhere.
 #[derive(Drop)]
@@ -32,6 +35,23 @@ pub enum EditAnswer {
     Done { id: Name, version: u32 },
 }
 
+/// The answer to a request that comes, but that another one of its name is here, which is given back whole.
+#[derive(Clone, Copy)]
+pub enum RequestAnswer {
+    /// The request is here already.
+    Repeat,
+    /// The request is of this very site.
+    OwnSite,
+    /// The history has as many requests as it may.
+    HistoryFull,
+    /// The request misses something, and as many messages are held as may be.
+    HoldFull,
+    /// The request is held, since it misses this.
+    Held(Missing),
+    /// The request joined the history, with this state.
+    Taken(State),
+}
+
 impl LocalEdit {
     /// The edit, whose piece stays here. Takes constant time.
     pub fn lent(&self) -> LentLocalEdit<'_>
@@ -47,6 +67,22 @@ impl LocalEdit {
                 at: *at,
                 letter: letter.lent(),
             },
+        }
+    }
+}
+
+impl RequestAnswer {
+    /// The answer that it tells.
+    pub fn answer(self) -> Answer
+        ensures { result ≡ answer_told self }
+    {
+        match self {
+            RequestAnswer::Repeat => Answer::Repeat,
+            RequestAnswer::OwnSite => Answer::OwnSite,
+            RequestAnswer::HistoryFull => Answer::HistoryFull,
+            RequestAnswer::HoldFull => Answer::HoldFull,
+            RequestAnswer::Held(missing) => Answer::Held(missing),
+            RequestAnswer::Taken(state) => Answer::Taken(state),
         }
     }
 }

@@ -11,7 +11,7 @@ mod step;
 mod text;
 
 pub use answer::{Answer, Outcome};
-pub use lent::{EditAnswer, LentLocalEdit};
+pub use lent::{EditAnswer, LentLocalEdit, RequestAnswer};
 pub use packed_step::PackedStep;
 pub use step::{LocalEdit, Step};
 pub use text::Text;

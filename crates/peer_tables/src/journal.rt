@@ -25,7 +25,7 @@ use crate::advance::advance;
 use crate::item::{JournalItem, item_of};
 use crate::items::Items;
 use crate::join::{join, judged, validated_state};
-use crate::missing::{missing, missing_end};
+use crate::missing::{missed_by_request, missing, missing_end};
 use crate::sweep::Sweep;
 use crate::text::text_of;
 use admin_log::AdminLog;
@@ -177,6 +177,13 @@ impl Journal {
         ensures { result ≡ missing_in self.now message.now }
     {
         missing(self.log.len(), &self.seq, message)
+    }
+
+    /// What a request misses.
+    pub fn missing_request(&self, request: &LentRequest<'_>) -> Option<Missing>
+        ensures { result ≡ missing_in self.now (Message.Coop request.now) }
+    {
+        missed_by_request(self.log.len(), &self.seq, request)
     }
 
     /// The first end of an operation's span that is no element.
