@@ -6,6 +6,7 @@ ghost use Rattle.peer_core.specs.After.{peer_after};
 ghost use Rattle.form_feed.specs.Turn.{settle_told, all_settle_steps, message_told, message_turn, frame_turn};
 
 use crate::telling::{Nobody, Telling};
+use coop_request::LentRequest;
 use edit_frame::Frame;
 use edit_message::Message;
 use element_name::NoMemory;
@@ -13,7 +14,9 @@ use peer_core::Peer;
 use peer_step::{Answer, Step};
 use report_text::{end_line, turn_line};
 
-// Makes a step, and tells its answer.
+// Makes a step, and tells its answer. It stands apart from `receive`, since a step and an answer have room for pieces, which is
+// filled where a function begins.
+#[inline(never)]
 fn tell_step<T: Telling>(peer: &mut Peer, step: Step, to: &mut T) -> Result<(), NoMemory>
     ensures told { OnOk result (T.told to.new ≡ T.told to.old ++ T.line (answer_of peer.old step)) }
     ensures peer { OnOk result (peer.new ≡ peer_after peer.old step) }
@@ -62,12 +65,38 @@ fn settle<T: Telling>(peer: &mut Peer, to: &mut T) -> Result<(), NoMemory>
     Ok(())
 }
 
+// Receives a request, and tells the answer.
+fn receive_request<T: Telling>(
+    peer: &mut Peer,
+    request: &LentRequest<'_>,
+    to: &mut T,
+) -> Result<(), NoMemory>
+    ensures told { OnOk result (T.told to.new ≡ T.told to.old ++ T.line (answer_of peer.old (Step.Receive (Message.Coop request.now)))) }
+    ensures peer { OnOk result (peer.new ≡ peer_after peer.old (Step.Receive (Message.Coop request.now))) }
+{
+    match peer.receive_request(request)? {
+        Some(told) => to.tell_received(told),
+        None => tell_step(peer, Step::Receive(Message::Coop(request.request())), to),
+    }
+}
+
+// Receives a message, and tells the answer.
+fn receive<T: Telling>(peer: &mut Peer, message: Message, to: &mut T) -> Result<(), NoMemory>
+    ensures told { OnOk result (T.told to.new ≡ T.told to.old ++ T.line (answer_of peer.old (Step.Receive message))) }
+    ensures peer { OnOk result (peer.new ≡ peer_after peer.old (Step.Receive message)) }
+{
+    match message {
+        Message::Coop(request) => receive_request(peer, &request.lent(), to),
+        Message::Admin(entry) => tell_step(peer, Step::Receive(Message::Admin(entry)), to),
+    }
+}
+
 // Receives a message, settles what is due then, and tells the answers.
 fn take_message<T: Telling>(peer: &mut Peer, message: Message, to: &mut T) -> Result<(), NoMemory>
     ensures told { OnOk result (T.told to.new ≡ T.told to.old ++ message_told T.line peer.old message) }
     ensures peer { OnOk result (peer.new ≡ (message_turn peer.old message).after) }
 {
-    tell_step(peer, Step::Receive(message), to)?;
+    receive(peer, message, to)?;
     settle(peer, to)
 }
 

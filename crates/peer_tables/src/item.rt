@@ -1,11 +1,11 @@
 //! One message of a journal.
 ghost use Rattle.std.specs.Prelude.{◌≡◌, ◌↔◌, IfOk, IsTrue};
-ghost use Rattle.edit_message.specs.Message.{key_of};
+ghost use Rattle.edit_message.specs.Message.{key_of, request_in};
 ghost use Rattle.edit_message.specs.Same.{message_eq};
 ghost use Rattle.peer_tables.specs.Items.{message_by};
 
 use admin_log::AdminLog;
-use coop_request::PackedRequest;
+use coop_request::{LentRequest, PackedRequest};
 use edit_message::{Key, Message};
 use element_name::NoMemory;
 use policy_book::Entry;
@@ -43,6 +43,16 @@ impl<'a> JournalItem<'a> {
         match &self.part {
             Part::Request(request) => Key::Coop(request.lent().id()),
             Part::Entry(entry) => Key::Admin(entry.version()),
+        }
+    }
+
+    /// Its request, whose piece stays where it lies; none where it is an entry. Takes constant time.
+    pub fn lent_request(&self) -> Option<LentRequest<'_>>
+        ensures { result ≡ request_in self.now }
+    {
+        match &self.part {
+            Part::Request(request) => Some(request.lent()),
+            Part::Entry(_) => None,
         }
     }
 

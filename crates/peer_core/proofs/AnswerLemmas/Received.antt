@@ -7,6 +7,7 @@ use Rattle.element_name.specs.Cases.{when, given, first_of}
 use Rattle.element_name.proofs.CaseLemmas.{when-None, option_map-None, option_or-None}
 use Rattle.coop_request.specs.Request.{request_fault}
 use Rattle.coop_request.specs.History.{elements_of}
+use Rattle.edit_message.specs.declared.message.Key.{Key}
 use Rattle.edit_message.specs.declared.message.Message.{Message}
 use Rattle.edit_message.specs.declared.message.Message.TheVariants.{Coop, Admin}
 use Rattle.edit_message.specs.Message.{key_of, find_key}
@@ -27,6 +28,10 @@ use Rattle.peer_core.proofs.SoundLemmas.Keys.{new_key}
 use Rattle.peer_core.proofs.AnswerLemmas.Refusals.{receive_refuses}
 
 -- ---- messages of others
+
+-- nothing is found under the key of a message
+pub not_found : (p : Peer) (m : Message) (key : Key) → key ≡ key_of m → None ≡ find_key key (p.journal ++ p.held) → find_key (key_of m) (p.journal ++ p.held) ≡ None
+not_found p m key is found = ap (λ (k : Key). find_key k (p.journal ++ p.held)) (sym is) ∙ sym found
 
 -- what is found is here already
 pub receive_known : (p : Peer) (m kept : Message) → Some kept ≡ find_key (key_of m) (p.journal ++ p.held) → answer_receive p m ≡ answer_known m kept

@@ -7,14 +7,16 @@ ghost use Rattle.peer_core.specs.Peer.{missing, integrate};
 ghost use Rattle.peer_core.specs.Sound.{is_foreign};
 ghost use Rattle.peer_core.specs.Waiting.{MayIntegrate};
 ghost use Rattle.peer_core.specs.Answers.{answer_receive, answer_missing, answer_taken};
-ghost use Rattle.peer_core.specs.After.{changed_by, takes_none};
+ghost use Rattle.peer_core.specs.After.{changed_by, peer_after, takes_none};
+ghost use Rattle.peer_step.specs.Lent.{answer_told, IsTold};
 
 use super::Peer;
-use crate::known::{Known, answer_known};
-use edit_message::{Message, Missing};
+use crate::known::{Known, answer_known, told_known};
+use coop_request::LentRequest;
+use edit_message::{Key, Message, Missing};
 use element_name::NoMemory;
 use hold_back::{HoldFault, Need};
-use peer_step::{Answer, Step};
+use peer_step::{Answer, RequestAnswer, Step};
 use peer_tables::Sweep;
 
 impl Peer {
@@ -28,26 +30,50 @@ impl Peer {
         ensures unchanged { OnErr result (self.new ≡ self.old) }
         ensures takes_none { IsTrue (takes_none (answer_receive self.old message)) → IsOk result }
     {
-        if let Some(kept) = self.find(&message) {
+        if let Some(kept) = self.find(&message.key()) {
             return answer_known(&kept, &message);
         }
         if let Some(refusal) = self.receive_refusal(&message) {
             return Ok(refusal);
         }
         match self.journal.missing(&message) {
-            Some(missing) => self.keep(message, &missing),
+            Some(missing) => Ok(self.keep(message, &missing)?.answer()),
             None => self.take(message, sweep),
         }
     }
 
-    // The message of its key in journal or hold.
-    fn find(&self, message: &Message) -> Option<Known<'_>>
-        ensures found { option_map known_message result ≡ find_key (key_of message.now) (self.now.journal ++ self.now.held) }
-        ensures formed { IsTrue (is_message message.now) }
+    /// A request comes, as `step` receives it, where its piece is lent and its answer is told in a few words: so no piece is
+    /// moved. Nothing is told where another request of its name is here, which `step` gives. Takes the time and the memory of
+    /// `step`, and has its clauses.
+    pub fn receive_request(
+        &mut self,
+        request: &LentRequest<'_>,
+    ) -> Result<Option<RequestAnswer>, NoMemory>
+        ensures answer { IfOk result (λ told. IsTold (answer_receive self.old (Message.Coop request.now)) told) }
+        ensures after { OnOk result (self.new ≡ peer_after self.old (Step.Receive (Message.Coop request.now))) }
+        ensures other { IfOk result (λ told. told ≡ None → self.new ≡ self.old) }
+        ensures unchanged { OnErr result (self.new ≡ self.old) }
+        ensures takes_none { IsTrue (takes_none (answer_receive self.old (Message.Coop request.now))) → IsOk result }
     {
-        match self.journal.find(message.key()) {
+        if let Some(kept) = self.find(&Key::of_request(request)) {
+            return Ok(told_known(&kept, request));
+        }
+        if let Some(refusal) = self.request_refusal(request) {
+            return Ok(Some(refusal));
+        }
+        match self.journal.missing_request(request) {
+            Some(missing) => Ok(Some(self.keep_request(request, &missing)?)),
+            None => Ok(Some(RequestAnswer::Taken(self.take_request(request, None)?))),
+        }
+    }
+
+    // The message of a key in journal or hold.
+    fn find(&self, key: &Key) -> Option<Known<'_>>
+        ensures { option_map known_message result ≡ find_key key.now (self.now.journal ++ self.now.held) }
+    {
+        match self.journal.find(*key) {
             Some(kept) => Some(Known::Joined(kept)),
-            None => match self.hold.find(message.key()) {
+            None => match self.hold.find(*key) {
                 Some(held) => Some(Known::Held(held)),
                 None => None,
             },
@@ -55,22 +81,41 @@ impl Peer {
     }
 
     // A foreign message of a new key is held, since it misses something.
-    fn keep(&mut self, message: Message, what: &Missing) -> Result<Answer, NoMemory>
+    fn keep(&mut self, message: Message, what: &Missing) -> Result<RequestAnswer, NoMemory>
         requires missing { missing self.old message ≡ Some what.now }
         requires new { find_key (key_of message) (self.old.journal ++ self.old.held) ≡ None }
         requires formed { IsTrue (is_message message) }
         requires foreign { IsTrue (is_foreign self.old.site message) }
-        ensures answer { IfOk result (λ answer. answer ≡ answer_missing self.old what.now) }
+        ensures answer { IfOk result (λ told. answer_told told ≡ answer_missing self.old what.now) }
         ensures after { OnOk result (self.new ≡ changed_by self.old (Step.Receive message) (answer_missing self.old what.now)) }
         ensures unchanged { OnErr result (self.new ≡ self.old) }
         ensures takes_none { IsTrue (takes_none (answer_missing self.old what.now)) → IsOk result }
     {
         let need = Need::of(&message, *what);
         match self.hold.keep(message, need) {
-            Ok(()) => Ok(Answer::Held(*what)),
-            Err(HoldFault::Full) => Ok(Answer::HoldFull),
+            Ok(()) => Ok(RequestAnswer::Held(*what)),
+            Err(HoldFault::Full) => Ok(RequestAnswer::HoldFull),
             Err(HoldFault::NoMemory) => Err(NoMemory),
         }
+    }
+
+    // The same of a lent request. It stands apart, since a message has room for a piece, which is filled where a function begins.
+    #[inline(never)]
+    fn keep_request(
+        &mut self,
+        request: &LentRequest<'_>,
+        what: &Missing,
+    ) -> Result<RequestAnswer, NoMemory>
+        requires missing { missing self.old (Message.Coop request.now) ≡ Some what.now }
+        requires new { find_key (key_of (Message.Coop request.now)) (self.old.journal ++ self.old.held) ≡ None }
+        requires formed { IsTrue (is_message (Message.Coop request.now)) }
+        requires foreign { IsTrue (is_foreign self.old.site (Message.Coop request.now)) }
+        ensures answer { IfOk result (λ told. answer_told told ≡ answer_missing self.old what.now) }
+        ensures after { OnOk result (self.new ≡ changed_by self.old (Step.Receive (Message.Coop request.now)) (answer_missing self.old what.now)) }
+        ensures unchanged { OnErr result (self.new ≡ self.old) }
+        ensures takes_none { IsTrue (takes_none (answer_missing self.old what.now)) → IsOk result }
+    {
+        self.keep(Message::Coop(request.request()), what)
     }
 
     // The message is integrated.

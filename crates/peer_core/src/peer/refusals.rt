@@ -4,14 +4,14 @@ ghost use Rattle.element_name.specs.Cases.{first_of};
 ghost use Rattle.peer_core.specs.Answers.{rows_of_edit, rows_of_log, rows_of_validation, rows_of_operation, rows_of_administer, rows_of_message};
 ghost use Rattle.peer_core.specs.Edited.{answer_refused};
 ghost use Rattle.peer_core.specs.Local.{fits_text};
-ghost use Rattle.peer_step.specs.Lent.{local_edit_lent};
+ghost use Rattle.peer_step.specs.Lent.{local_edit_lent, answer_told};
 
 use super::Peer;
 use super::edits::EditRefusal;
 use coop_request::LentRequest;
 use edit_message::{Message, Missing};
 use element_name::{MAX_STAMP, MAX_VERSION, Name};
-use peer_step::{Answer, LentLocalEdit};
+use peer_step::{Answer, LentLocalEdit, RequestAnswer};
 use peer_tables::validated_by;
 use policy_book::{AdminOp, Entry};
 use request_state::State;
@@ -86,19 +86,22 @@ impl Peer {
         ensures { result ≡ first_of (rows_of_message self.now message.now) }
     {
         match message {
-            Message::Coop(request) => self.request_refusal(&request.lent()),
+            Message::Coop(request) => match self.request_refusal(&request.lent()) {
+                Some(refusal) => Some(refusal.answer()),
+                None => None,
+            },
             Message::Admin(entry) => self.entry_refusal(entry),
         }
     }
 
-    fn request_refusal(&self, request: &LentRequest<'_>) -> Option<Answer>
-        ensures { result ≡ first_of (rows_of_message self.now (Message.Coop request.now)) }
+    pub(super) fn request_refusal(&self, request: &LentRequest<'_>) -> Option<RequestAnswer>
+        ensures { option_map answer_told result ≡ first_of (rows_of_message self.now (Message.Coop request.now)) }
     {
         if request.user() == self.site {
-            return Some(Answer::OwnSite);
+            return Some(RequestAnswer::OwnSite);
         }
         if self.journal.is_full() {
-            return Some(Answer::HistoryFull);
+            return Some(RequestAnswer::HistoryFull);
         }
         None
     }

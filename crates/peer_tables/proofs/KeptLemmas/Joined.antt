@@ -10,7 +10,7 @@ use Rattle.element_name.proofs.EachAfterLemmas.{EachAfter-push}
 use Rattle.coop_request.specs.declared.request.TheConstants.{MAX_REQUESTS}
 use Rattle.coop_request.specs.Edit.{anchor_or_target}
 use Rattle.coop_request.specs.Request.{Request, element_of}
-use Rattle.coop_request.specs.History.{text_order, FollowsHistory}
+use Rattle.coop_request.specs.History.{text_order, elements_of, FollowsHistory}
 use Rattle.policy_book.specs.Entry.{Entry}
 use Rattle.policy_book.specs.declared.op.AdminOp.{AdminOp}
 use Rattle.edit_message.specs.declared.message.Message.{Message}
@@ -30,7 +30,7 @@ use Rattle.request_state.specs.Table.{kept_of, is_in_order, with_request}
 use Rattle.elem_show.specs.Table.{Table, shows_by}
 use Rattle.tomb_seq.specs.declared.slot.Slot.{Slot}
 use Rattle.tomb_seq.specs.Slots.{names_in, with_mark}
-use Rattle.peer_tables.specs.Derived.{state_in}
+use Rattle.peer_tables.specs.Derived.{state_in, missing_in}
 use Rattle.peer_tables.specs.Journal.{FollowsJournal}
 use Rattle.peer_tables.specs.Kept.{AreKnown, IsGivenState, IsJoinable, cells_joined, AreTablesOf, IsKeptOf, IsPlaceable, is_addable, kept_in, names_after, slots_after}
 use Rattle.peer_tables.proofs.JournalLemmas.{log_law, formed_push, requests_request, entries_request, follows_history}
@@ -38,14 +38,14 @@ use Rattle.peer_tables.proofs.HistoryLemmas.{order_push}
 use Rattle.peer_tables.proofs.StableLemmas.{known_law}
 use Rattle.peer_tables.proofs.KeptLemmas.OneMore.{fresh, kept_push}
 use Rattle.peer_tables.proofs.KeptLemmas.Follows.{placeable, addable, joinable}
-use Rattle.peer_tables.proofs.KeptLemmas.Reads.{read_names}
+use Rattle.peer_tables.proofs.KeptLemmas.Reads.{read_names, read_has}
 
 -- ---- what is missing depends on which elements there are
 
 pub missing_end_agree : (xs ys : List Name) (op : AdminOp) → ((n : Name) → has_name xs n ≡ has_name ys n) → missing_end xs op ≡ missing_end ys op
 missing_end_agree xs ys op same = ap (λ (f : Name → Bool). option_map Element (find (λ n. not (f n)) (span_ends op))) (λ i n. same n i)
 
-pub missing_agree : (front : ℕ) (xs ys : List Name) (m : Message) → ((n : Name) → has_name xs n ≡ has_name ys n) → missing_of front xs m ≡ missing_of front ys m
+missing_agree : (front : ℕ) (xs ys : List Name) (m : Message) → ((n : Name) → has_name xs n ≡ has_name ys n) → missing_of front xs m ≡ missing_of front ys m
 missing_agree front xs ys (Coop q) same =
     let n = anchor_or_target q.edit in
     ap (λ b. first_of (when (nat_lt front q.version) (Version (front + 1)) ∷ when (not (name_eq n start || b)) (Element n) ∷ [])) (same n)
@@ -60,6 +60,13 @@ follows_items items J m is follows = subst (λ (I : List Message). FollowsJourna
 
 module _ (J : List Message) (log : List Entry) (slots : List Slot) (cells : Table) (table : List Kept) (stamp count : ℕ)
     (kept : IsKeptOf J log slots cells table stamp count) where
+  -- what a message misses at the front of the log and among the elements that stand is what it misses in the journal
+  pub missing_kept : (front : ℕ) (m : Message) → front ≡ length log → missing_of front (names_in slots) m ≡ missing_in J m
+  missing_kept front m is =
+      missing_agree front (names_in slots) (elements_of (requests_of J)) m (read_has J log slots cells table stamp count kept)
+      ∙ ap (λ (n : ℕ). missing_of n (elements_of (requests_of J)) m) is
+      ∙ ap (λ (L : List Entry). missing_of (length L) (elements_of (requests_of J)) m) kept.entries
+
   pub known : AreKnown (requests_of J) log
   known = subst (λ (L : List Entry). AreKnown (requests_of J) L) (sym kept.entries) (known_law J kept.journal)
 
