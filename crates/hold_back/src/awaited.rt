@@ -1,11 +1,13 @@
 //! What is awaited.
 ghost use Rattle.std.specs.Prelude.{◌≡◌, ◌==◌, ◌<◌, true, nat_lt};
+ghost use Rattle.std.specs.Ordering.{nat_cmp};
 ghost use Rattle.hold_back.specs.declared.awaited.Awaited.TheVariants as awaited;
 ghost use Rattle.hold_back.specs.Index.{awaited_need, awaited_key, awaited_rank, is_ranked, need_fits, key_fits};
 
 use crate::need::Need;
 use edit_message::Key;
 use name_index::PackedName;
+use std::cmp::Ordering;
 
 /// What a message awaits, or what has its key. In the order nothing comes first, then versions, and then elements.
 #[derive(Clone, Copy)]
@@ -49,17 +51,18 @@ impl Awaited {
         Awaited::Version(version)
     }
 
-    /// Whether this is before the other in the order.
-    pub(crate) fn is_before(&self, other: &Awaited) -> bool
-        ensures { result ≡ nat_lt (awaited_rank self.now) (awaited_rank other.now) }
+    /// How this stands to the other in the order.
+    pub(crate) fn compare(&self, other: &Awaited) -> Ordering
+        ensures { result ≡ nat_cmp (awaited_rank self.now) (awaited_rank other.now) }
     {
         match (self, other) {
-            (_, Awaited::Nothing) => false,
-            (Awaited::Nothing, _) => true,
-            (Awaited::Version(own), Awaited::Version(version)) => own < version,
-            (Awaited::Version(own), Awaited::Element(_)) => precedes_names(*own),
-            (Awaited::Element(_), Awaited::Version(version)) => !precedes_names(*version),
-            (Awaited::Element(own), Awaited::Element(name)) => is_lesser(*own, *name),
+            (Awaited::Nothing, Awaited::Nothing) => Ordering::Equal,
+            (Awaited::Nothing, _) => Ordering::Less,
+            (_, Awaited::Nothing) => Ordering::Greater,
+            (Awaited::Version(own), Awaited::Version(version)) => own.cmp(version),
+            (Awaited::Version(own), Awaited::Element(_)) => before_names(*own),
+            (Awaited::Element(_), Awaited::Version(version)) => before_names(*version).reverse(),
+            (Awaited::Element(own), Awaited::Element(name)) => compare_names(*own, *name),
         }
     }
 
@@ -67,22 +70,20 @@ impl Awaited {
     pub(crate) fn is_same(&self, other: &Awaited) -> bool
         ensures { result ≡ (awaited_rank self.now == awaited_rank other.now) }
     {
-        !self.is_before(other) && !other.is_before(self)
+        matches!(self.compare(other), Ordering::Equal)
     }
 }
 
-// Each version does.
-fn precedes_names(version: u32) -> bool
-    ensures value { result ≡ true }
+// How each version stands to each name.
+fn before_names(version: u32) -> Ordering
+    ensures value { result ≡ Ordering.Less }
     ensures small { version < 4294967296 }
 {
-    true
+    Ordering::Less
 }
 
-fn is_lesser(own: PackedName, name: PackedName) -> bool
-    ensures { result ≡ nat_lt (awaited_rank (awaited.Element own)) (awaited_rank (awaited.Element name)) }
+fn compare_names(own: PackedName, name: PackedName) -> Ordering
+    ensures { result ≡ nat_cmp (awaited_rank (awaited.Element own)) (awaited_rank (awaited.Element name)) }
 {
-    let own = own.name();
-    let name = name.name();
-    own.stamp() < name.stamp() || (own.stamp() == name.stamp() && own.site() < name.site())
+    own.cmp(&name)
 }

@@ -3,6 +3,7 @@ ghost use Rattle.std.specs.Prelude.{◌≡◌, nat_lt};
 ghost use Rattle.hold_back.specs.Index.{ticket_rank};
 
 use crate::awaited::Awaited;
+use std::cmp::Ordering;
 
 /// A message in a row: what it awaits, or what has its key, and its number of arrival. Tickets are ordered by the one, and
 /// then by the other.
@@ -29,8 +30,9 @@ pub(crate) fn comes_before(ticket: &Ticket, other: &Ticket) -> bool
     ensures { result ≡ nat_lt (ticket_rank ticket.now) (ticket_rank other.now) }
 {
     let (arrival, others) = (ticket.arrival, other.arrival);
-    if ticket.awaited.is_before(&other.awaited) {
-        return true;
+    match ticket.awaited.compare(&other.awaited) {
+        Ordering::Less => true,
+        Ordering::Equal => arrival < others,
+        Ordering::Greater => false,
     }
-    !other.awaited.is_before(&ticket.awaited) && arrival < others
 }
