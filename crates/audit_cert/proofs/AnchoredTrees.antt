@@ -2,11 +2,11 @@
 use Rattle.std.proofs.Common.{◌≡◌, ℕ, ◌<◌, Bool, true, false, None, Some, List, [], ◌∷◌, ◌++◌, refl, sym, ap, subst, ◌∙◌, inl, inr, append_assoc, arith, IsPermutation}
 use Rattle.std.specs.declared.cmp.Ordering.TheVariants.{Less}
 use Rattle.std.specs.Ordering.{is_lt}
-use Rattle.std.specs.Prelude.{◌||◌, is_some, nat_lt, if◌then◌else◌}
+use Rattle.std.specs.Prelude.{◌||◌, nat_lt, if◌then◌else◌}
 use Rattle.std.specs.List.{list_all, AllByRecursion}
 use Rattle.std.specs.List.Sorted.{IsStrictlySortedBy}
-use Rattle.std.specs.Map.{keys_of, lookup}
-use Rattle.std.specs.BTreeMap.{is_at, insert_entry}
+use Rattle.std.specs.Map.{keys_of}
+use Rattle.std.specs.BTreeMap.{insert_entry}
 use Rattle.std.proofs.lemmas.Bool.{and_parts, and_from, both_ways}
 use Rattle.std.proofs.lemmas.Bool.Decides.{nat_tests}
 use Rattle.std.proofs.lemmas.List.{map-append}
@@ -27,7 +27,6 @@ use Rattle.tomb_seq.proofs.NameOrder.{name_lt_by_stamp}
 use Rattle.tomb_seq.proofs.SlotEdits.{IsFree, IsFree-no_fault}
 use Rattle.tomb_seq.proofs.Theorems.{each_law, same_law, skip_law}
 use Rattle.audit_cert.specs.Anchors.{placed_from, is_anchored, IsAnchored}
-use Rattle.audit_cert.proofs.IdLemmas.{found_key}
 
 -- ---- names in ascending order
 
@@ -125,9 +124,9 @@ no_start names (e ∷ es) h =
 pub has_placed : (placed : List Placed) (n : Name) → IsTree placed → has_name (order placed) n ≡ has_name (names_of placed) n
 has_placed placed n tree = sym (list_any-IsPermutation (name_eq n) (names_of placed) (order placed) (each_law placed tree))
 
-pub found_element : (es : List (Name × Name)) (n : Name) → IsAnchored es → is_some (lookup (is_at (name_cmp n)) es) ≡ has_name (order (placed_from es)) n
-found_element es n h =
-    found_key es n ∙ ap (λ (ns : List Name). has_name ns n) (sym (names_placed es)) ∙ sym (has_placed (placed_from es) n (tree_law es h))
+-- the keys are the elements
+pub key_element : (es : List (Name × Name)) (n : Name) → IsAnchored es → has_name (keys_of es) n ≡ has_name (order (placed_from es)) n
+key_element es n h = ap (λ (ns : List Name). has_name ns n) (sym (names_placed es)) ∙ sym (has_placed (placed_from es) n (tree_law es h))
 
 -- ---- one more element
 
@@ -172,7 +171,7 @@ module _ (es : List (Name × Name)) (n after : Name) (h : IsAnchored es) (free :
   fresh = IsFree-no_fault (order (placed_from es)) n after free
 
   known : (m : Name) → has_name (order (placed_from es)) m ≡ has_name (keys_of es) m
-  known m = has_placed (placed_from es) m (tree_law es h) ∙ ap (λ (ns : List Name). has_name ns m) (names_placed es)
+  known m = sym (key_element es m h)
 
   rising : after.stamp < n.stamp
   rising = let test = fresh.rising in grind (arith, nat_tests)

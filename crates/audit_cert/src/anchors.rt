@@ -5,6 +5,7 @@ ghost use Rattle.element_name.specs.Places.{is_anchor};
 ghost use Rattle.tomb_seq.specs.Insert.{insert_fault};
 
 use crate::elements::Elements;
+use crate::ids::is_key;
 use crate::order::{NameIndex, in_order};
 use element_name::{Name, NoMemory};
 use name_index::{ChunkMap, PackedName};
@@ -46,7 +47,7 @@ impl Anchors {
     fn has(&self, n: Name) -> bool
         ensures { result ≡ has_name self.now n }
     {
-        self.anchors.get(PackedName::of(n)).is_some()
+        is_key(&self.anchors, n)
     }
 
     fn is_anchor(&self, n: Name) -> bool

@@ -1,5 +1,6 @@
 //! The names of requests that were read.
 ghost use Rattle.std.specs.Prelude.{◌≡◌, ◌+◌, ◌||◌, [], false, length, OnOk};
+ghost use Rattle.std.specs.Map.{keys_of};
 ghost use Rattle.element_name.specs.Name.{Name, name_eq, has_name};
 
 use element_name::{Name, NoMemory};
@@ -24,6 +25,13 @@ impl Model for Ids {
     ghost view = { λ i. keys_of i.names };
 }
 
+/// Whether a name is a key of an index. Takes a look-up.
+pub(crate) fn is_key<V: Copy>(index: &ChunkMap<PackedName, V>, n: Name) -> bool
+    ensures { result ≡ has_name (keys_of index.now) n }
+{
+    index.get(PackedName::of(n)).is_some()
+}
+
 impl Ids {
     /// No names. Takes no memory.
     pub(crate) fn new(alloc: Global) -> Ids
@@ -45,7 +53,7 @@ impl Ids {
     pub(crate) fn has(&self, n: Name) -> bool
         ensures { result ≡ has_name self.now n }
     {
-        self.names.get(PackedName::of(n)).is_some()
+        is_key(&self.names, n)
     }
 
     /// Puts a new name in.
