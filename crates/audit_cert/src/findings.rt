@@ -1,10 +1,12 @@
 //! The state of a request and its grants, by the policies of the versions at which another authorization may match first.
-ghost use Rattle.std.specs.Prelude.{◌≡◌, ◌≤◌, ◌<◌, true, Some, length, IfOk};
+ghost use Rattle.std.specs.Prelude.{◌≡◌, ◌≤◌, ◌<◌, ◌+◌, ◌-◌, ℕ, true, Some, None, map, length, IfOk, IfErr};
+ghost use Rattle.std.specs.List.{range_with_len};
+ghost use Rattle.element_name.specs.Cases.{first_of};
 ghost use Rattle.element_name.specs.Name.{has_name};
 ghost use Rattle.coop_request.specs.Request.{user_of, element_of};
 ghost use Rattle.admin_log.specs.Log.{policy_at, validated_at};
-ghost use Rattle.check_remote.specs.State.{denial_by, state_by, state_of, judged_versions};
-ghost use Rattle.audit_cert.specs.Grants.{granting_at, grants_over, grants_of};
+ghost use Rattle.check_remote.specs.State.{denial_at, denial_by, first_denial, state_by, state_of, judged_versions};
+ghost use Rattle.audit_cert.specs.Grants.{granting_at, put_in_front, grants_over, grants_of};
 ghost use Rattle.audit_cert.specs.Rematches.{IsRematchTable};
 
 use crate::grant::{Grant, go_on, range_end};
@@ -36,6 +38,62 @@ fn state_by(log: &AdminLog, request: Request, version: u32, verdict: Verdict) ->
     }
 }
 
+// The number of the authorization that grants a request of another user than 0 by the policy of a version. Where none
+// does, the state of the request, if each version before that one grants it.
+fn judge<P: Places>(
+    judging: &Judging<'_, P>,
+    request: Request,
+    at: u32,
+    policy: &Policy,
+) -> Result<u32, State>
+    requires other { 0 < user_of request }
+    requires policy { policy.now ≡ policy_at judging.now.log.now at }
+    requires element { has_name (P.names judging.now.places.now) (element_of request) ≡ true }
+    ensures granted { IfOk result (λ by. granting_at (P.names judging.now.places.now) judging.now.log.now request at ≡ Some by) }
+    ensures denied { IfErr result (λ _. granting_at (P.names judging.now.places.now) judging.now.log.now request at ≡ None) }
+    ensures state { let denials = denial_at (P.names judging.now.places.now) judging.now.log.now request in
+        IfErr result (λ state. (end : ℕ) → at < end
+        → first_denial (P.names judging.now.places.now) judging.now.log.now request ≡ first_of (map denials (range_with_len at (end - at)))
+        → state ≡ state_of (P.names judging.now.places.now) judging.now.log.now request) }
+{
+    let Judging { log, places, .. } = *judging;
+    match granting_auth(places, policy, request) {
+        Some(by) => Ok(by),
+        None => {
+            let verdict = request_verdict(policy, request, places);
+            Err(state_by(log, request, at, verdict))
+        }
+    }
+}
+
+// The versions from the first on, up to where another authorization than the one that grants that one may match.
+fn run_from<P: Places>(
+    judging: &Judging<'_, P>,
+    request: Request,
+    first: u32,
+    end: u32,
+    by: u32,
+) -> Grant
+    requires table { IsRematchTable judging.now.log.now judging.now.table.now }
+    requires other { 0 < user_of request }
+    requires some { first < end }
+    requires within { end ≤ length judging.now.log.now + 1 }
+    requires granted { granting_at (P.names judging.now.places.now) judging.now.log.now request first ≡ Some by }
+    ensures some { first ≤ result.to }
+    ensures within { result.to < end }
+    ensures state { let denials = denial_at (P.names judging.now.places.now) judging.now.log.now request in
+        first_of (map denials (range_with_len first (end - first))) ≡ first_of (map denials (range_with_len (result.to + 1) (end - (result.to + 1)))) }
+    ensures grants { let granting = granting_at (P.names judging.now.places.now) judging.now.log.now request in
+        put_in_front result (grants_over granting (range_with_len (result.to + 1) (end - (result.to + 1)))) ≡ grants_over granting (range_with_len first (end - first)) }
+{
+    let next = judging.table.next(request.user(), first + 1, end);
+    Grant {
+        from: first,
+        to: next - 1,
+        by,
+    }
+}
+
 // What is found of a request that the authorization of the number `by` grants at the version that it carries, by whose
 // policy.
 fn walk<P: Places>(
@@ -55,33 +113,25 @@ fn walk<P: Places>(
     ensures grants { let granting = granting_at (P.names judging.now.places.now) judging.now.log.now request in
         IfOk result (λ found. found.grants.items ≡ grants_over granting (judged_versions judging.now.log.now request)) }
 {
-    let Judging { log, table, places } = *judging;
+    let log = judging.log;
     let mut grants = Vec::new(alloc);
-    let first = request.version();
     let end = range_end(log, request);
     // The version of the policy.
-    let mut at = first;
-    let mut next = table.next(request.user(), at + 1, end);
-    let mut current = Grant {
-        from: first,
-        to: next - 1,
-        by,
-    };
+    let mut at = request.version();
+    let mut current = run_from(judging, request, at, end, by);
+    let mut next = current.to + 1;
     while next < end {
         log.advance(&mut policy, at, next)?;
         at = next;
-        let Some(by) = granting_auth(places, &policy, request) else {
-            let verdict = request_verdict(&policy, request, places);
-            let state = state_by(log, request, at, verdict);
-            grants.push(current)?;
-            return Ok(Findings { state, grants });
+        let by = match judge(judging, request, at, &policy) {
+            Ok(by) => by,
+            Err(state) => {
+                grants.push(current)?;
+                return Ok(Findings { state, grants });
+            }
         };
-        next = table.next(request.user(), at + 1, end);
-        let run = Grant {
-            from: at,
-            to: next - 1,
-            by,
-        };
+        let run = run_from(judging, request, at, end, by);
+        next = run.to + 1;
         go_on(&mut grants, &mut current, run)?;
     }
     let granted = state_by(log, request, at, Verdict::Granted);
@@ -108,7 +158,7 @@ pub(crate) fn findings_of<P: Places>(
     ensures state { IfOk result (λ found. found.state ≡ state_of (P.names judging.now.places.now) judging.now.log.now request) }
     ensures grants { IfOk result (λ found. found.grants.items ≡ grants_of (P.names judging.now.places.now) judging.now.log.now request) }
 {
-    let Judging { log, places, .. } = *judging;
+    let log = judging.log;
     let at = request.version();
     if request.user() == 0 {
         let granted = state_by(log, request, at, Verdict::Granted);
@@ -118,11 +168,9 @@ pub(crate) fn findings_of<P: Places>(
         });
     }
     let policy = log.policy_at(at)?;
-    match granting_auth(places, &policy, request) {
-        Some(by) => walk(alloc, judging, request, policy, by),
-        None => {
-            let verdict = request_verdict(&policy, request, places);
-            let state = state_by(log, request, at, verdict);
+    match judge(judging, request, at, &policy) {
+        Ok(by) => walk(alloc, judging, request, policy, by),
+        Err(state) => {
             let grants = Vec::new(alloc);
             Ok(Findings { state, grants })
         }
