@@ -82,23 +82,6 @@ fn put_state_line(out: &mut Vec<u8>, name: Name, state: State) -> Result<(), NoM
     put(out, b"\n")
 }
 
-// Appends the lines of one request.
-fn put_request<P: Places>(
-    alloc: Global,
-    out: &mut Vec<u8>,
-    judging: &Judging<'_, P>,
-    request: Request,
-) -> Result<(), NoMemory>
-    requires table { IsRematchTable judging.now.log.now judging.now.table.now }
-    requires carried { request.version ≤ length judging.now.log.now }
-    requires element { has_name (P.names judging.now.places.now) (element_of request) ≡ true }
-    ensures { OnOk result (out.new.items ≡ out.old.items ++ concat (request_lines (P.names judging.now.places.now) judging.now.log.now request)) }
-{
-    let findings = findings_of(alloc, judging, request)?;
-    put_state_line(out, request.id(), findings.state)?;
-    put_grants(out, &findings.grants)
-}
-
 // Appends the lines of a message, which are those of its request, if it is one.
 fn put_message<P: Places>(
     alloc: Global,
@@ -111,7 +94,11 @@ fn put_message<P: Places>(
     ensures { OnOk result (out.new.items ≡ out.old.items ++ message_bytes (P.names judging.now.places.now) judging.now.log.now message) }
 {
     match message {
-        Message::Coop(request) => put_request(alloc, out, judging, request),
+        Message::Coop(request) => {
+            let findings = findings_of(alloc, judging, request)?;
+            put_state_line(out, request.id(), findings.state)?;
+            put_grants(out, &findings.grants)
+        }
         Message::Admin(_) => Ok(()),
     }
 }
