@@ -260,8 +260,8 @@ first_coming all coming next first none = record {
 }
 
 -- where one is left there is a first
-pub no_end : (all : List (Name × Name)) (count : ℕ) (next : Name → Option Name) → IsComing all count None next → 0 < count → ⊥
-no_end all count next state some = by state.left state.count_is state.first
+pub no_end : (all : List (Name × Name)) (count : ℕ) (coming : Option (Name × Name)) (next : Name → Option Name) → coming ≡ None → IsComing all count coming next → 0 < count → ⊥
+no_end all count coming next none state some = by state.left state.count_is (sym none ∙ state.first)
   where
     by : (left : List (Name × Name)) → length left ≡ count → None ≡ slice_get left 0 → ⊥
     by [] is first = omega (arith, is, some)
@@ -276,9 +276,10 @@ all_linked all count coming next state none = by state.left state.count_is state
     by [] is linked = subst (λ (es : List (Name × Name)). LeadsThrough next start (order (placed_from es))) (sym (append-nil linked.read) ∙ sym linked.whole) linked.leads
     by (x ∷ left) is linked = absurd (omega (arith, is, none))
 
-module _ (all : List (Name × Name)) (count : ℕ) (e : Name × Name) (next : Name → Option Name) (h : IsAnchored all) (state : IsComing all count (Some e) next) where
+module _ (all : List (Name × Name)) (count : ℕ) (coming : Option (Name × Name)) (e : Name × Name) (next : Name → Option Name) (is : coming ≡ Some e) (h : IsAnchored all)
+    (state : IsComing all count coming next) where
   here : (rest : List (Name × Name)) × (state.left ≡ e ∷ rest)
-  here = by state.left state.first
+  here = by state.left (sym is ∙ state.first)
     where
       by : (left : List (Name × Name)) → Some e ≡ slice_get left 0 → (rest : List (Name × Name)) × (left ≡ e ∷ rest)
       by [] first = absurd (cc)
@@ -292,9 +293,9 @@ module _ (all : List (Name × Name)) (count : ℕ) (e : Name × Name) (next : Na
   fresh_coming = linked_here.others e.0 (is_fresh all e here.0 next h linked_here)
 
   -- with the first behind its anchor the next is the first
-  pub next_coming : (new : Name → Option Name) → ((m : Name) → new m ≡ put_behind next e.1 e.0 m) → (coming : Option (Name × Name))
-      → coming ≡ find (λ x. is_lt (name_cmp e.0 x.0)) all → (fewer : ℕ) → fewer + 1 ≡ count → IsComing all fewer coming new
-  next_coming new put coming found fewer less = record {
+  pub next_coming : (new : Name → Option Name) → ((m : Name) → new m ≡ put_behind next e.1 e.0 m) → (later : Option (Name × Name))
+      → later ≡ find (λ x. is_lt (name_cmp e.0 x.0)) all → (fewer : ℕ) → fewer + 1 ≡ count → IsComing all fewer later new
+  next_coming new put later found fewer less = record {
     left = here.0;
     linked = next_linked all e here.0 next h linked_here new put;
     count_is = omega (arith, ap (λ (es : List (Name × Name)). length es) here.1, state.count_is, less);

@@ -1,5 +1,4 @@
 use Rattle.std.proofs.Common.{◌≡◌, ℕ, ◌+◌, ◌-◌, List, None, length, ap, subst, arith}
-use Rattle.std.specs.declared.option.Option.{Option}
 use Rattle.element_name.specs.Name.{Name}
 use Rattle.audit_cert.specs.Anchors.{name_under}
 use Rattle.audit_cert.proofs.Followings.{IsComing, first_coming, no_end, all_linked, fresh_coming, next_coming}
@@ -16,30 +15,20 @@ names-init c =
 pub unreachable-requires : goal.unreachable-requires
 unreachable-requires c =
     let all = c.args.anchors.now in
-    let next = name_under c.names.next in
-    let count = length all - c.names.counter in
-    let state = subst (λ (o : Option (Name × Name)). IsComing all count o next) c.in_default.is c.names.invariant in
-    no_end all count next state (omega (arith, c.len-end.ensures.count, c.names-test.true))
+    no_end all (length all - c.names.counter) c.names.coming (name_under c.names.next) c.in_default.is c.names.invariant (omega (arith, c.len-end.ensures.count, c.names-test.true))
 
 pub put_behind-requires : goal.put_behind-requires
 put_behind-requires c =
     let all = c.args.anchors.now in
-    let e : Name × Name = c.in-Some.entry in
-    let next = name_under c.names.next in
-    let count = length all - c.names.counter in
-    let state = subst (λ (o : Option (Name × Name)). IsComing all count o next) c.in-Some.is c.names.invariant in
-    fresh_coming all count e next c.requires state
+    fresh_coming all (length all - c.names.counter) c.names.coming c.in-Some.entry (name_under c.names.next) c.in-Some.is c.requires c.names.invariant
 
 pub names-preserved : goal.names-preserved
 names-preserved c =
     let all = c.args.anchors.now in
-    let e : Name × Name = c.in-Some.entry in
-    let next = name_under c.names.next in
     let count = length all - c.names.counter in
-    let state = subst (λ (o : Option (Name × Name)). IsComing all count o next) c.in-Some.is c.names.invariant in
     let fewer : (length all - (c.names.counter + 1)) + 1 ≡ count = omega (arith, c.len-end.ensures.count, c.names-test.true) in
-    next_coming all count e next c.requires state (name_under c.put_behind.new.next) c.in_ok-put_behind.ensures c.next_above-coming.result c.next_above-coming.ensures.entry
-    (length all - (c.names.counter + 1)) fewer
+    next_coming all count c.names.coming c.in-Some.entry (name_under c.names.next) c.in-Some.is c.requires c.names.invariant (name_under c.put_behind.new.next) c.in_ok-put_behind.ensures
+    c.next_above-coming.result c.next_above-coming.ensures.entry (length all - (c.names.counter + 1)) fewer
 
 pub returns : goal.returns
 returns c =
