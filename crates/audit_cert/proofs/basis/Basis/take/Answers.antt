@@ -15,8 +15,8 @@ returns-then-knows-clause-refused g c = λ no J basis.
     known_refused J self.log (g.E.Elements.names self.elements) self.ids basis c.args.message
     (ap (is_known (length self.log) self.ids) (sym c.key.ensures.value) ∙ sym c.knows.ensures ∙ c.if-knows.true)
 
-pub returns-in_ok-joined-in-Coop-clause-taken : goal.returns-in_ok-joined-in-Coop-clause-taken
-returns-in_ok-joined-in-Coop-clause-taken g c = λ yes J basis.
+pub returns-in_ok-joined-in-Coop : goal.returns-in_ok-joined-in-Coop
+returns-in_ok-joined-in-Coop g c =
     let self = c.args.self.now in
     let names = g.E.Elements.names in
     let q = c.in-Coop.request in
@@ -24,34 +24,27 @@ returns-in_ok-joined-in-Coop-clause-taken g c = λ yes J basis.
     let formed : is_message (Coop q) ≡ true = ap is_message is ∙ c.key.ensures.message in
     let new : has_name self.ids q.id ≡ false =
     ap (λ (m : Message). is_known (length self.log) self.ids (key_of m)) is ∙ ap (is_known (length self.log) self.ids) (sym c.key.ensures.value) ∙ sym c.knows.ensures ∙ c.if-knows.false in
-    let joins : may_join (length self.log) (names self.elements) (length self.ids) q ≡ true =
-    ap (λ n. may_join n (names self.elements) (length self.ids) q) (sym c.len-front.ensures.count) ∙ sym c.in_ok-joined-in-Coop.ensures.test ∙ yes in
-    subst (λ (m : Message). IsBasisOf (J ++ m ∷ []) self.log (names c.take_request.new.elements) c.take_request.new.ids) is
-    (request_taken J self.log (names self.elements) self.ids basis q (names c.take_request.new.elements) c.take_request.new.ids c.in_ok-joined-in-Coop.ensures.accepted formed new joins
-    (c.in_ok-joined-in-Coop.ensures.names yes) (c.in_ok-joined-in-Coop.ensures.noted yes) (c.in_ok-joined-in-Coop.ensures.count yes))
+    let joined = c.in_ok-joined-in-Coop.ensures in
+    let test = ap (λ n. may_join n (names self.elements) (length self.ids) q) (sym c.len-front.ensures.count) ∙ sym joined.test in
+    record {
+      taken = λ yes J basis.
+          subst (λ (m : Message). IsBasisOf (J ++ m ∷ []) self.log (names c.take_request.new.elements) c.take_request.new.ids) is
+          (request_taken J self.log (names self.elements) self.ids basis q (names c.take_request.new.elements) c.take_request.new.ids joined.accepted formed new (test ∙ yes)
+          (joined.names yes) (joined.noted yes) (joined.count yes));
+      refused = λ no J basis. subst (λ (m : Message). ¬ IsWithin (J ++ m ∷ [])) is (request_refused J self.log (names self.elements) self.ids basis q (test ∙ no));
+    }
 
-pub returns-in_ok-joined-in-Coop-clause-refused : goal.returns-in_ok-joined-in-Coop-clause-refused
-returns-in_ok-joined-in-Coop-clause-refused g c = λ no J basis.
+pub returns-in_ok-pushed-in-Admin : goal.returns-in_ok-pushed-in-Admin
+returns-in_ok-pushed-in-Admin g c =
     let self = c.args.self.now in
-    let names = g.E.Elements.names in
-    let q = c.in-Coop.request in
-    let is : Coop q ≡ c.args.message = sym c.in-Coop.is in
-    let joins : may_join (length self.log) (names self.elements) (length self.ids) q ≡ false =
-    ap (λ n. may_join n (names self.elements) (length self.ids) q) (sym c.len-front.ensures.count) ∙ sym c.in_ok-joined-in-Coop.ensures.test ∙ no in
-    subst (λ (m : Message). ¬ IsWithin (J ++ m ∷ [])) is (request_refused J self.log (names self.elements) self.ids basis q joins)
-
-pub returns-in_ok-pushed-in-Admin-clause-taken : goal.returns-in_ok-pushed-in-Admin-clause-taken
-returns-in_ok-pushed-in-Admin-clause-taken g c = λ yes J basis.
-    let self = c.args.self.now in
+    let names = g.E.Elements.names self.elements in
     let e = c.in-Admin.entry in
     let is : Admin e ≡ c.args.message = sym c.in-Admin.is in
     let formed : is_message (Admin e) ≡ true = ap is_message is ∙ c.key.ensures.message in
-    subst (λ (m : Message). IsBasisOf (J ++ m ∷ []) c.take_entry.new.log (g.E.Elements.names self.elements) self.ids) is
-    (entry_taken J self.log (g.E.Elements.names self.elements) self.ids basis e c.take_entry.new.log formed (sym c.in_ok-pushed-in-Admin.ensures.test ∙ yes) (c.in_ok-pushed-in-Admin.ensures.log yes))
-
-pub returns-in_ok-pushed-in-Admin-clause-refused : goal.returns-in_ok-pushed-in-Admin-clause-refused
-returns-in_ok-pushed-in-Admin-clause-refused g c = λ no J basis.
-    let self = c.args.self.now in
-    let e = c.in-Admin.entry in
-    let is : Admin e ≡ c.args.message = sym c.in-Admin.is in
-    subst (λ (m : Message). ¬ IsWithin (J ++ m ∷ [])) is (entry_refused J self.log (g.E.Elements.names self.elements) self.ids basis e (sym c.in_ok-pushed-in-Admin.ensures.test ∙ no))
+    let pushed = c.in_ok-pushed-in-Admin.ensures in
+    record {
+      taken = λ yes J basis.
+          subst (λ (m : Message). IsBasisOf (J ++ m ∷ []) c.take_entry.new.log names self.ids) is
+          (entry_taken J self.log names self.ids basis e c.take_entry.new.log formed (sym pushed.test ∙ yes) (pushed.log yes));
+      refused = λ no J basis. subst (λ (m : Message). ¬ IsWithin (J ++ m ∷ [])) is (entry_refused J self.log names self.ids basis e (sym pushed.test ∙ no));
+    }
