@@ -11,6 +11,7 @@ mod calls;
 mod code;
 mod desk;
 mod journal;
+mod lines;
 mod shown;
 mod slot;
 mod told;

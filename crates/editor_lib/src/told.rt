@@ -1,10 +1,11 @@
 //! What is told of a step: the line of its answer, the frame of the message that this gives, and the lines of the rows of what
 //! it changed in the text.
-ghost use Rattle.std.specs.Prelude.{◌≡◌, ◌++◌, length, map, IfOk, OnOk};
-ghost use Rattle.std.specs.List.{concat, flat_map};
+ghost use Rattle.std.specs.Prelude.{◌≡◌, length, map, IfOk};
+ghost use Rattle.std.specs.List.{concat};
 ghost use Rattle.editor_lib.specs.Told as spec;
-ghost use Rattle.editor_lib.specs.Told.{message_given, frame_bytes, kept_state_line, element_word, count_word, row_line, told, part_told};
+ghost use Rattle.editor_lib.specs.Told.{message_given, frame_bytes, kept_state_line, element_word, count_word, told, part_told};
 
+use crate::lines::{HasLine, all_lines};
 use edit_frame::{Frame, encode};
 use edit_message::Message;
 use element_name::{Name, NoMemory};
@@ -89,23 +90,15 @@ fn frame_bytes(alloc: Global, message: Option<Message>) -> Result<Vec<u8>, NoMem
     Ok(frame)
 }
 
-// Appends the line of a row.
-fn put_row(alloc: Global, lines: &mut Vec<u8>, row: LocalEdit) -> Result<(), NoMemory>
-    ensures { OnOk result (lines.new.items ≡ lines.old.items ++ row_line row) }
-{
-    step_text(alloc, &Step::Edit(row), lines)?;
-    put(lines, b"\n")
-}
+impl HasLine for LocalEdit {
+    ghost use Rattle.editor_lib.specs.Told.{row_line};
 
-// The lines of rows, one behind another.
-fn row_lines(alloc: Global, rows: &[LocalEdit]) -> Result<Vec<u8>, NoMemory>
-    ensures { IfOk result (λ lines. lines.items ≡ flat_map row_line rows.now) }
-{
-    let mut lines = Vec::new(alloc);
-    for row in rows {
-        put_row(alloc, &mut lines, *row)?;
+    ghost line = { row_line };
+
+    fn put_line(self, alloc: Global, lines: &mut Vec<u8>) -> Result<(), NoMemory> {
+        step_text(alloc, &Step::Edit(self), lines)?;
+        put(lines, b"\n")
     }
-    Ok(lines)
 }
 
 /// The line of the state of a request, and no bytes where there is none.
@@ -195,7 +188,7 @@ impl LastTold {
         Ok(LastTold {
             answer: line,
             frame: frame_bytes(alloc, message_given(answer)?)?,
-            rows: row_lines(alloc, rows)?,
+            rows: all_lines(alloc, rows)?,
         })
     }
 

@@ -1,11 +1,12 @@
 //! The steps that lines say, and the requests that these would undo.
-ghost use Rattle.std.specs.Prelude.{◌≡◌, ◌++◌, [], Some, map, flat_map, IfOk, IfErr, OnOk};
+ghost use Rattle.std.specs.Prelude.{◌≡◌, [], Some, map, flat_map, IfOk, IfErr, OnOk};
 ghost use Rattle.line_read.specs.ReadsAs.{ReadFails, ReadsItems};
 ghost use Rattle.line_read.specs.Step.{step_line};
 ghost use Rattle.line_read.specs.Words.{bytes_of, each_some, parts};
 ghost use Rattle.peer_outlook.specs.Outlook.{names_undone_by};
 ghost use Rattle.editor_lib.specs.Would.{steps_said, name_line};
 
+use crate::lines::{HasLine, all_lines};
 use crate::told::element_word;
 use element_name::{Name, NoMemory};
 use line_read::step_line;
@@ -63,24 +64,16 @@ pub fn steps_said(alloc: Global, text: &[u8]) -> Result<Vec<Step>, LineFail>
     read_steps(alloc, &lines)
 }
 
-// Appends the line of a name.
-fn put_name_line(alloc: Global, lines: &mut Vec<u8>, name: Name) -> Result<(), NoMemory>
-    ensures { OnOk result (lines.new.items ≡ lines.old.items ++ name_line name) }
-{
-    let word = element_word(alloc, Some(name))?;
-    put(lines, &word)?;
-    put(lines, b"\n")
-}
+impl HasLine for Name {
+    ghost use Rattle.editor_lib.specs.Would.{name_line};
 
-// The lines of names, one behind another.
-fn name_lines(alloc: Global, names: &[Name]) -> Result<Vec<u8>, NoMemory>
-    ensures { IfOk result (λ lines. lines.items ≡ flat_map name_line names.now) }
-{
-    let mut lines = Vec::new(alloc);
-    for name in names {
-        put_name_line(alloc, &mut lines, *name)?;
+    ghost line = { name_line };
+
+    fn put_line(self, alloc: Global, lines: &mut Vec<u8>) -> Result<(), NoMemory> {
+        let word = element_word(alloc, Some(self))?;
+        put(lines, &word)?;
+        put(lines, b"\n")
     }
-    Ok(lines)
 }
 
 /// The lines of the names of the requests that steps would undo, in order of integration. Takes the time and memory of
@@ -89,5 +82,5 @@ pub fn undone_lines(alloc: Global, peer: &Peer, steps: &[Step]) -> Result<Vec<u8
     ensures { IfOk result (λ lines. lines.items ≡ flat_map name_line (names_undone_by peer.now steps.now)) }
 {
     let names = undone_by(alloc, peer, steps)?;
-    name_lines(alloc, &names)
+    all_lines(alloc, &names)
 }
