@@ -5,6 +5,8 @@ use Rattle.peer_core.specs.Peer.{Peer, state_of_name, text, shown_elements}
 use Rattle.peer_core.specs.Carets.{shown_up_to}
 use Rattle.line_read.specs.Numbers.{read_name}
 use Rattle.peer_outlook.specs.Outlook.{names_undone_by}
+use Rattle.editor_lib.specs.declared.question.Question.{Question}
+use Rattle.editor_lib.specs.declared.question.Question.TheVariants.{Text, Sizes, Count, PieceAt, Writers, WriterAt, NameAt, ShownUpTo, State, Would}
 use Rattle.editor_lib.specs.Told.{kept_state_line, element_word, count_word}
 use Rattle.editor_lib.specs.Would.{steps_said, name_line}
 use Rattle.editor_lib.specs.Writers.{writer_of, writers_bytes}
@@ -48,3 +50,16 @@ count_answer peer word = option_map (λ name. count_word (shown_up_to peer name)
 -- the names of the requests that the steps of these lines would undo, in order of integration, a line each; none where a line is no step line
 unfoldable pub would_answer : Peer → List ℕ → Option (List ℕ)
 would_answer peer lines = option_map (λ steps. flat_map name_line (names_undone_by peer steps)) (steps_said lines)
+
+-- what answers a question
+abbrev pub answer_to : Question → Peer → Option (List ℕ)
+answer_to Text peer = text_answer peer
+answer_to Sizes peer = sizes_answer peer
+answer_to Count peer = shown_answer peer
+answer_to (PieceAt place) peer = piece_answer peer place
+answer_to Writers peer = writers_answer peer
+answer_to (WriterAt place) peer = writer_answer peer place
+answer_to (NameAt place) peer = name_answer peer place
+answer_to (ShownUpTo word) peer = count_answer peer word.now
+answer_to (State word) peer = state_answer peer word.now
+answer_to (Would lines) peer = would_answer peer lines.now

@@ -12,6 +12,7 @@ use Rattle.peer_core.specs.Restore.{peer_of_journal}
 use Rattle.text_change.specs.Told.{AreRowsOf}
 use Rattle.editor_lib.specs.declared.code.Code.{Code}
 use Rattle.editor_lib.specs.declared.code.Code.TheVariants as ends
+use Rattle.editor_lib.specs.Code.{GivesCode}
 use Rattle.editor_lib.specs.Told.{LastTold, nothing, told}
 use Rattle.editor_lib.specs.Journal.{SpellsJournal}
 
@@ -77,3 +78,13 @@ Asked ends.Done (Some answer) before after = after ≡ record before { told = re
 Asked ends.Bad None before after = after ≡ before
 Asked ends.NoMemory answer before after = after ≡ before
 Asked code answer before after = ⊥
+
+-- ---- calls, which give the number of a code
+
+-- a call for the step that bytes say, or for none, had this desk, and leaves that in its slot
+abbrev pub IsStepped : ℕ → Option Step → Desk → Option Desk → Type 0
+IsStepped given said desk after = GivesCode given (λ code. IsSomeAnd after (λ new. StepMade code said desk new))
+
+-- a call for a question that is answered by these bytes, or is none, had this desk, and leaves that in its slot
+abbrev pub IsAsked : ℕ → Option (List ℕ) → Desk → Option Desk → Type 0
+IsAsked given answer desk after = GivesCode given (λ code. IsSomeAnd after (λ new. Asked code answer desk new))

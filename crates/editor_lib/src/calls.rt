@@ -4,14 +4,15 @@ ghost use Rattle.std.specs.Prelude.{◌≡◌, Some, None, IsSomeAnd, OnErr, OnO
 ghost use Rattle.std.specs.Fn.{FnOnceReturnsAtMut};
 ghost use Rattle.line_read.specs.Step.{step_line};
 ghost use Rattle.editor_lib.specs.Code.{GivesCode};
-ghost use Rattle.editor_lib.specs.Answers.{text_answer, state_answer, sizes_answer, shown_answer, piece_answer, writers_answer, writer_answer, name_answer, count_answer, would_answer};
-ghost use Rattle.editor_lib.specs.Desk.{Desk, step_received, Opened, Restored, StepMade, Asked};
+ghost use Rattle.editor_lib.specs.Answers.{answer_to, text_answer, state_answer, sizes_answer, shown_answer, piece_answer, writers_answer, writer_answer, name_answer, count_answer, would_answer};
+ghost use Rattle.editor_lib.specs.Desk.{Desk, step_received, Opened, Restored, IsStepped, IsAsked};
 ghost use Rattle.editor_lib.specs.Told.{part_told};
 ghost use Rattle.editor_lib.specs.Buffer.{with_front};
 
 use crate::code::{Code, number};
 use crate::desk::Desk;
 use crate::journal::JournalFail;
+use crate::question::Question;
 use crate::slot::DeskSlot;
 use crate::told::ToldPart;
 use element_name::NoMemory;
@@ -93,7 +94,7 @@ fn on_desk<F: FnOnce(&mut Desk) -> Code>(alloc: Global, slot: &mut DeskSlot, ask
 pub extern "C" fn editor_step(alloc: Global, slot: &mut DeskSlot, line: &[u8]) -> u32
     ghost desk: { Desk }
     requires { slot.old.value ≡ Some desk }
-    ensures { GivesCode result (λ code. IsSomeAnd slot.new.value (λ after. StepMade code (step_line line.now) desk after)) }
+    ensures { IsStepped result (step_line line.now) desk slot.new.value }
 {
     on_desk(alloc, slot, |desk: &mut Desk| desk.step(alloc, line))
 }
@@ -104,9 +105,21 @@ pub extern "C" fn editor_step(alloc: Global, slot: &mut DeskSlot, line: &[u8]) -
 pub extern "C" fn editor_receive(alloc: Global, slot: &mut DeskSlot, frame: &[u8]) -> u32
     ghost desk: { Desk }
     requires { slot.old.value ≡ Some desk }
-    ensures { GivesCode result (λ code. IsSomeAnd slot.new.value (λ after. StepMade code (step_received frame.now) desk after)) }
+    ensures { IsStepped result (step_received frame.now) desk slot.new.value }
 {
     on_desk(alloc, slot, |desk: &mut Desk| desk.receive(alloc, frame))
+}
+
+// Asks the desk of a slot. Gives the number of the code with which it answers.
+fn ask(alloc: Global, slot: &mut DeskSlot, question: Question<'_>) -> u32
+    ghost desk: { Desk }
+    requires { slot.old.value ≡ Some desk }
+    ensures { IsAsked result (answer_to question.entry desk.peer) desk slot.new.value }
+{
+    let mut boxed = std::mem::replace(slot, DeskSlot::empty(alloc)).into_box();
+    let code = boxed.ask(alloc, question);
+    *slot = DeskSlot::of(boxed);
+    number(code)
 }
 
 /// Puts the bytes of the text that the peer shows in place of the answer. Gives the number of a code: 0 or 2. Takes time in
@@ -115,9 +128,9 @@ pub extern "C" fn editor_receive(alloc: Global, slot: &mut DeskSlot, frame: &[u8
 pub extern "C" fn editor_show(alloc: Global, slot: &mut DeskSlot) -> u32
     ghost desk: { Desk }
     requires { slot.old.value ≡ Some desk }
-    ensures { GivesCode result (λ code. IsSomeAnd slot.new.value (λ after. Asked code (text_answer desk.peer) desk after)) }
+    ensures { IsAsked result (text_answer desk.peer) desk slot.new.value }
 {
-    on_desk(alloc, slot, |desk: &mut Desk| desk.show(alloc))
+    ask(alloc, slot, Question::Text)
 }
 
 /// Puts the line of the state of the request of a name in place of the answer, and no bytes where the peer has no such
@@ -126,9 +139,9 @@ pub extern "C" fn editor_show(alloc: Global, slot: &mut DeskSlot) -> u32
 pub extern "C" fn editor_state(alloc: Global, slot: &mut DeskSlot, name: &[u8]) -> u32
     ghost desk: { Desk }
     requires { slot.old.value ≡ Some desk }
-    ensures { GivesCode result (λ code. IsSomeAnd slot.new.value (λ after. Asked code (state_answer desk.peer name.now) desk after)) }
+    ensures { IsAsked result (state_answer desk.peer name.now) desk slot.new.value }
 {
-    on_desk(alloc, slot, |desk: &mut Desk| desk.state(alloc, name))
+    ask(alloc, slot, Question::State(name))
 }
 
 /// Puts the sizes of the pieces of that text, a byte each, in place of the answer. Gives the number of a code: 0 or 2. Takes
@@ -137,9 +150,9 @@ pub extern "C" fn editor_state(alloc: Global, slot: &mut DeskSlot, name: &[u8]) 
 pub extern "C" fn editor_sizes(alloc: Global, slot: &mut DeskSlot) -> u32
     ghost desk: { Desk }
     requires { slot.old.value ≡ Some desk }
-    ensures { GivesCode result (λ code. IsSomeAnd slot.new.value (λ after. Asked code (sizes_answer desk.peer) desk after)) }
+    ensures { IsAsked result (sizes_answer desk.peer) desk slot.new.value }
 {
-    on_desk(alloc, slot, |desk: &mut Desk| desk.sizes(alloc))
+    ask(alloc, slot, Question::Sizes)
 }
 
 /// Puts the number of elements that show in place of the answer. Gives the number of a code: 0 or 2. Takes constant time.
@@ -147,9 +160,9 @@ pub extern "C" fn editor_sizes(alloc: Global, slot: &mut DeskSlot) -> u32
 pub extern "C" fn editor_count(alloc: Global, slot: &mut DeskSlot) -> u32
     ghost desk: { Desk }
     requires { slot.old.value ≡ Some desk }
-    ensures { GivesCode result (λ code. IsSomeAnd slot.new.value (λ after. Asked code (shown_answer desk.peer) desk after)) }
+    ensures { IsAsked result (shown_answer desk.peer) desk slot.new.value }
 {
-    on_desk(alloc, slot, |desk: &mut Desk| desk.shown(alloc))
+    ask(alloc, slot, Question::Count)
 }
 
 /// Puts the bytes of the piece that shows at a place, from 0, in place of the answer, and no bytes where none shows there.
@@ -158,9 +171,9 @@ pub extern "C" fn editor_count(alloc: Global, slot: &mut DeskSlot) -> u32
 pub extern "C" fn editor_piece_at(alloc: Global, slot: &mut DeskSlot, place: u32) -> u32
     ghost desk: { Desk }
     requires { slot.old.value ≡ Some desk }
-    ensures { GivesCode result (λ code. IsSomeAnd slot.new.value (λ after. Asked code (piece_answer desk.peer place) desk after)) }
+    ensures { IsAsked result (piece_answer desk.peer place) desk slot.new.value }
 {
-    on_desk(alloc, slot, |desk: &mut Desk| desk.piece_at(alloc, place))
+    ask(alloc, slot, Question::PieceAt(place))
 }
 
 /// Puts the sites of who wrote the pieces that show, in their order, two bytes each, in place of the answer. Gives the number
@@ -169,9 +182,9 @@ pub extern "C" fn editor_piece_at(alloc: Global, slot: &mut DeskSlot, place: u32
 pub extern "C" fn editor_writers(alloc: Global, slot: &mut DeskSlot) -> u32
     ghost desk: { Desk }
     requires { slot.old.value ≡ Some desk }
-    ensures { GivesCode result (λ code. IsSomeAnd slot.new.value (λ after. Asked code (writers_answer desk.peer) desk after)) }
+    ensures { IsAsked result (writers_answer desk.peer) desk slot.new.value }
 {
-    on_desk(alloc, slot, |desk: &mut Desk| desk.writers(alloc))
+    ask(alloc, slot, Question::Writers)
 }
 
 /// Puts the site of who wrote what shows at a place, from 0, in place of the answer, and no bytes where nothing shows there.
@@ -180,9 +193,9 @@ pub extern "C" fn editor_writers(alloc: Global, slot: &mut DeskSlot) -> u32
 pub extern "C" fn editor_writer_at(alloc: Global, slot: &mut DeskSlot, place: u32) -> u32
     ghost desk: { Desk }
     requires { slot.old.value ≡ Some desk }
-    ensures { GivesCode result (λ code. IsSomeAnd slot.new.value (λ after. Asked code (writer_answer desk.peer place) desk after)) }
+    ensures { IsAsked result (writer_answer desk.peer place) desk slot.new.value }
 {
-    on_desk(alloc, slot, |desk: &mut Desk| desk.writer_at(alloc, place))
+    ask(alloc, slot, Question::WriterAt(place))
 }
 
 /// Puts the name of the element that shows at a place, from 0, in place of the answer, and no bytes where none shows there.
@@ -191,9 +204,9 @@ pub extern "C" fn editor_writer_at(alloc: Global, slot: &mut DeskSlot, place: u3
 pub extern "C" fn editor_name_at(alloc: Global, slot: &mut DeskSlot, place: u32) -> u32
     ghost desk: { Desk }
     requires { slot.old.value ≡ Some desk }
-    ensures { GivesCode result (λ code. IsSomeAnd slot.new.value (λ after. Asked code (name_answer desk.peer place) desk after)) }
+    ensures { IsAsked result (name_answer desk.peer place) desk slot.new.value }
 {
-    on_desk(alloc, slot, |desk: &mut Desk| desk.name_at(alloc, place))
+    ask(alloc, slot, Question::NameAt(place))
 }
 
 /// Puts the number of elements that show up to the one of a name in place of the answer, and no bytes where the peer has no
@@ -203,9 +216,9 @@ pub extern "C" fn editor_name_at(alloc: Global, slot: &mut DeskSlot, place: u32)
 pub extern "C" fn editor_shown_up_to(alloc: Global, slot: &mut DeskSlot, name: &[u8]) -> u32
     ghost desk: { Desk }
     requires { slot.old.value ≡ Some desk }
-    ensures { GivesCode result (λ code. IsSomeAnd slot.new.value (λ after. Asked code (count_answer desk.peer name.now) desk after)) }
+    ensures { IsAsked result (count_answer desk.peer name.now) desk slot.new.value }
 {
-    on_desk(alloc, slot, |desk: &mut Desk| desk.shown_up_to(alloc, name))
+    ask(alloc, slot, Question::ShownUpTo(name))
 }
 
 /// Puts the names of the requests that steps would undo in place of the answer, in order of integration, a line each with its
@@ -216,9 +229,9 @@ pub extern "C" fn editor_shown_up_to(alloc: Global, slot: &mut DeskSlot, name: &
 pub extern "C" fn editor_would(alloc: Global, slot: &mut DeskSlot, lines: &[u8]) -> u32
     ghost desk: { Desk }
     requires { slot.old.value ≡ Some desk }
-    ensures { GivesCode result (λ code. IsSomeAnd slot.new.value (λ after. Asked code (would_answer desk.peer lines.now) desk after)) }
+    ensures { IsAsked result (would_answer desk.peer lines.now) desk slot.new.value }
 {
-    on_desk(alloc, slot, |desk: &mut Desk| desk.would(alloc, lines))
+    ask(alloc, slot, Question::Would(lines))
 }
 
 // Copies bytes to the front of a buffer, if they fit.

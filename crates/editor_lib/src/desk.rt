@@ -1,26 +1,22 @@
 //! A peer, with what it told last.
-ghost use Rattle.std.specs.Prelude.{◌≡◌, List, Some, Err, IfOk, OnErr};
+ghost use Rattle.std.specs.Prelude.{◌≡◌, List, Some, Err, IfOk};
 ghost use Rattle.edit_message.specs.declared.message.Message.{Message};
 ghost use Rattle.line_read.specs.Step.{step_line};
-ghost use Rattle.editor_lib.specs.declared.code.Code.TheVariants as ends;
 ghost use Rattle.editor_lib.specs.declared.journal.JournalFail.TheVariants.{Bad as bad};
-ghost use Rattle.editor_lib.specs.Answers.{text_answer, state_answer, sizes_answer, shown_answer, piece_answer, writers_answer, writer_answer, name_answer, count_answer, would_answer};
+ghost use Rattle.editor_lib.specs.Answers.{answer_to};
 ghost use Rattle.editor_lib.specs.Desk.{fresh_desk, step_received, IsRestored, StepMade, Asked};
 ghost use Rattle.editor_lib.specs.Journal.{SpellsJournal};
 
 use crate::code::Code;
 use crate::journal::{JournalFail, messages_of};
-use crate::shown::{piece_bytes, writer_at, writers};
-use crate::told::{
-    LastTold, count_word, element_word, kept_state_line, piece_sizes, site_word, text_bytes,
-};
-use crate::would::{steps_said, undone_lines};
+use crate::question::{Question, answer};
+use crate::told::LastTold;
 use edit_frame::{DecodeFail, Frame, decode};
 use element_name::NoMemory;
-use line_read::{read_name, step_line};
+use line_read::step_line;
 use line_spelling::LineFail;
 use peer_core::{OneThread, Peer};
-use peer_step::{Answer, Step};
+use peer_step::Step;
 use std::alloc::Global;
 use std::marker::Model;
 use text_change::step_told;
@@ -109,125 +105,18 @@ impl Desk {
         }
     }
 
-    // Puts what answers a question in place of the answer, if there was memory for it.
-    fn put_answer(&mut self, answer: Result<Vec<u8>, NoMemory>) -> Code
-        ensures done { IfOk answer (λ bytes. Asked result (Some bytes.items) self.old self.new) }
-        ensures unchanged { OnErr answer ((result ≡ ends.NoMemory) × (self.new ≡ self.old)) }
+    /// Tells what answers a question. Takes the time and memory of [`answer`].
+    pub fn ask(&mut self, alloc: Global, question: Question<'_>) -> Code
+        ensures { Asked result (answer_to question.entry self.old.peer) self.old self.new }
     {
-        match answer {
-            Ok(bytes) => {
+        match answer(alloc, &self.peer, question) {
+            Ok(Some(bytes)) => {
                 self.told.set_answer(bytes);
                 Code::Done
             }
+            Ok(None) => Code::Bad,
             Err(NoMemory) => Code::NoMemory,
         }
-    }
-
-    /// Tells the text that the peer shows, as its bytes. Takes time in its length.
-    #[tactic(auto, unfolding(crate::specs::Answers::text_answer))]
-    pub fn show(&mut self, alloc: Global) -> Code
-        ensures { Asked result (text_answer self.old.peer) self.old self.new }
-    {
-        let Ok(Answer::Shown(text)) = self.peer.step(Step::Show) else {
-            return Code::NoMemory;
-        };
-        self.put_answer(text_bytes(alloc, &text))
-    }
-
-    /// Tells the sizes of the pieces of that text, a byte each. Takes time in its length.
-    #[tactic(auto, unfolding(crate::specs::Answers::sizes_answer))]
-    pub fn sizes(&mut self, alloc: Global) -> Code
-        ensures { Asked result (sizes_answer self.old.peer) self.old self.new }
-    {
-        let Ok(Answer::Shown(text)) = self.peer.step(Step::Show) else {
-            return Code::NoMemory;
-        };
-        self.put_answer(piece_sizes(alloc, &text))
-    }
-
-    /// Tells how many elements show. Takes constant time.
-    #[tactic(auto, unfolding(crate::specs::Answers::shown_answer))]
-    pub fn shown(&mut self, alloc: Global) -> Code
-        ensures { Asked result (shown_answer self.old.peer) self.old self.new }
-    {
-        let count = count_word(alloc, Some(self.peer.shown_len()));
-        self.put_answer(count)
-    }
-
-    /// Tells the piece that shows at a place. Takes the time of `Peer::shown_at`.
-    #[tactic(auto, unfolding(crate::specs::Answers::piece_answer))]
-    pub fn piece_at(&mut self, alloc: Global, place: u32) -> Code
-        ensures { Asked result (piece_answer self.old.peer place) self.old self.new }
-    {
-        let piece = piece_bytes(alloc, &self.peer, place);
-        self.put_answer(piece)
-    }
-
-    /// Tells who wrote what shows, two bytes for each element. Takes the time of `writer_at` for each.
-    #[tactic(auto, unfolding(crate::specs::Answers::writers_answer))]
-    pub fn writers(&mut self, alloc: Global) -> Code
-        ensures { Asked result (writers_answer self.old.peer) self.old self.new }
-    {
-        let sites = writers(alloc, &self.peer);
-        self.put_answer(sites)
-    }
-
-    /// Tells who wrote what shows at a place. Takes the time of `Peer::shown_at`, and of a pass over the updates there.
-    #[tactic(auto, unfolding(crate::specs::Answers::writer_answer))]
-    pub fn writer_at(&mut self, alloc: Global, place: u32) -> Code
-        ensures { Asked result (writer_answer self.old.peer place) self.old self.new }
-    {
-        let site = site_word(alloc, writer_at(&self.peer, place));
-        self.put_answer(site)
-    }
-
-    /// Tells the name of the element that shows at a place. Takes the time of `Peer::shown_at`.
-    #[tactic(auto, unfolding(crate::specs::Answers::name_answer))]
-    pub fn name_at(&mut self, alloc: Global, place: u32) -> Code
-        ensures { Asked result (name_answer self.old.peer place) self.old self.new }
-    {
-        let word = element_word(alloc, self.peer.shown_at(place));
-        self.put_answer(word)
-    }
-
-    /// Tells how many elements show up to the one that a word names. Takes the time of `Peer::shown_up_to`.
-    #[tactic(auto, unfolding(crate::specs::Answers::count_answer))]
-    pub fn shown_up_to(&mut self, alloc: Global, word: &[u8]) -> Code
-        ensures { Asked result (count_answer self.old.peer word.now) self.old self.new }
-    {
-        let Some(name) = read_name(word) else {
-            return Code::Bad;
-        };
-        let count = count_word(alloc, self.peer.shown_up_to(name));
-        self.put_answer(count)
-    }
-
-    /// Tells the state of the request that a word names. Takes time in the word's length, and logarithmic in the requests.
-    #[tactic(auto, unfolding(crate::specs::Answers::state_answer))]
-    pub fn state(&mut self, alloc: Global, word: &[u8]) -> Code
-        ensures { Asked result (state_answer self.old.peer word.now) self.old self.new }
-    {
-        let Some(name) = read_name(word) else {
-            return Code::Bad;
-        };
-        let line = kept_state_line(alloc, self.peer.state_of(name).copied());
-        self.put_answer(line)
-    }
-
-    /// Tells which requests the steps would undo that lines say, with a line end between two. No step is made. Takes the time
-    /// and memory of the whole journal.
-    #[tactic(auto, unfolding(crate::specs::Answers::would_answer))]
-    pub fn would(&mut self, alloc: Global, lines: &[u8]) -> Code
-        ensures { Asked result (would_answer self.old.peer lines.now) self.old self.new }
-    {
-        let steps = match steps_said(alloc, lines) {
-            Ok(steps) => steps,
-            Err(LineFail::Bad) => return Code::Bad,
-            Err(LineFail::NoMemory) => return Code::NoMemory,
-        };
-        let names = undone_lines(alloc, &self.peer, &steps);
-        drop(steps);
-        self.put_answer(names)
     }
 
     /// What was told.

@@ -12,6 +12,7 @@ mod code;
 mod desk;
 mod journal;
 mod lines;
+mod question;
 mod shown;
 mod slot;
 mod told;

@@ -1,5 +1,5 @@
 -- The desk of the slot.
 use Rattle.editor_lib.proofs.calls.editor_sizes.Given as goal
 
-abbrev pub ghost-on_desk : goal.ghost-on_desk
-ghost-on_desk g a = g.desk
+abbrev pub ghost-ask : goal.ghost-ask
+ghost-ask g a = g.desk
