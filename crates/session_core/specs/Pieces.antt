@@ -13,8 +13,8 @@ use Rattle.peer_lock.specs.KnownPass.{KnownPass}
 use Rattle.peer_lock.specs.Answers.{IsSame}
 use Rattle.session_core.specs.declared.fault.SessionFault.{SessionFault}
 use Rattle.session_core.specs.declared.fault.SessionFault.TheVariants.{LinkFault, Closed, BadFrame, RunFull, NoMemory}
-use Rattle.session_core.specs.Events.{Listens, Looks, Finished, SessionState, in_phase, Mode, turn_done, item_in, Hears}
-use Rattle.session_core.specs.Session.{Side, Talked, CutOff, FullIsKnown, pass_steps, pass_answers}
+use Rattle.session_core.specs.Events.{Phase, Listens, Looks, Finished, SessionState, in_phase, Mode, turn_done, item_in, Hears}
+use Rattle.session_core.specs.Session.{Side, side, Talked, CutOff, FullIsKnown, pass_steps, pass_answers}
 
 -- a piece of a session went through to this state, or a fault cut it
 abbrev pub GetsTo : {X : Type 0} → Mode → SessionState → Side → Side → Result X SessionFault → SessionState → Type 0
@@ -22,6 +22,11 @@ GetsTo mode s a b (Ok x) t = Talked mode s t a b
 GetsTo mode s a b (Err fault) t = CutOff mode s a b fault
 
 -- ---- steps
+
+-- in whatever session, steps of the pass lead from this phase to that state, or a fault cut them
+abbrev pub StepsTo : {X : Type 0} → Phase → (Mode → SessionState → SessionState) → KnownPass → KnownPass → Result X SessionFault → Type 0
+StepsTo phase after k l r = (mode : Mode) (s : SessionState) (got sent : Option (List (List ℕ)))
+    → GetsTo mode (in_phase phase s) (side k got sent) (side l got sent) r (after mode s)
 
 -- a fault that a step may meet
 abbrev pub IsStepFault : SessionFault → Type 0

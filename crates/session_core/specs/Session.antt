@@ -1,5 +1,5 @@
 -- What a pass and a link show of a session, and what a fault of it says.
-use Rattle.std.specs.Prelude.{◌≡◌, ℕ, ◌++◌, List, Option, Result, Ok, Err, ⊤}
+use Rattle.std.specs.Prelude.{◌≡◌, ℕ, ◌+◌, ◌++◌, List, Option, Result, Ok, Err, IfErr, ⊤}
 use Rattle.edit_io.specs.Causes.{next_count}
 use Rattle.edit_io.specs.Link.{with_last}
 use Rattle.peer_step.specs.declared.step.Step.{Step}
@@ -101,3 +101,11 @@ faults_after_session before (Err NoMemory) = before
 -- with RunFull the pass knows that the run is full
 abbrev pub FullIsKnown : View → SessionFault → Type 0
 FullIsKnown v fault = fault ≡ RunFull → KnowsFull v
+
+-- what a session or a turn leaves, whole or cut: the pass stays what it is, and knows of a full run where it met one; the link
+-- was found closed exactly where Closed is answered, and failed exactly where LinkFault is
+pub record LeavesSide {X L : Type 0} (closes faults : L → ℕ) (k l : KnownPass) (a b : L) (r : Result X SessionFault) : Type 0 where
+  pub same : IsSame k l
+  pub full : IfErr r (FullIsKnown l.view)
+  pub closes_are : closes b ≡ closes a + closed_by r
+  pub faults_are : faults b ≡ faults_after_session (faults a) r

@@ -1,8 +1,7 @@
 //! The side that is called.
-ghost use Rattle.std.specs.Prelude.{◌≡◌, ◌+◌, IfErr};
-ghost use Rattle.peer_lock.specs.Answers.{IsSame};
+ghost use Rattle.std.specs.Prelude.{◌≡◌};
 ghost use Rattle.session_core.specs.Events.{serving};
-ghost use Rattle.session_core.specs.Session.{side, Session, closed_by, faults_after_session, FullIsKnown};
+ghost use Rattle.session_core.specs.Session.{side, Session, LeavesSide};
 
 use crate::fault::SessionFault;
 use crate::turns::{receive_turn, send_turn};
@@ -26,12 +25,8 @@ pub fn serve_link<L: Link, R: Threads + Wait + Sync>(
     validates: bool,
 ) -> Result<u32, SessionFault>
     requires own { pass.old.table ≡ shared.now }
-    // The pass stays what it is, and where the run is full it knows so.
-    ensures same { IsSame pass.old pass.new }
-    ensures full { IfErr result (FullIsKnown pass.new.view) }
-    // Closed is answered exactly where the link was found closed, and LinkFault exactly where it failed.
-    ensures closes { L.closes link.new ≡ L.closes link.old + closed_by result }
-    ensures faults { L.faults link.new ≡ faults_after_session (L.faults link.old) result }
+    // The pass stays what it is and knows of a full run, and the link counts what was met.
+    ensures left { LeavesSide L.closes L.faults pass.old pass.new link.old link.new result }
     // The new steps and messages are those of a session, whole or cut by the fault.
     ensures session { Session (serving validates)
         (side pass.old (L.got link.old) (L.sent link.old)) (side pass.new (L.got link.new) (L.sent link.new)) result }

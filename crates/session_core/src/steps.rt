@@ -3,7 +3,7 @@ ghost use Rattle.std.specs.Prelude.{◌≡◌, ℕ, List, true};
 ghost use Rattle.std.specs.declared.option.Option.{Option};
 ghost use Rattle.session_core.specs.Events.{SessionState, Mode, ReceivesItem, Listens, in_phase, item_in};
 ghost use Rattle.session_core.specs.Session.{side};
-ghost use Rattle.session_core.specs.Pieces.{KeepsPass, GetsTo, MakesStep, LooksAt};
+ghost use Rattle.session_core.specs.Pieces.{KeepsPass, StepsTo, MakesStep, LooksAt};
 ghost use Rattle.session_core.specs.Clearing.{TakenOnce, clearing, after_clearing};
 
 use crate::backlog::Backlog;
@@ -92,9 +92,7 @@ pub(crate) fn clear<R: Threads + Wait + Sync>(
 ) -> Result<(), SessionFault>
     requires { pass.old.table ≡ shared.now }
     ensures keeps { KeepsPass pass.old pass.new result }
-    ensures talk { (mode : Mode) (s : SessionState) (got sent : Option (List (List ℕ)))
-        → GetsTo mode (in_phase (clearing backlog) s) (side pass.old got sent) (side pass.new got sent) result
-        (after_clearing mode backlog true s) }
+    ensures talk { StepsTo (clearing backlog) (λ mode s. after_clearing mode backlog true s) pass.old pass.new result }
 {
     for _ in rt.forever() {
         let cleared = take_next(rt, alloc, shared, pass, backlog)?;
@@ -115,8 +113,7 @@ pub(crate) fn take_item<R: Threads + Wait + Sync>(
 ) -> Result<(), SessionFault>
     requires { pass.old.table ≡ shared.now }
     ensures keeps { KeepsPass pass.old pass.new result }
-    ensures talk { (mode : Mode) (s : SessionState) (got sent : Option (List (List ℕ)))
-        → GetsTo mode (in_phase (ReceivesItem message) s) (side pass.old got sent) (side pass.new got sent) result (in_phase Listens s) }
+    ensures talk { StepsTo (ReceivesItem message) (λ mode s. in_phase Listens s) pass.old pass.new result }
 {
     let answer = make(rt, alloc, shared, pass, Step::Receive(message))?;
     drop(answer);

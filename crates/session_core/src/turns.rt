@@ -1,7 +1,6 @@
 //! A turn, each way.
-ghost use Rattle.std.specs.Prelude.{◌≡◌, ◌+◌, ◌≤◌, length, IfErr};
-ghost use Rattle.peer_lock.specs.Answers.{IsSame};
-ghost use Rattle.session_core.specs.Session.{side, closed_by, faults_after_session, FullIsKnown};
+ghost use Rattle.std.specs.Prelude.{◌≡◌, ◌≤◌, length};
+ghost use Rattle.session_core.specs.Session.{side, LeavesSide};
 ghost use Rattle.session_core.specs.Pieces.{TurnOut, TurnIn};
 
 use crate::backlog::Backlog;
@@ -26,10 +25,7 @@ pub(crate) fn send_turn<L: Link, R: Threads + Wait + Sync>(
 ) -> Result<u32, SessionFault>
     requires own { pass.old.table ≡ shared.now }
     requires few { mark ≤ length pass.old.view.seen }
-    ensures same { IsSame pass.old pass.new }
-    ensures full { IfErr result (FullIsKnown pass.new.view) }
-    ensures closes { L.closes link.new ≡ L.closes link.old + closed_by result }
-    ensures faults { L.faults link.new ≡ faults_after_session (L.faults link.old) result }
+    ensures left { LeavesSide L.closes L.faults pass.old pass.new link.old link.new result }
     ensures grown { length pass.old.view.seen ≤ length pass.new.view.seen }
     ensures talk { TurnOut
         (side pass.old (L.got link.old) (L.sent link.old)) (side pass.new (L.got link.new) (L.sent link.new)) mark result }
@@ -61,10 +57,7 @@ pub(crate) fn receive_turn<L: Link, R: Threads + Wait + Sync>(
     validates: bool,
 ) -> Result<bool, SessionFault>
     requires own { pass.old.table ≡ shared.now }
-    ensures same { IsSame pass.old pass.new }
-    ensures full { IfErr result (FullIsKnown pass.new.view) }
-    ensures closes { L.closes link.new ≡ L.closes link.old + closed_by result }
-    ensures faults { L.faults link.new ≡ faults_after_session (L.faults link.old) result }
+    ensures left { LeavesSide L.closes L.faults pass.old pass.new link.old link.new result }
     ensures grown { length pass.old.view.seen ≤ length pass.new.view.seen }
     ensures talk { TurnIn validates
         (side pass.old (L.got link.old) (L.sent link.old)) (side pass.new (L.got link.new) (L.sent link.new)) result }

@@ -56,10 +56,10 @@ loop-round-preserved g c =
     let mode = dialling c.args.validates c.args.rounds in
     let m = listening_from c.in_ok-mark.mark c.loop-round.round in
     let turn = turn_in c.args.validates _ _ c.in_ok-is_turn.is_turn true c.if-not-is_turn.false c.in_ok-is_turn.ensures.talk in record {
-      same = same_then c.args.pass.now c.send_turn.new.pass c.receive_turn.new.pass (same_then c.args.pass.now c.loop-round.pass c.send_turn.new.pass c.loop-round.invariant.same c.send_turn.ensures.same) c.receive_turn.ensures.same;
+      same = same_then c.args.pass.now c.send_turn.new.pass c.receive_turn.new.pass (same_then c.args.pass.now c.loop-round.pass c.send_turn.new.pass c.loop-round.invariant.same c.send_turn.ensures.left.same) c.receive_turn.ensures.left.same;
       few = omega (arith, c.in_ok-mark.ensures.talk.mark_fits, c.receive_turn.ensures.grown);
-      closes = omega (arith, c.loop-round.invariant.closes, c.in_ok-mark.ensures.closes, c.in_ok-is_turn.ensures.closes);
-      faults = omega (arith, c.loop-round.invariant.faults, c.in_ok-mark.ensures.faults, c.in_ok-is_turn.ensures.faults);
+      closes = omega (arith, c.loop-round.invariant.closes, c.in_ok-mark.ensures.left.closes_are, c.in_ok-is_turn.ensures.left.closes_are);
+      faults = omega (arith, c.loop-round.invariant.faults, c.in_ok-mark.ensures.left.faults_are, c.in_ok-is_turn.ensures.left.faults_are);
       talk = talked_then mode _ m _ _ _ _ (went g at.In_ok-mark (begun g at.After-send_turn)) (turn mode m refl);
     }
 

@@ -31,12 +31,12 @@ came g c is =
 
 pub loop-preserved : goal.loop-preserved
 loop-preserved g c = record {
-  same = same_then c.args.pass.now c.receive_turn.new.pass c.send_turn.new.pass (same_then c.args.pass.now c.loop.pass c.receive_turn.new.pass c.loop.invariant.same c.receive_turn.ensures.same) c.send_turn.ensures.same;
+  same = same_then c.args.pass.now c.receive_turn.new.pass c.send_turn.new.pass (same_then c.args.pass.now c.loop.pass c.receive_turn.new.pass c.loop.invariant.same c.receive_turn.ensures.left.same) c.send_turn.ensures.left.same;
   few = omega (arith, c.in_ok-mark.ensures.talk.mark_fits);
   turns_few = omega (arith, c.in_ok-mark.ensures.talk.longer, c.receive_turn.ensures.grown, c.loop.invariant.turns_few);
   turns_fit = omega (arith, c.in_ok-mark.ensures.talk.longer, c.in_ok-mark.ensures.talk.room, c.receive_turn.ensures.grown, c.loop.invariant.turns_few);
-  closes = omega (arith, c.loop.invariant.closes, c.in_ok-is_turn.ensures.closes, c.in_ok-mark.ensures.closes);
-  faults = omega (arith, c.loop.invariant.faults, c.in_ok-is_turn.ensures.faults, c.in_ok-mark.ensures.faults);
+  closes = omega (arith, c.loop.invariant.closes, c.in_ok-is_turn.ensures.left.closes_are, c.in_ok-mark.ensures.left.closes_are);
+  faults = omega (arith, c.loop.invariant.faults, c.in_ok-is_turn.ensures.left.faults_are, c.in_ok-mark.ensures.left.faults_are);
   talk = talked_then (serving c.args.validates) _ _ _ _ _ _ (came g (goal.at.loop-preserved g c).In_ok-is_turn c.if-not-is_turn.false) (c.in_ok-mark.ensures.talk.talked (serving c.args.validates) (c.loop.turns + 1));
 }
 
