@@ -4,7 +4,6 @@ use Rattle.std.specs.Prelude.{option_to_list, sum_by, if◌then◌else◌}
 use Rattle.std.specs.List.{list_any}
 use Rattle.std.specs.declared.result.Result.{Result}
 use Rattle.std.proofs.lemmas.List.Sums.{sum_by-cons}
-use Rattle.element_name.specs.declared.no_memory.NoMemory.{NoMemory}
 use Rattle.line_engine.specs.declared.status.Status.{Status}
 use Rattle.line_engine.specs.declared.status.Status.TheVariants as status
 use Rattle.line_engine.specs.Status.{IsSinkFail}
@@ -18,12 +17,12 @@ use Rattle.link_run.specs.declared.own.OwnEnd.TheVariants as own_end
 use Rattle.line_input.specs.declared.reading.InputEnd.{InputEnd}
 use Rattle.line_input.specs.declared.reading.InputEnd.TheVariants as input_end
 use Rattle.link_run.specs.declared.left.LinkRun.{LinkRun}
-use Rattle.link_run.specs.Counts.{failures_in, links_hurt, door_failures}
+use Rattle.link_run.specs.Counts.{failures_in}
 use Rattle.form_link.specs.declared.faults.Fault.{Fault}
 use Rattle.form_link.specs.Faults.{own_fault, link_faults, faults_of}
 use Rattle.form_link.specs.Lines.{wants_memory, first_status, faults_status}
 use Rattle.form_link.specs.Report.{link_output}
-use Rattle.form_link.specs.Form.{HasLinkCause}
+use Rattle.form_link.specs.Form.{DoorState, DoorAfter, HasLinkCause}
 
 -- some link has failed
 abbrev Failed : List (Option (Result ℕ SessionFault)) → Type 0
@@ -68,24 +67,23 @@ status_first faults = by (list_any wants_memory faults)
     by false e = e
 
 -- a run that was told, and what it added to the counts of the door
-module _ (faults faults' hurt hurt' : ℕ) (r : Result LinkRun NoMemory) (run : LinkRun) (is : r ≡ Ok run) (faults_are : faults' ≡ faults + door_failures r) (hurt_are : hurt' ≡ hurt + links_hurt r) where
-  counted : (run.door_failed ≡ true) ⊎ Failed run.links.items → (faults < faults') ⊎ (hurt < hurt')
+module _ {L : Type 0} {d d' : DoorState L} (run : LinkRun) (after : DoorAfter d d' run.door_failed run.links.items) where
+  counted : (run.door_failed ≡ true) ⊎ Failed run.links.items → (d.faults < d'.faults) ⊎ (d.hurt < d'.hurt)
   counted (inl e) =
-      let grown : faults' ≡ faults + 1 = faults_are ∙ ap (λ (x : Result LinkRun NoMemory). faults + door_failures x) is ∙ ap (λ (b : Bool). faults + (if b then 1 else 0)) e in
+      let grown : d'.faults ≡ d.faults + 1 = after.faults_are ∙ ap (λ (b : Bool). d.faults + (if b then 1 else 0)) e in
       inl (omega arith)
   counted (inr lt) =
-      let grown : hurt' ≡ hurt + sum_by failures_in run.links.items = hurt_are ∙ ap (λ (x : Result LinkRun NoMemory). hurt + links_hurt x) is in
       let some : 0 < sum_by failures_in run.links.items = lt in
-      inr (omega arith)
+      inr (omega (arith, after.hurt_are))
 
   pub told_cause : (site : ℕ) (end : InputEnd) (a b : Option (List ℕ)) (s : Status)
-      → (w : List ℕ) × Says a b s (link_output site run.history.run (faults_of run.door_failed end run.own run.links.items)) w → HasLinkCause faults faults' hurt hurt' s
+      → (w : List ℕ) × Says a b s (link_output site run.history.run (faults_of run.door_failed end run.own run.links.items)) w → HasLinkCause d.faults d'.faults d.hurt d'.hurt s
   told_cause site end a b s (w, says) e = by says.given
     where
       met : List Fault
       met = faults_of run.door_failed end run.own run.links.items
 
-      by : (link_output site run.history.run met ≡ record { written = w; status = s }) ⊎ IsSinkFail s → (faults < faults') ⊎ (hurt < hurt')
+      by : (link_output site run.history.run met ≡ record { written = w; status = s }) ⊎ IsSinkFail s → (d.faults < d'.faults) ⊎ (d.hurt < d'.hurt)
       by (inl whole) =
           let given : faults_status met ≡ status.LinkFault = ap (λ (o : Output). o.status) whole ∙ e in
           counted (door_first run.door_failed end run.own run.links.items (status_first met given))

@@ -9,19 +9,20 @@ use Rattle.line_input.specs.declared.reading.InputEnd.{InputEnd}
 use Rattle.line_input.specs.declared.reading.InputEnd.TheVariants as input_end
 use Rattle.line_input.specs.Steps.{ReadSteps, EndCause}
 use Rattle.link_run.specs.declared.left.LinkRun.{LinkRun}
-use Rattle.link_run.specs.Counts.{links_given, links_hurt, door_failures}
+use Rattle.link_run.specs.Counts.{links_given, links_hurt, door_failures, LeavesDoor}
+use Rattle.link_run.specs.Ends.{LedFrom}
 use Rattle.form_link.specs.Faults.{faults_of}
 use Rattle.form_link.specs.Report.{link_output}
-use Rattle.form_link.specs.Form.{DoorState, DoorAfter, RunEnds, RanOrNot}
+use Rattle.form_link.specs.Form.{DoorState, door_state, DoorAfter, RunEnds, RanOrNot}
 
 -- what a run leaves of a door
-pub door_ok : {L : Type 0} (d d' : DoorState L) (r : Result LinkRun NoMemory) → d'.given ≡ d.given + links_given r → d'.returned ≡ d.returned + links_given r → d'.hurt ≡ d.hurt + links_hurt r → d'.faults ≡ d.faults + door_failures r
-    → (run : LinkRun) → r ≡ Ok run → DoorAfter d d' run.door_failed run.links.items
-door_ok d d' r given returned hurt faults run is = record {
-  faults_are = faults ∙ ap (λ (x : Result LinkRun NoMemory). d.faults + door_failures x) is;
-  given_are = given ∙ ap (λ (x : Result LinkRun NoMemory). d.given + links_given x) is;
-  returned_are = returned ∙ ap (λ (x : Result LinkRun NoMemory). d.returned + links_given x) is;
-  hurt_are = hurt ∙ ap (λ (x : Result LinkRun NoMemory). d.hurt + links_hurt x) is;
+pub door_ok : {D L : Type 0} {faults given returned hurt : D → ℕ} {used : D → Option (List L)} {d d' : D} {r : Result LinkRun NoMemory} {run : LinkRun} → LeavesDoor faults given returned hurt used d d' r → r ≡ Ok run
+    → DoorAfter (door_state (faults d) (given d) (returned d) (hurt d) (used d)) (door_state (faults d') (given d') (returned d') (hurt d') (used d')) run.door_failed run.links.items
+door_ok {faults = faults} {given = given} {returned = returned} {hurt = hurt} {d = d} left is = record {
+  faults_are = left.faults_are ∙ ap (λ (x : Result LinkRun NoMemory). faults d + door_failures x) is;
+  given_are = left.given_are ∙ ap (λ (x : Result LinkRun NoMemory). given d + links_given x) is;
+  returned_are = left.returned_are ∙ ap (λ (x : Result LinkRun NoMemory). returned d + links_given x) is;
+  hurt_are = left.hurt_are ∙ ap (λ (x : Result LinkRun NoMemory). hurt d + links_hurt x) is;
 }
 
 -- what is there of a reading, with more
@@ -30,10 +31,10 @@ Reading l r f f' Then = (input : List ℕ) × (steps : List Step) × (end : Inpu
 
 module _ {L : Type 0} (Ends : List Step → InputEnd → RunEnds) (site : ℕ) (l r : Option (List ℕ)) (f f' : ℕ) (a b : Option (List ℕ)) (d d' : DoorState L) (steps given : List Step) (end : InputEnd)
     (read : (input : List ℕ) × ReadSteps l r input steps end) (cause : EndCause f f' end) where
-  pub form_told : (s : Status) (run : LinkRun) → run.history.site ≡ site → end ≢ input_end.NoMemory → given ≡ steps → Ends given end run.own run.door_failed run.links.items run.history.run → DoorAfter d d' run.door_failed run.links.items
+  pub form_told : (s : Status) (run : LinkRun) → LedFrom site run → end ≢ input_end.NoMemory → given ≡ steps → Ends given end run.own run.door_failed run.links.items run.history.run → DoorAfter d d' run.door_failed run.links.items
       → (w : List ℕ) × Says a b s (link_output run.history.site run.history.run (faults_of run.door_failed end run.own run.links.items)) w
       → Reading l r f f' (λ (xs : List Step) (e : InputEnd). RanOrNot (Ends xs e) site e d d' a b s)
-  form_told s run of had_memory same ends door says = (
+  form_told s run led had_memory same ends door says = (
     read.0,
     steps,
     end,
@@ -48,6 +49,6 @@ module _ {L : Type 0} (Ends : List Step → InputEnd → RunEnds) (site : ℕ) (
       written = says.0;
       ends = subst (λ (xs : List Step). Ends xs end run.own run.door_failed run.links.items run.history.run) same ends;
       door = door;
-      says = subst (λ (n : ℕ). Says a b s (link_output n run.history.run (faults_of run.door_failed end run.own run.links.items)) says.0) of says.1;
+      says = subst (λ (n : ℕ). Says a b s (link_output n run.history.run (faults_of run.door_failed end run.own run.links.items)) says.0) led.site_is says.1;
     }),
   )

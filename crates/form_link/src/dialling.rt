@@ -1,11 +1,10 @@
 //! The form that dials.
-ghost use Rattle.std.specs.Prelude.{◌≡◌, ◌≢◌, ◌≤◌, ◌+◌, ℕ, List, IfOk, OnErr};
+ghost use Rattle.std.specs.Prelude.{◌≤◌, ℕ, List, IfOk};
 ghost use Rattle.edit_io.specs.Door.{HasRoom};
 ghost use Rattle.line_engine.specs.Engine.{Reads};
 ghost use Rattle.peer_step.specs.declared.step.Step.{Step};
-ghost use Rattle.peer_core.specs.Peer.{fresh_peer};
-ghost use Rattle.peer_lock.specs.Run.{peer_after_run};
-ghost use Rattle.link_run.specs.Counts.{links_given, links_hurt, door_failures};
+ghost use Rattle.link_run.specs.Ends.{LedFrom};
+ghost use Rattle.link_run.specs.Counts.{LeavesDoor};
 ghost use Rattle.line_input.specs.declared.reading.InputEnd.{InputEnd};
 ghost use Rattle.line_input.specs.Steps.{ReadSteps, EndCause};
 ghost use Rattle.form_link.specs.Report.{SinkCause};
@@ -40,13 +39,8 @@ fn dial_behind<R: Threads + Wait + Sync, D: Door>(
         (door_state (D.faults door.old) (D.given door.old) (D.returned door.old) (D.hurt door.old) (D.used door.old))
         (door_state (D.faults door.new) (D.given door.new) (D.returned door.new) (D.hurt door.new) (D.used door.new))
         r.own r.door_failed r.links.items r.history.run) }
-    ensures peer { IfOk result (λ r. r.peer ≡ peer_after_run (fresh_peer site) r.history.run) }
-    ensures site { IfOk result (λ r. r.history.site ≡ site) }
-    ensures given { D.given door.new ≡ D.given door.old + links_given result }
-    ensures returned { D.returned door.new ≡ D.returned door.old + links_given result }
-    ensures hurt { D.hurt door.new ≡ D.hurt door.old + links_hurt result }
-    ensures faults { D.faults door.new ≡ D.faults door.old + door_failures result }
-    ensures used { OnErr result (D.used door.new ≡ D.used door.old) }
+    ensures led { IfOk result (LedFrom site) }
+    ensures door { LeavesDoor D.faults D.given D.returned D.hurt D.used door.old door.new result }
 {
     match end {
         InputEnd::Whole => dial(rt, alloc, site, port, rounds, steps, door),

@@ -1,5 +1,5 @@
 -- Passes that were dealt, and jobs that have them.
-use Rattle.std.proofs.Common.{◌≡◌, ℕ, zero, suc, ◌+◌, ◌<◌, List, [], ◌∷◌, ◌++◌, Some, length, slice_index_or, refl, sym, ap, ◌∙◌, subst, arith}
+use Rattle.std.proofs.Common.{◌≡◌, ℕ, zero, suc, ◌+◌, ◌<◌, List, [], ◌∷◌, ◌++◌, Some, length, slice_index_or, sym, ap, ◌∙◌, subst, arith}
 use Rattle.std.specs.Prelude.{slice_get, remove}
 use Rattle.std.proofs.lemmas.Option.{get_or_from_slice_get}
 use Rattle.std.proofs.lemmas.List.{nil_from_length}
@@ -19,6 +19,7 @@ use Rattle.link_run.specs.declared.job.Job.{Job}
 use Rattle.link_run.specs.Gathered.{EachOf}
 use Rattle.link_run.specs.Jobs.{passes_of}
 use Rattle.link_run.specs.Served.{HaveDealtPasses}
+use Rattle.link_run.proofs.Gathering.{length-passes}
 use Rattle.link_run.proofs.Wholly.{has_one}
 
 pub same_some : {A : Type 0} (x y : A) → Some x ≡ Some y → x ≡ y
@@ -57,15 +58,11 @@ pass_is [] i d k h e = absurd (omega arith)
 pass_is (j ∷ js) zero d k h e = sym (same_some j.pass k e)
 pass_is (j ∷ js) (suc i) d k h e = pass_is js i d k (omega arith) e
 
-pub length-passes_of : {L : Type 0} (jobs : List (Job L)) → length (passes_of jobs) ≡ length jobs
-length-passes_of [] = refl
-length-passes_of (j ∷ js) = omega (arith, length-passes_of js)
-
 -- jobs with the passes that were dealt
 pub jobs_dealt : {L : Type 0} (table : TableId) (site passes : ℕ) (ks : List KnownPass) (jobs : List (Job L)) → Others table site passes ks → passes_of jobs ≡ ks → HaveDealtPasses table site jobs
 jobs_dealt {L} table site passes ks jobs o e = λ i d h.
     let there : Others table site passes (passes_of jobs) = subst (λ (l : List KnownPass). Others table site passes l) (sym e) o in
-    let dealt = there.each i (omega (arith, h, length-passes_of jobs)) in
+    let dealt = there.each i (omega (arith, h, length-passes jobs)) in
     let is : dealt.0 ≡ (slice_index_or jobs i d).pass = pass_is jobs i d dealt.0 h dealt.1 in
     (subst (λ (k : KnownPass). k.table ≡ table) is dealt.2, subst (λ (k : KnownPass). k.view ≡ newcomer (i + 1) 0 site) is dealt.3)
 

@@ -15,7 +15,7 @@ use Rattle.peer_lock.specs.Answers.{IsSame, KnowsFull, ClosesRun}
 use Rattle.session_core.specs.declared.fault.SessionFault.{SessionFault}
 use Rattle.session_core.specs.declared.fault.SessionFault.TheVariants as session_faults
 use Rattle.session_core.specs.Events.{Mode, serving}
-use Rattle.session_core.specs.Session.{side, Session, pass_steps, pass_answers, closed_by, faults_after_session, FullIsKnown}
+use Rattle.session_core.specs.Session.{side, Session, pass_steps, pass_answers, FullIsKnown, LeavesSide}
 use Rattle.link_run.specs.declared.job.Job.{Job}
 use Rattle.link_run.specs.declared.own.OwnEnd.{OwnEnd}
 use Rattle.link_run.specs.Gathered.{EachOf, IsIn}
@@ -27,7 +27,8 @@ use Rattle.link_run.proofs.Gathering.{joins_none, length-outcomes}
 use Rattle.link_run.proofs.Wholly.{has_one, own_steps_in_run, steps_in_run, answers_in_run}
 use Rattle.link_run.specs.Passes.{IsSolePass}
 use Rattle.link_run.specs.Standing.{SessionInRun, LinksInRun}
-use Rattle.link_run.specs.Ends.{DialEnds}
+use Rattle.link_run.specs.declared.left.LinkRun.{LinkRun}
+use Rattle.link_run.specs.Ends.{LedFrom, DialEnds}
 use Rattle.link_run.specs.Counts.{failures_in}
 use Rattle.link_run.proofs.WorkedLinks.{LinksIn}
 use Rattle.link_run.proofs.Standings.{talk_in_run, links_in_run, as_many_outcomes, hurt_worked}
@@ -58,8 +59,9 @@ sole_same table site k l sole same = record {
 pub stands_for_all : (table : TableId) (site : ℕ) (k : KnownPass) → IsSolePass table site k → length k.view.numbers ≡ k.view.made
 stands_for_all table site k sole = omega (arith, ap (λ (l : List ℕ). length l) sole.numbers_are, sole.made_is)
 
-pub peer_of_run : (table : TableId) (site : ℕ) (k : KnownPass) (p : Peer) (run : List Call) → IsSolePass table site k → ClosesRun k.view p run → p ≡ peer_after_run (fresh_peer site) run
-peer_of_run table site k p run sole closes = closes.peer ∙ ap (λ (o : ℕ). peer_after_run (fresh_peer o) run) sole.origin_is
+-- a run that a pass of this site closed
+pub led_from : (site : ℕ) (v : View) (r : LinkRun) → v.origin ≡ site → ClosesRun v r.peer r.history.run → r.history.site ≡ v.origin → LedFrom site r
+led_from site v r origin closes of = record { site_is = of ∙ origin; peer_is = closes.peer ∙ ap (λ (o : ℕ). peer_after_run (fresh_peer o) r.history.run) (sym of) }
 
 -- the own steps in its run
 pub own_in_run : (k l : KnownPass) (table : TableId) (site : ℕ) (steps : List Step) (r : OwnEnd) (p : Peer) (run : List Call)
@@ -71,30 +73,28 @@ own_in_run k l table site steps r p run new sole made closes =
 -- a session behind them
 talked_behind : {L : Type 0} (got sent : L → Option (List (List ℕ))) (faults closes : L → ℕ) (mode : Mode) (site : ℕ) (k l : KnownPass) (a b : L) (ended : Result ℕ SessionFault) (run : List Call)
     → Session mode (side k (got a) (sent a)) (side l (got b) (sent b)) ended
-    → IsUnused (faults a) (closes a) (got a) (sent a)
-    → closes b ≡ closes a + closed_by ended → faults b ≡ faults_after_session (faults a) ended
+    → IsUnused (faults a) (closes a) (got a) (sent a) → LeavesSide closes faults k l a b ended
     → steps_by 0 run ≡ pass_steps l → answers_by 0 (fresh_peer site) run ≡ pass_answers l → (ended ≡ Err session_faults.RunFull → IsFullRun run)
     → SessionInRun got sent faults closes mode site 0 (pass_steps k) run b ended
-talked_behind got sent faults closes mode site k l a b (Ok n) run session unused closed failed steps answers full =
-    talk_in_run got sent faults closes mode site 0 (pass_steps k) run k l a b (Ok n) session.0 session.1 (session.2, session.3) unused closed failed refl steps answers full
-talked_behind got sent faults closes mode site k l a b (Err fault) run session unused closed failed steps answers full =
-    talk_in_run got sent faults closes mode site 0 (pass_steps k) run k l a b (Err fault) session.0 session.1 session.2 unused closed failed refl steps answers full
+talked_behind got sent faults closes mode site k l a b (Ok n) run session unused left steps answers full =
+    talk_in_run got sent faults closes mode site 0 (pass_steps k) run k l a b (Ok n) session.0 session.1 (session.2, session.3) unused left refl steps answers full
+talked_behind got sent faults closes mode site k l a b (Err fault) run session unused left steps answers full =
+    talk_in_run got sent faults closes mode site 0 (pass_steps k) run k l a b (Err fault) session.0 session.1 session.2 unused left refl steps answers full
 
 full_of : (k : KnownPass) (p : Peer) (run : List Call) (ended : Result ℕ SessionFault) → IfErr ended (FullIsKnown k.view) → ClosesRun k.view p run → ended ≡ Err session_faults.RunFull → IsFullRun run
 full_of k p run ended full closes e = let at : KnowsFull k.view = subst (λ (r : Result ℕ SessionFault). IfErr r (FullIsKnown k.view)) e full refl in omega (arith, at, closes.floor)
 
 pub dialled_in_run : {L : Type 0} (got sent : L → Option (List (List ℕ))) (faults closes : L → ℕ) (mode : Mode) (table : TableId) (site : ℕ) (k l : KnownPass) (a b : L) (ended : Result ℕ SessionFault) (p : Peer) (run : List Call)
-    → Session mode (side k (got a) (sent a)) (side l (got b) (sent b)) ended → IfErr ended (FullIsKnown l.view)
+    → Session mode (side k (got a) (sent a)) (side l (got b) (sent b)) ended → LeavesSide closes faults k l a b ended
     → IsUnused (faults a) (closes a) (got a) (sent a)
-    → closes b ≡ closes a + closed_by ended → faults b ≡ faults_after_session (faults a) ended
     → IsSolePass table site l → ClosesRun l.view p run
     → SessionInRun got sent faults closes mode site 0 (pass_steps k) run b ended
-dialled_in_run got sent faults closes mode table site k l a b ended p run session full unused closed failed sole closing =
+dialled_in_run got sent faults closes mode table site k l a b ended p run session left unused sole closing =
     let self : IsIn l.view l.view = (joins_none l).mine in
-    talked_behind got sent faults closes mode site k l a b ended run session unused closed failed
+    talked_behind got sent faults closes mode site k l a b ended run session unused left
     (steps_in_run l l p run 0 sole.number_is sole.numbers_are self closing)
     (answers_in_run l l p run 0 site sole.number_is sole.numbers_are sole.origin_is self closing)
-    (full_of l p run ended full closing)
+    (full_of l p run ended left.full closing)
 
 -- the same end of a dial, by equations
 pub dial_ends_at : {L : Type 0} (got sent : L → Option (List (List ℕ))) (faults closes : L → ℕ) (site rounds : ℕ) (steps : List Step) (used used' : Option (List L)) (own own' : Option OwnEnd) (failed failed' : Bool) (outcomes outcomes' : List (Option (Result ℕ SessionFault))) (run : List Call)

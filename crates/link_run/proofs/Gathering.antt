@@ -30,21 +30,11 @@ has_right n xs ys all e h = omega (arith, ap (times n) e, times-append n xs ys, 
 
 -- a join keeps what the receiver knew
 in_mine : (v o w : View) → UnitesPasses v o w → IsIn v w
-in_mine v o w j = record {
-  numbers = λ n h. has_left n v.numbers o.numbers w.numbers j.numbers h;
-  seen = j.mine;
-  steps = j.my_steps;
-  floor = omega (arith, j.floor);
-}
+in_mine v o w j = record { numbers = λ n h. has_left n v.numbers o.numbers w.numbers j.numbers h; seen = j.mine; steps = j.my_steps; floor = omega (arith, j.floor) }
 
 -- and what the other knew
 in_theirs : (v o w : View) → UnitesPasses v o w → IsIn o w
-in_theirs v o w j = record {
-  numbers = λ n h. has_right n v.numbers o.numbers w.numbers j.numbers h;
-  seen = j.theirs;
-  steps = j.their_steps;
-  floor = omega (arith, j.floor);
-}
+in_theirs v o w j = record { numbers = λ n h. has_right n v.numbers o.numbers w.numbers j.numbers h; seen = j.theirs; steps = j.their_steps; floor = omega (arith, j.floor) }
 
 starts_then : (xs ys zs : List Call) → StartsWith ys xs → StartsWith zs ys → StartsWith zs xs
 starts_then xs ys zs p q = (p.0 ++ q.0, q.1 ∙ ap (λ l. l ++ q.0) p.1 ∙ append_assoc xs p.0 q.0)

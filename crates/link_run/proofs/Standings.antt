@@ -20,7 +20,7 @@ use Rattle.peer_lock.specs.Rule.{newcomer}
 use Rattle.session_core.specs.declared.fault.SessionFault.{SessionFault}
 use Rattle.session_core.specs.declared.fault.SessionFault.TheVariants as session_faults
 use Rattle.session_core.specs.Events.{SessionState, Mode, serving, first_state, messages_in, messages_out, steps_in}
-use Rattle.session_core.specs.Session.{side, Talked, pass_steps, pass_answers, closed_by, faults_after_session}
+use Rattle.session_core.specs.Session.{side, Talked, pass_steps, pass_answers, faults_after_session, LeavesSide}
 use Rattle.link_run.specs.declared.job.Job.{Job}
 use Rattle.link_run.specs.Gathered.{EachOf}
 use Rattle.link_run.specs.Jobs.{links_of, outcomes_of}
@@ -30,6 +30,7 @@ use Rattle.link_run.specs.Served.{IsFullRun, HaveDealtPasses}
 use Rattle.link_run.specs.Standing.{IsWhereTold, EndsIn, SessionInRun, ServedInRun, LinksUntouched}
 use Rattle.link_run.specs.Counts.{failures_in}
 use Rattle.link_run.proofs.DealtPasses.{same_some}
+use Rattle.link_run.proofs.Gathering.{length-outcomes}
 
 -- as many answers as steps
 pub as_many_answers : (n : ℕ) (p : Peer) (run : List Call) → length (answers_by n p run) ≡ length (steps_by n run)
@@ -46,12 +47,11 @@ where_told (Some ys) xs h = ap (λ l. l ++ xs) h
 -- a piece of a session from its beginning, on a link that was unused
 pub talk_in_run : {L : Type 0} (got sent : L → Option (List (List ℕ))) (faults closes : L → ℕ) (mode : Mode) (site caller : ℕ) (before : List Step) (run : List Call) (k l : KnownPass) (a b : L) (ended : Result ℕ SessionFault) (t : SessionState)
     → Talked mode (first_state mode.rounds) t (side k (got a) (sent a)) (side l (got b) (sent b)) → EndsIn ended t
-    → IsUnused (faults a) (closes a) (got a) (sent a)
-    → closes b ≡ closes a + closed_by ended → faults b ≡ faults_after_session (faults a) ended
+    → IsUnused (faults a) (closes a) (got a) (sent a) → LeavesSide closes faults k l a b ended
     → pass_steps k ≡ before → steps_by caller run ≡ pass_steps l → answers_by caller (fresh_peer site) run ≡ pass_answers l
     → (ended ≡ Err session_faults.RunFull → IsFullRun run)
     → SessionInRun got sent faults closes mode site caller before run b ended
-talk_in_run got sent faults closes mode site caller before run k l a b ended t talked ends unused closed failed made steps answers full = record {
+talk_in_run got sent faults closes mode site caller before run k l a b ended t talked ends unused left made steps answers full = record {
   events = talked.trace;
   last = t;
   leads = talked.leads;
@@ -62,8 +62,8 @@ talk_in_run got sent faults closes mode site caller before run k l a b ended t t
   answers_are = answers ∙ talked.answers_are;
   got_is = subst (λ o. IsWhereTold o (messages_in talked.trace)) (sym talked.got_is) (where_told (got a) (messages_in talked.trace) unused.none_came);
   sent_is = subst (λ o. IsWhereTold o (messages_out talked.trace)) (sym talked.sent_is) (where_told (sent a) (messages_out talked.trace) unused.none_went);
-  closes_is = omega (arith, closed, unused.no_close);
-  faults_is = failed ∙ ap (λ (n : ℕ). faults_after_session n ended) unused.no_fault;
+  closes_is = omega (arith, left.closes_are, unused.no_close);
+  faults_is = left.faults_are ∙ ap (λ (n : ℕ). faults_after_session n ended) unused.no_fault;
   full = full;
 }
 
@@ -77,10 +77,10 @@ pub served_in_run : {L : Type 0} (got sent : L → Option (List (List ℕ))) (fa
 served_in_run got sent faults closes validates site caller run a b None ended new unused steps answers full = ended
 served_in_run got sent faults closes validates site caller run a b (Some (Ok n)) ended new unused steps answers full =
     let none : pass_steps a.pass ≡ [] = ap (λ (v : View). steps_by v.number v.seen) new in
-    talk_in_run got sent faults closes (serving validates) site caller [] run a.pass b.pass a.link b.link (Ok n) ended.0.0 ended.0.1 (ended.0.2, ended.0.3) unused ended.1 ended.2 none steps answers (λ e. full (ap Some e))
+    talk_in_run got sent faults closes (serving validates) site caller [] run a.pass b.pass a.link b.link (Ok n) ended.0.0 ended.0.1 (ended.0.2, ended.0.3) unused ended.1 none steps answers (λ e. full (ap Some e))
 served_in_run got sent faults closes validates site caller run a b (Some (Err fault)) ended new unused steps answers full =
     let none : pass_steps a.pass ≡ [] = ap (λ (v : View). steps_by v.number v.seen) new in
-    talk_in_run got sent faults closes (serving validates) site caller [] run a.pass b.pass a.link b.link (Err fault) ended.0.0 ended.0.1 ended.0.2 unused ended.1 ended.2 none steps answers (λ e. full (ap Some e))
+    talk_in_run got sent faults closes (serving validates) site caller [] run a.pass b.pass a.link b.link (Err fault) ended.0.0 ended.0.1 ended.0.2 unused ended.1 none steps answers (λ e. full (ap Some e))
 
 -- ---- jobs and their links, place by place
 
@@ -88,12 +88,8 @@ length-links_of : {L : Type 0} (js : List (Job L)) → length (links_of js) ≡ 
 length-links_of [] = refl
 length-links_of (j ∷ js) = omega (arith, length-links_of js)
 
-length-outcomes_of : {L : Type 0} (js : List (Job L)) → length (outcomes_of js) ≡ length js
-length-outcomes_of [] = refl
-length-outcomes_of (j ∷ js) = omega (arith, length-outcomes_of js)
-
 pub as_many_outcomes : {L : Type 0} (js : List (Job L)) → length (links_of js) ≡ length (outcomes_of js)
-as_many_outcomes js = length-links_of js ∙ sym (length-outcomes_of js)
+as_many_outcomes js = length-links_of js ∙ sym (length-outcomes js)
 
 -- the job of a link, and of an outcome
 job_of_link : {L : Type 0} (js : List (Job L)) (i : ℕ) (link : L) → slice_get (links_of js) i ≡ Some link → (j : Job L) × (slice_get js i ≡ Some j) × (j.link ≡ link)
@@ -177,7 +173,7 @@ hurt_once before now (Err session_faults.NoMemory) e is = omega (arith, e, is)
 
 hurt_of_job : {L : Type 0} (got sent : L → Option (List (List ℕ))) (faults closes : L → ℕ) (validates : Bool) (a b : Job L) (o : Option (Result ℕ SessionFault)) → EndedSo got sent faults closes validates a b o → faults a.link ≡ 0 → hurt_by (faults b.link) ≡ failures_in o
 hurt_of_job got sent faults closes validates a b None ended none = absurd ended
-hurt_of_job got sent faults closes validates a b (Some r) ended none = hurt_once (faults a.link) (faults b.link) r none ended.2
+hurt_of_job got sent faults closes validates a b (Some r) ended none = hurt_once (faults a.link) (faults b.link) r none ended.1.faults_are
 
 pub hurt_worked : {L : Type 0} (got sent : L → Option (List (List ℕ))) (faults closes : L → ℕ) (validates : Bool) (before after : List (Job L)) → length after ≡ length before → EachOf (IsUnservedJob got sent faults closes) before
     → ((i : ℕ) (d : Job L) → i < length before → Worked got sent faults closes validates (slice_index_or before i d) (slice_index_or after i d))

@@ -75,5 +75,5 @@ full_in_run got sent faults closes validates a b None last p run ended is i c = 
 full_in_run got sent faults closes validates a b (Some (Ok n)) last p run ended is i c = cc
 full_in_run got sent faults closes validates a b (Some (Err fault)) last p run ended is i c =
     let met : fault ≡ session_faults.RunFull = cc in
-    let full : KnowsFull b.pass.view = ended.3 met in
+    let full : KnowsFull b.pass.view = ended.1.full met in
     omega (arith, full, i.floor, c.floor)

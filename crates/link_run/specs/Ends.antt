@@ -2,13 +2,21 @@
 use Rattle.std.specs.Prelude.{◌≡◌, ◌==◌, ℕ, ◌+◌, ◌≤◌, Bool, true, false, List, [], ◌∷◌, length, Option, Some, None, Result}
 use Rattle.edit_io.specs.Link.{with_last}
 use Rattle.peer_step.specs.declared.step.Step.{Step}
+use Rattle.peer_core.specs.Peer.{fresh_peer}
 use Rattle.peer_lock.specs.declared.call.Call.{Call}
+use Rattle.peer_lock.specs.Run.{peer_after_run}
 use Rattle.session_core.specs.declared.fault.SessionFault.{SessionFault}
 use Rattle.session_core.specs.Events.{serving, dialling}
 use Rattle.link_run.specs.declared.own.OwnEnd.{OwnEnd}
 use Rattle.link_run.specs.declared.own.OwnEnd.TheVariants.{Done, RunFull, NoMemory}
+use Rattle.link_run.specs.declared.left.LinkRun.{LinkRun}
 use Rattle.link_run.specs.Served.{OwnIn, IsRunOf}
 use Rattle.link_run.specs.Standing.{SessionInRun, LinksInRun, LinksUntouched}
+
+-- the run is of a peer of this site, and leads to the peer that is left
+pub record LedFrom (site : ℕ) (r : LinkRun) : Type 0 where
+  pub site_is : r.history.site ≡ site
+  pub peer_is : r.peer ≡ peer_after_run (fresh_peer r.history.site) r.history.run
 
 -- the own steps in the run are those of the list, or, where they were cut, the first ones
 abbrev pub OwnEnds : List Step → Option OwnEnd → List Call → Type 0

@@ -1,12 +1,12 @@
 -- What each worker leaves.
-use Rattle.std.specs.Prelude.{◌≡◌, ℕ, ◌+◌, Bool, List, Option, Some, None, Result, IfErr}
+use Rattle.std.specs.Prelude.{ℕ, Bool, List, Option, Some, None, Result}
 use Rattle.peer_step.specs.declared.step.Step.{Step}
 use Rattle.peer_lock.specs.declared.view.View.{View}
 use Rattle.peer_lock.specs.Answers.{IsSame, KnowsFull}
 use Rattle.peer_lock.specs.Made.{Made, MadeFirst}
 use Rattle.session_core.specs.declared.fault.SessionFault.{SessionFault}
 use Rattle.session_core.specs.Events.{serving}
-use Rattle.session_core.specs.Session.{side, Session, closed_by, faults_after_session, FullIsKnown}
+use Rattle.session_core.specs.Session.{side, Session, LeavesSide}
 use Rattle.link_run.specs.declared.own.OwnEnd.{OwnEnd}
 use Rattle.link_run.specs.declared.own.OwnEnd.TheVariants.{Done, RunFull, NoMemory}
 use Rattle.link_run.specs.declared.job.Job.{Job}
@@ -22,9 +22,7 @@ abbrev pub EndedSo : {L : Type 0} → (L → Option (List (List ℕ))) → (L �
 EndedSo got sent faults closes validates a b None = ⊥
 EndedSo got sent faults closes validates a b (Some r) =
     Session (serving validates) (side a.pass (got a.link) (sent a.link)) (side b.pass (got b.link) (sent b.link)) r
-    × (closes b.link ≡ closes a.link + closed_by r)
-    × (faults b.link ≡ faults_after_session (faults a.link) r)
-    × IfErr r (FullIsKnown b.pass.view)
+    × LeavesSide closes faults a.pass b.pass a.link b.link r
 
 -- a worker has served the link of a job to its end, and noted how it ended
 pub record Worked {L : Type 0} (got sent : L → Option (List (List ℕ))) (faults closes : L → ℕ) (validates : Bool) (a b : Job L) : Type 0 where

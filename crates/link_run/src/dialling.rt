@@ -1,13 +1,11 @@
 //! A peer that dials.
-ghost use Rattle.std.specs.Prelude.{◌≡◌, ◌+◌, ◌≤◌, ◌<◌, [], length, IfOk, OnErr, vec_capacity, false, sum_by};
+ghost use Rattle.std.specs.Prelude.{◌≡◌, ◌≤◌, ◌<◌, [], length, IfOk, vec_capacity, false, sum_by};
 ghost use Rattle.edit_io.specs.Door.{HasRoom, IsUnused};
-ghost use Rattle.peer_core.specs.Peer.{fresh_peer};
 ghost use Rattle.peer_lock.specs.Answers.{ClosesRun};
-ghost use Rattle.peer_lock.specs.Run.{peer_after_run};
 ghost use Rattle.session_core.specs.Session.{pass_steps};
 ghost use Rattle.link_run.specs.Passes.{IsSolePass};
-ghost use Rattle.link_run.specs.Ends.{AloneEnds, DialEnds};
-ghost use Rattle.link_run.specs.Counts.{links_given, links_hurt, door_failures, failures_in};
+ghost use Rattle.link_run.specs.Ends.{LedFrom, AloneEnds, DialEnds};
+ghost use Rattle.link_run.specs.Counts.{failures_in, TookBack, LeavesDoor};
 
 use crate::dealing::deal_one;
 use crate::left::LinkRun;
@@ -61,15 +59,11 @@ fn dial_over<D: Door, R: Threads + Wait + Sync>(
     requires unused { IsUnused (D.Line.faults link) (D.Line.closes link) (D.Line.got link) (D.Line.sent link) }
     requires given { D.returned door.old < D.given door.old }
     requires room { (outcomes.items ≡ []) × (0 < vec_capacity outcomes) }
-    ensures peer { result.peer ≡ peer_after_run (fresh_peer site) result.history.run }
-    ensures site { result.history.site ≡ site }
+    ensures led { LedFrom site result }
     ensures ends { DialEnds D.Line.got D.Line.sent D.Line.faults D.Line.closes site rounds (pass_steps pass)
         (D.used door.old) (D.used door.new) result.own result.door_failed result.links.items result.history.run }
     ensures whole { (result.door_failed ≡ false) × (length result.links.items ≡ 1) }
-    ensures given { D.given door.new ≡ D.given door.old }
-    ensures returned { D.returned door.new ≡ D.returned door.old + 1 }
-    ensures hurt { D.hurt door.new ≡ D.hurt door.old + sum_by failures_in result.links.items }
-    ensures faults { D.faults door.new ≡ D.faults door.old }
+    ensures back { TookBack D.faults D.given D.returned D.hurt door.old door.new 1 (sum_by failures_in result.links.items) }
 {
     let mut pass = pass;
     let mut link = link;
@@ -90,8 +84,7 @@ pub fn run_alone<R: Threads + Wait + Sync>(
     site: u16,
     steps: &[Step],
 ) -> Result<LinkRun, NoMemory>
-    ensures peer { IfOk result (λ r. r.peer ≡ peer_after_run (fresh_peer site) r.history.run) }
-    ensures site { IfOk result (λ r. r.history.site ≡ site) }
+    ensures led { IfOk result (LedFrom site) }
     ensures ends { IfOk result (λ r. AloneEnds steps.now r.own r.door_failed r.links.items r.history.run) }
 {
     let (shared, pass) = deal_one(alloc, site)?;
@@ -117,17 +110,12 @@ pub fn dial<D: Door, R: Threads + Wait + Sync>(
     requires room { HasRoom (D.faults door.old) (D.given door.old) }
     requires back { D.returned door.old ≤ D.given door.old }
     // The peer is what the run leads to.
-    ensures peer { IfOk result (λ r. r.peer ≡ peer_after_run (fresh_peer site) r.history.run) }
-    ensures site { IfOk result (λ r. r.history.site ≡ site) }
+    ensures led { IfOk result (LedFrom site) }
     // The own steps stand in the run, and behind them those of the session on the link that came back.
     ensures ends { IfOk result (λ r. DialEnds D.Line.got D.Line.sent D.Line.faults D.Line.closes site rounds steps.now
         (D.used door.old) (D.used door.new) r.own r.door_failed r.links.items r.history.run) }
     // The door gave no more links than came back, and counts those that failed, and its own failure.
-    ensures given { D.given door.new ≡ D.given door.old + links_given result }
-    ensures returned { D.returned door.new ≡ D.returned door.old + links_given result }
-    ensures hurt { D.hurt door.new ≡ D.hurt door.old + links_hurt result }
-    ensures faults { D.faults door.new ≡ D.faults door.old + door_failures result }
-    ensures used { OnErr result (D.used door.new ≡ D.used door.old) }
+    ensures door { LeavesDoor D.faults D.given D.returned D.hurt D.used door.old door.new result }
 {
     let (shared, pass) = deal_one(alloc, site)?;
     let outcomes = Vec::with_capacity(alloc, 1)?;

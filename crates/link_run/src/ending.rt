@@ -4,6 +4,7 @@ ghost use Rattle.edit_io.specs.Link.{with_last};
 ghost use Rattle.link_run.specs.Gathered.{EachOf, JoinsAll};
 ghost use Rattle.link_run.specs.Jobs.{passes_of, links_of, outcomes_of};
 ghost use Rattle.link_run.specs.Taken.{hurt_among};
+ghost use Rattle.link_run.specs.Counts.{TookBack};
 
 use crate::job::Job;
 use edit_io::Door;
@@ -27,10 +28,8 @@ pub(crate) fn finish_jobs<D: Door>(
     requires room { vec_len outcomes.old + vec_len jobs ≤ vec_capacity outcomes.old }
     ensures joined { JoinsAll pass.old (passes_of jobs.items) pass.new }
     ensures used { D.used door.new ≡ with_last (D.used door.old) (links_of jobs.items) }
-    ensures given { D.given door.new ≡ D.given door.old }
-    ensures returned { D.returned door.new ≡ D.returned door.old + vec_len jobs }
-    ensures hurt { D.hurt door.new ≡ D.hurt door.old + hurt_among D.Line.faults (links_of jobs.items) }
-    ensures faults { D.faults door.new ≡ D.faults door.old }
+    ensures back { TookBack D.faults D.given D.returned D.hurt door.old door.new (vec_len jobs)
+        (hurt_among D.Line.faults (links_of jobs.items)) }
     ensures outcomes { outcomes.new.items ≡ outcomes.old.items ++ outcomes_of jobs.items }
 {
     let mut left = VecDeque::from_vec(jobs);

@@ -1,16 +1,14 @@
 //! A peer that serves.
-ghost use Rattle.std.specs.Prelude.{◌≡◌, ◌+◌, ◌≤◌, ◌<◌, [], length, IfOk, OnErr};
+ghost use Rattle.std.specs.Prelude.{◌≡◌, ◌+◌, ◌≤◌, ◌<◌, [], length, IfOk};
 ghost use Rattle.std.specs.Prelude.{vec_len, vec_capacity, true, false, sum_by};
-ghost use Rattle.peer_core.specs.Peer.{fresh_peer};
 ghost use Rattle.peer_lock.specs.declared.limits.TheConstants.{MAX_PASSES};
 ghost use Rattle.peer_lock.specs.Rule.{newcomer};
-ghost use Rattle.peer_lock.specs.Run.{peer_after_run};
 ghost use Rattle.link_run.specs.Gathered.{EachOf};
 ghost use Rattle.link_run.specs.Jobs.{passes_of};
 ghost use Rattle.link_run.specs.Served.{HaveDealtPasses};
 ghost use Rattle.link_run.specs.Taken.{HasRoomForLinks, IsUnservedJob};
-ghost use Rattle.link_run.specs.Ends.{ServedAll, ServedNone, ServeEnds};
-ghost use Rattle.link_run.specs.Counts.{links_given, links_hurt, door_failures, failures_in};
+ghost use Rattle.link_run.specs.Ends.{LedFrom, ServedAll, ServedNone, ServeEnds};
+ghost use Rattle.link_run.specs.Counts.{failures_in, TookBack, LeavesDoor};
 
 use crate::dealing::{deal_links, idle_peer};
 use crate::ending::finish_jobs;
@@ -46,15 +44,12 @@ fn serve_taken<D: Door, R: Threads + Wait + Sync>(
     requires ready { EachOf (IsUnservedJob D.Line.got D.Line.sent D.Line.faults D.Line.closes) jobs.items }
     requires given { D.returned door.old + vec_len jobs ≤ D.given door.old }
     requires room { (outcomes.items ≡ []) × (vec_len jobs ≤ vec_capacity outcomes) }
-    ensures peer { result.peer ≡ peer_after_run (fresh_peer site) result.history.run }
-    ensures site { result.history.site ≡ site }
+    ensures led { LedFrom site result }
     ensures ends { ServedAll D.Line.got D.Line.sent D.Line.faults D.Line.closes site (vec_len jobs) steps.now
         (D.used door.old) (D.used door.new) result.own result.links.items result.history.run }
     ensures whole { result.door_failed ≡ false }
-    ensures given { D.given door.new ≡ D.given door.old }
-    ensures returned { D.returned door.new ≡ D.returned door.old + vec_len jobs }
-    ensures hurt { D.hurt door.new ≡ D.hurt door.old + sum_by failures_in result.links.items }
-    ensures faults { D.faults door.new ≡ D.faults door.old }
+    ensures back { TookBack D.faults D.given D.returned D.hurt door.old door.new (vec_len jobs)
+        (sum_by failures_in result.links.items) }
 {
     let mut outcomes = outcomes;
     let ((mut pass, own), jobs) = run_workers(rt, alloc, &shared, pass, steps, jobs, site == 0);
@@ -90,10 +85,8 @@ fn give_back<D: Door>(
         (D.used door.old) (D.used door.new) result.own result.links.items result.history.run }
     ensures many { length result.links.items ≡ vec_len jobs }
     ensures failed { result.door_failed ≡ true }
-    ensures given { D.given door.new ≡ D.given door.old }
-    ensures returned { D.returned door.new ≡ D.returned door.old + vec_len jobs }
-    ensures hurt { D.hurt door.new ≡ D.hurt door.old + sum_by failures_in result.links.items }
-    ensures faults { D.faults door.new ≡ D.faults door.old }
+    ensures back { TookBack D.faults D.given D.returned D.hurt door.old door.new (vec_len jobs)
+        (sum_by failures_in result.links.items) }
 {
     let mut pass = pass;
     let mut outcomes = outcomes;
@@ -128,18 +121,13 @@ pub fn serve<D: Door, R: Threads + Wait + Sync>(
     requires room { HasRoomForLinks links (D.faults door.old) (D.given door.old) }
     requires back { D.returned door.old ≤ D.given door.old }
     // The peer is what the run leads to.
-    ensures peer { IfOk result (λ r. r.peer ≡ peer_after_run (fresh_peer site) r.history.run) }
-    ensures site { IfOk result (λ r. r.history.site ≡ site) }
+    ensures led { IfOk result (LedFrom site) }
     // The own steps stand in the run, and those of the session on each link that came back; nothing is in it where the
     // door failed.
     ensures ends { IfOk result (λ r. ServeEnds D.Line.got D.Line.sent D.Line.faults D.Line.closes site links steps.now
         (D.used door.old) (D.used door.new) r.own r.door_failed r.links.items r.history.run) }
     // The door gave no more links than came back, and counts those that failed, and its own failure.
-    ensures given { D.given door.new ≡ D.given door.old + links_given result }
-    ensures returned { D.returned door.new ≡ D.returned door.old + links_given result }
-    ensures hurt { D.hurt door.new ≡ D.hurt door.old + links_hurt result }
-    ensures faults { D.faults door.new ≡ D.faults door.old + door_failures result }
-    ensures used { OnErr result (D.used door.new ≡ D.used door.old) }
+    ensures door { LeavesDoor D.faults D.given D.returned D.hurt D.used door.old door.new result }
 {
     let (shared, pass, passes) = deal_links(alloc, site, links)?;
     let outcomes = Vec::with_capacity(alloc, links as usize)?;

@@ -2,7 +2,7 @@ use Rattle.std.proofs.Common.{Option, sym, ◌∙◌, subst}
 use Rattle.link_run.specs.declared.own.OwnEnd.{OwnEnd}
 use Rattle.link_run.specs.Ends.{OwnEnds}
 use Rattle.link_run.proofs.Wholly.{run_of_all}
-use Rattle.link_run.proofs.Endings.{fresh_sole, sole_same, stands_for_all, peer_of_run, own_in_run}
+use Rattle.link_run.proofs.Endings.{fresh_sole, sole_same, stands_for_all, led_from, own_in_run}
 use Rattle.link_run.proofs.dialling.run_alone.Goals as goal
 
 pub close_alone-requires-clause-whole : goal.close_alone-requires-clause-whole
@@ -11,17 +11,11 @@ close_alone-requires-clause-whole g c =
     stands_for_all c.in_ok-shared.shared c.args.site c.make_own-pass.result.0
     (sole_same c.in_ok-shared.shared c.args.site k c.make_own-pass.result.0 (fresh_sole k c.in_ok-shared.shared c.args.site c.in_ok-shared.ensures.0 c.in_ok-shared.ensures.1) c.make_own-pass.ensures.same)
 
-pub returns-clause-peer : goal.returns-clause-peer
-returns-clause-peer g c =
+pub returns-clause-led : goal.returns-clause-led
+returns-clause-led g c =
     let k = c.in_ok-shared.pass in
     let sole = sole_same c.in_ok-shared.shared c.args.site k c.make_own-pass.result.0 (fresh_sole k c.in_ok-shared.shared c.args.site c.in_ok-shared.ensures.0 c.in_ok-shared.ensures.1) c.make_own-pass.ensures.same in
-    peer_of_run c.in_ok-shared.shared c.args.site c.make_own-pass.result.0 c.close_alone.result.peer c.close_alone.result.history.run sole c.close_alone.ensures.closes
-
-pub returns-clause-site : goal.returns-clause-site
-returns-clause-site g c =
-    let k = c.in_ok-shared.pass in
-    let sole = sole_same c.in_ok-shared.shared c.args.site k c.make_own-pass.result.0 (fresh_sole k c.in_ok-shared.shared c.args.site c.in_ok-shared.ensures.0 c.in_ok-shared.ensures.1) c.make_own-pass.ensures.same in
-    c.close_alone.ensures.site ∙ sole.origin_is
+    led_from c.args.site c.make_own-pass.result.0.view c.close_alone.result sole.origin_is c.close_alone.ensures.closes c.close_alone.ensures.site
 
 pub returns-clause-ends : goal.returns-clause-ends
 returns-clause-ends g c =

@@ -24,17 +24,21 @@ returns-clause-many g c =
     let outcomes : c.finish_jobs.new.outcomes.items ≡ outcomes_of js = c.finish_jobs.ensures.outcomes ∙ ap (λ l. l ++ outcomes_of js) c.requires.room.0 in
     omega (arith, ap (λ l. length l) outcomes, length-outcomes js, c.args.jobs.ok.0)
 
-pub returns-clause-hurt : goal.returns-clause-hurt
-returns-clause-hurt g c =
+pub returns-clause-back : goal.returns-clause-back
+returns-clause-back g c =
     let js = c.args.jobs.items in
-    let outcomes : c.finish_jobs.new.outcomes.items ≡ outcomes_of js = c.finish_jobs.ensures.outcomes ∙ ap (λ l. l ++ outcomes_of js) c.requires.room.0 in
-    omega (
-      arith,
-      c.finish_jobs.ensures.hurt,
-      hurt_untouched g.D.Line.Link.got g.D.Line.Link.sent g.D.Line.Link.faults g.D.Line.Link.closes js c.requires.ready,
-      no_failures g.D.Line.Link.got g.D.Line.Link.sent g.D.Line.Link.faults g.D.Line.Link.closes js c.requires.ready,
-      ap (λ l. sum_by failures_in l) outcomes,
-    )
+    let outcomes : c.finish_jobs.new.outcomes.items ≡ outcomes_of js = c.finish_jobs.ensures.outcomes ∙ ap (λ l. l ++ outcomes_of js) c.requires.room.0 in record {
+      faults_are = c.finish_jobs.ensures.back.faults_are;
+      given_are = c.finish_jobs.ensures.back.given_are;
+      returned_are = c.finish_jobs.ensures.back.returned_are;
+      hurt_are = omega (
+        arith,
+        c.finish_jobs.ensures.back.hurt_are,
+        hurt_untouched g.D.Line.Link.got g.D.Line.Link.sent g.D.Line.Link.faults g.D.Line.Link.closes js c.requires.ready,
+        no_failures g.D.Line.Link.got g.D.Line.Link.sent g.D.Line.Link.faults g.D.Line.Link.closes js c.requires.ready,
+        ap (λ l. sum_by failures_in l) outcomes,
+      );
+    }
 
 pub finish_jobs-requires-clause-room : goal.finish_jobs-requires-clause-room
 finish_jobs-requires-clause-room g c = omega (arith, ap (λ l. length l) c.requires.room.0, c.requires.room.1, c.args.outcomes.ok.0)

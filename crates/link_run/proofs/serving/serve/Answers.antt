@@ -9,7 +9,8 @@ use Rattle.link_run.specs.declared.own.OwnEnd.{OwnEnd}
 use Rattle.link_run.specs.Gathered.{EachOf}
 use Rattle.link_run.specs.Jobs.{passes_of}
 use Rattle.link_run.specs.Ends.{ServedAll, ServeEnds}
-use Rattle.link_run.proofs.DealtPasses.{jobs_dealt, length-passes_of, each_front, tables_of, made_of}
+use Rattle.link_run.proofs.DealtPasses.{jobs_dealt, each_front, tables_of, made_of}
+use Rattle.link_run.proofs.Gathering.{length-passes}
 use Rattle.link_run.proofs.serving.serve.Goals as goal
 
 -- all links were taken
@@ -25,7 +26,7 @@ pub serve_taken-requires-clause-own : goal.serve_taken-requires-clause-own
 serve_taken-requires-clause-own g c κs within =
     let js = c.take_links.new.jobs.items in
     let many : c.args.links + 1 ≡ vec_len c.take_links.new.jobs + 1 =
-    omega (arith, ap (λ (l : List KnownPass). length l) c.in-Ok.ensures.all, length-passes_of js, c.in_ok-shared.ensures.theirs.rest, c.take_links.new.jobs.ok.0) in
+    omega (arith, ap (λ (l : List KnownPass). length l) c.in-Ok.ensures.all, length-passes js, c.in_ok-shared.ensures.theirs.rest, c.take_links.new.jobs.ok.0) in
     (c.in_ok-shared.ensures.own.0, c.in_ok-shared.ensures.own.1 ∙ ap (λ (n : ℕ). newcomer 0 n c.args.site) many)
 
 pub serve_taken-requires-clause-theirs : goal.serve_taken-requires-clause-theirs
@@ -51,7 +52,7 @@ pub returns-in-Ok-clause-ends : goal.returns-in-Ok-clause-ends
 returns-in-Ok-clause-ends g c =
     let js = c.take_links.new.jobs.items in
     let many : vec_len c.take_links.new.jobs ≡ c.args.links =
-    omega (arith, ap (λ (l : List KnownPass). length l) c.in-Ok.ensures.all, length-passes_of js, c.in_ok-shared.ensures.theirs.rest, c.take_links.new.jobs.ok.0) in
+    omega (arith, ap (λ (l : List KnownPass). length l) c.in-Ok.ensures.all, length-passes js, c.in_ok-shared.ensures.theirs.rest, c.take_links.new.jobs.ok.0) in
     as_served g.D.Line.Link.got g.D.Line.Link.sent g.D.Line.Link.faults g.D.Line.Link.closes c.args.site c.args.links (vec_len c.take_links.new.jobs) c.args.steps.now
     (g.D.Door.used c.take_links.new.door) (g.D.Door.used c.args.door.now) (g.D.Door.used c.serve_taken.new.door) c.serve_taken.result.own c.serve_taken.result.door_failed c.serve_taken.result.links.items c.serve_taken.result.history.run
     c.serve_taken.ensures.whole many c.in-Ok.ensures.used c.serve_taken.ensures.ends
