@@ -13,7 +13,7 @@ use Rattle.link_run.specs.Counts.{links_given, links_hurt, door_failures, Leaves
 use Rattle.link_run.specs.Ends.{LedFrom}
 use Rattle.form_link.specs.Faults.{faults_of}
 use Rattle.form_link.specs.Report.{link_output}
-use Rattle.form_link.specs.Form.{DoorState, door_state, DoorAfter, RunEnds, RanOrNot}
+use Rattle.form_link.specs.Form.{DoorState, door_state, DoorAfter, RunEnds, ReadAndRan}
 
 -- what a run leaves of a door
 pub door_ok : {D L : Type 0} {faults given returned hurt : D → ℕ} {used : D → Option (List L)} {d d' : D} {r : Result LinkRun NoMemory} {run : LinkRun} → LeavesDoor faults given returned hurt used d d' r → r ≡ Ok run
@@ -25,22 +25,19 @@ door_ok {faults = faults} {given = given} {returned = returned} {hurt = hurt} {d
   hurt_are = left.hurt_are ∙ ap (λ (x : Result LinkRun NoMemory). hurt d + links_hurt x) is;
 }
 
--- what is there of a reading, with more
-abbrev Reading : Option (List ℕ) → Option (List ℕ) → ℕ → ℕ → (List Step → InputEnd → Type 0) → Type 0
-Reading l r f f' Then = (input : List ℕ) × (steps : List Step) × (end : InputEnd) × ReadSteps l r input steps end × EndCause f f' end × Then steps end
-
+-- a run that was told, of the steps of an input
 module _ {L : Type 0} (Ends : List Step → InputEnd → RunEnds) (site : ℕ) (l r : Option (List ℕ)) (f f' : ℕ) (a b : Option (List ℕ)) (d d' : DoorState L) (steps given : List Step) (end : InputEnd)
     (read : (input : List ℕ) × ReadSteps l r input steps end) (cause : EndCause f f' end) where
   pub form_told : (s : Status) (run : LinkRun) → LedFrom site run → end ≢ input_end.NoMemory → given ≡ steps → Ends given end run.own run.door_failed run.links.items run.history.run → DoorAfter d d' run.door_failed run.links.items
       → (w : List ℕ) × Says a b s (link_output run.history.site run.history.run (faults_of run.door_failed end run.own run.links.items)) w
-      → Reading l r f f' (λ (xs : List Step) (e : InputEnd). RanOrNot (Ends xs e) site e d d' a b s)
-  form_told s run led had_memory same ends door says = (
-    read.0,
-    steps,
-    end,
-    read.1,
-    cause,
-    inl (record {
+      → ReadAndRan Ends site l r f f' a b d d' s
+  form_told s run led had_memory same ends door says = record {
+    input = read.0;
+    steps = steps;
+    end = end;
+    read = read.1;
+    read_cause = cause;
+    ran = inl (record {
       had_memory = had_memory;
       own = run.own;
       door_failed = run.door_failed;
@@ -50,5 +47,5 @@ module _ {L : Type 0} (Ends : List Step → InputEnd → RunEnds) (site : ℕ) (
       ends = subst (λ (xs : List Step). Ends xs end run.own run.door_failed run.links.items run.history.run) same ends;
       door = door;
       says = subst (λ (n : ℕ). Says a b s (link_output n run.history.run (faults_of run.door_failed end run.own run.links.items)) says.0) led.site_is says.1;
-    }),
-  )
+    });
+  }

@@ -9,6 +9,7 @@ use Rattle.session_core.specs.declared.fault.SessionFault.{SessionFault}
 use Rattle.link_run.specs.declared.own.OwnEnd.{OwnEnd}
 use Rattle.line_input.specs.declared.reading.InputEnd.{InputEnd}
 use Rattle.line_input.specs.declared.reading.InputEnd.TheVariants as input_end
+use Rattle.line_input.specs.Steps.{ReadSteps, EndCause}
 use Rattle.link_run.specs.Ends.{ServeEnds, DialEnds, AloneEnds}
 use Rattle.link_run.specs.Counts.{failures_in}
 use Rattle.form_link.specs.Faults.{faults_of}
@@ -67,6 +68,15 @@ pub record NothingRun {L : Type 0} (d d' : DoorState L) (sink_old sink_new : Opt
 -- a run was told, or there was none for want of memory, as wherever reading the input ended so
 abbrev pub RanOrNot : {L : Type 0} → RunEnds → ℕ → InputEnd → DoorState L → DoorState L → Option (List ℕ) → Option (List ℕ) → Status → Type 0
 RanOrNot Ends site end d d' sink_old sink_new status = ToldRun Ends site end d d' sink_old sink_new status ⊎ NothingRun d d' sink_old sink_new status
+
+-- an input was read to its end, to its first fault or until memory was wanting, and its steps were run over a door, or nothing was run
+pub record ReadAndRan {L : Type 0} (Ends : List Step → InputEnd → RunEnds) (site : ℕ) (left left' : Option (List ℕ)) (faults faults' : ℕ) (sink sink' : Option (List ℕ)) (d d' : DoorState L) (status : Status) : Type 0 where
+  pub input : List ℕ
+  pub steps : List Step
+  pub end : InputEnd
+  pub read : ReadSteps left left' input steps end
+  pub read_cause : EndCause faults faults' end
+  pub ran : RanOrNot (Ends steps end) site end d d' sink sink' status
 
 -- a link fault is answered only where the door's count of failures grew, or that of links that failed
 abbrev pub HasLinkCause : ℕ → ℕ → ℕ → ℕ → Status → Type 0

@@ -1,13 +1,10 @@
 //! The form that serves.
-ghost use Rattle.std.specs.Prelude.{◌≤◌, ◌<◌, ℕ, List};
+ghost use Rattle.std.specs.Prelude.{◌≤◌, ◌<◌};
 ghost use Rattle.line_engine.specs.Engine.{Reads};
-ghost use Rattle.peer_step.specs.declared.step.Step.{Step};
 ghost use Rattle.peer_lock.specs.declared.limits.TheConstants.{MAX_PASSES};
 ghost use Rattle.link_run.specs.Taken.{HasRoomForLinks};
-ghost use Rattle.line_input.specs.declared.reading.InputEnd.{InputEnd};
-ghost use Rattle.line_input.specs.Steps.{ReadSteps, EndCause};
 ghost use Rattle.form_link.specs.Report.{SinkCause};
-ghost use Rattle.form_link.specs.Form.{door_state, Serves, RanOrNot, HasLinkCause};
+ghost use Rattle.form_link.specs.Form.{door_state, Serves, ReadAndRan, HasLinkCause};
 
 use crate::telling::tell;
 use edit_io::{Door, Sink, Source};
@@ -42,13 +39,10 @@ pub fn serve_form<R: Threads + Wait + Sync, S: Source, K: Sink, D: Door>(
     requires back { D.returned door.old ≤ D.given door.old }
     // The steps are those that were read; the links stand to their callers in the run as sessions do, and came back; and
     // the report was written, and a line for each fault.
-    ensures ran { (input : List ℕ) × (steps : List Step) × (end : InputEnd) ×
-        ReadSteps (S.left source.old) (S.left source.new) input steps end ×
-        EndCause (S.faults source.old) (S.faults source.new) end ×
-        (let before = door_state (D.faults door.old) (D.given door.old) (D.returned door.old) (D.hurt door.old) (D.used door.old) in
+    ensures ran { let before = door_state (D.faults door.old) (D.given door.old) (D.returned door.old) (D.hurt door.old) (D.used door.old) in
         let after = door_state (D.faults door.new) (D.given door.new) (D.returned door.new) (D.hurt door.new) (D.used door.new) in
-        RanOrNot (Serves D.Line.got D.Line.sent D.Line.faults D.Line.closes site links steps before after) site end before after
-        (K.written sink.old) (K.written sink.new) result) }
+        ReadAndRan (λ steps end. Serves D.Line.got D.Line.sent D.Line.faults D.Line.closes site links steps before after) site
+        (S.left source.old) (S.left source.new) (S.faults source.old) (S.faults source.new) (K.written sink.old) (K.written sink.new) before after result }
     ensures reads { Reads (S.left source.old) (S.left source.new) }
     ensures write_cause { SinkCause (K.faults sink.old) (K.faults sink.new) result }
     ensures link_cause { HasLinkCause (D.faults door.old) (D.faults door.new) (D.hurt door.old) (D.hurt door.new) result }
