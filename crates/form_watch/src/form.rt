@@ -45,7 +45,7 @@ fn watch_steps<R: Threads + Wait + Sync, K: Sink, G: Gate + Sync>(
     ensures cause { StatusCause (K.faults sink.old) (K.faults sink.new) result Status.WriteFault }
 {
     match watch(rt, alloc, site, steps, reads, gate) {
-        Ok(watched) => tell_watched(alloc, watched, sink),
+        Ok((peer, watched)) => tell_watched(alloc, peer, &watched, sink),
         Err(_) => Status::NoMemory,
     }
 }

@@ -14,6 +14,7 @@ use crate::lines::put_page;
 use crate::watching::Watched;
 use edit_io::Sink;
 use line_engine::{Status, put_bad_line, say};
+use peer_core::Peer;
 use report_run::report;
 use screen_read::Page;
 use std::alloc::Global;
@@ -61,22 +62,21 @@ fn tell_pages<K: Sink>(
 }
 
 /// Writes the report of a run, and then the lines of the pages that were read beside it.
-pub(crate) fn tell_watched<K: Sink>(alloc: Global, watched: Watched, sink: &mut K) -> Status
-    requires { watched.peer ≡ peer_after_run (fresh_peer watched.history.site) watched.history.run }
+pub(crate) fn tell_watched<K: Sink>(
+    alloc: Global,
+    peer: Peer,
+    watched: &Watched,
+    sink: &mut K,
+) -> Status
+    requires { peer ≡ peer_after_run (fresh_peer watched.now.history.site) watched.now.history.run }
     ensures says { (written : List ℕ) ×
         Says (K.written sink.old) (K.written sink.new) result
-        (done_with (report watched.history.site watched.history.run
-        ++ flat_map page_line (map (told_page watched.newest) watched.pages.items))) written }
+        (done_with (report watched.now.history.site watched.now.history.run
+        ++ flat_map page_line (map (told_page watched.now.newest) watched.now.pages.items))) written }
     ensures cause { StatusCause (K.faults sink.old) (K.faults sink.new) result Status.WriteFault }
 {
-    let Watched {
-        peer,
-        history,
-        pages,
-        newest,
-    } = watched;
-    match report(alloc, peer, &history, sink) {
-        Status::Done => match tell_pages(alloc, &pages, &newest, sink) {
+    match report(alloc, peer, &watched.history, sink) {
+        Status::Done => match tell_pages(alloc, &watched.pages, &watched.newest, sink) {
             Ok(()) => Status::Done,
             Err(status) => status,
         },

@@ -24,7 +24,6 @@ use std::thread::{Threads, join};
 /// What a watch leaves.
 #[derive(Drop)]
 pub(crate) struct Watched {
-    pub(crate) peer: Peer,
     pub(crate) history: History,
     /// The pages that were read, in order.
     pub(crate) pages: Vec<Page>,
@@ -137,11 +136,11 @@ pub(crate) fn watch<R: Threads + Wait + Sync, G: Gate + Sync>(
     steps: &[Step],
     reads: u32,
     gate: &G,
-) -> Result<Watched, NoMemory>
+) -> Result<(Peer, Watched), NoMemory>
     requires { length steps.now ≤ MAX_LINES }
-    ensures run { IfOk result (λ w. w.history ≡ recorded site (watch_run steps.now)) }
-    ensures peer { IfOk result (λ w. w.peer ≡ peer_after_run (fresh_peer site) w.history.run) }
-    ensures pages { IfOk result (λ w. AreReadPages site reads w.history.run w.pages.items w.newest) }
+    ensures run { IfOk result (λ w. w.1.history ≡ recorded site (watch_run steps.now)) }
+    ensures peer { IfOk result (λ w. w.0 ≡ peer_after_run (fresh_peer site) w.1.history.run) }
+    ensures pages { IfOk result (λ w. AreReadPages site reads w.1.history.run w.1.pages.items w.1.newest) }
 {
     let (shared, pass) = start(alloc, site)?;
     let ends = match open(rt, alloc, &shared, pass) {
@@ -156,10 +155,10 @@ pub(crate) fn watch<R: Threads + Wait + Sync, G: Gate + Sync>(
     let (reader, pages) = read?;
     let newest = settle(screen, reader)?;
     let (peer, history) = shared.close(pass);
-    Ok(Watched {
-        peer,
+    let watched = Watched {
         history,
         pages,
         newest,
-    })
+    };
+    Ok((peer, watched))
 }
