@@ -24,7 +24,7 @@ use Rattle.hold_back.specs.declared.need.Need.TheVariants.{Element, Front}
 use Rattle.hold_back.specs.declared.hold.TheConstants.{MAX_HELD}
 use Rattle.hold_back.specs.Hold.{find_held, waits_for, is_woken, needing_at, messages_of, IsHold}
 use Rattle.hold_back.specs.Index.{awaited_rank, is_ranked, need_rank, key_rank, ticket_ranks, need_fits, key_fits, held_fits, need_ranks, key_ranks}
-use Rattle.hold_back.specs.Index.{rank, times_in, IsWith, IsWithout, AreArrivals, IsTicketRow, IsNextArrival, IsIndexOf, AreRowsOf, IsIndexed}
+use Rattle.hold_back.specs.Index.{rank, times_in, IsWith, IsWithout, AreArrivals, IsTicketRow, IsNextArrival, IsIndexOf, AreTicketsOf, IsIndexed}
 use Rattle.hold_back.proofs.Holds.{IsHold-keep, IsHold-remove, IsHold-needing, messages_needing}
 use Rattle.hold_back.proofs.Rows.{map_remove, row_push, row_remove, row_set, arrivals_push, arrivals_remove, ticket_there}
 
@@ -141,7 +141,7 @@ IsIndexOf-push ns ks old new a n k is next arrivals needs keys = record {
       (row_push ks old.arrivals.items (ticket_ranks old.keys.items) (ticket_ranks new.keys.items) k a is.keyed keys);
 }
 
-pub IsIndexed-keep : (held : List Held) (h : Held) (old new : Index) (a : ℕ) → IsHold held → list_all held_fits held ≡ true → AreRowsOf held old
+pub IsIndexed-keep : (held : List Held) (h : Held) (old new : Index) (a : ℕ) → IsHold held → list_all held_fits held ≡ true → AreTicketsOf held old
     → find_held (key_of h.message) held ≡ None → length held < MAX_HELD → held_fits h ≡ true → IsNextArrival old a
     → new.arrivals.items ≡ old.arrivals.items ++ a ∷ [] → IsWith (rank (need_rank h.need) a) (ticket_ranks old.needs.items) (ticket_ranks new.needs.items)
     → IsWith (rank (key_rank (key_of h.message)) a) (ticket_ranks old.keys.items) (ticket_ranks new.keys.items) → IsIndexed (held ++ h ∷ []) new
@@ -248,10 +248,10 @@ IsIndexOf-same ns ks old new arrivals needs keys is = record {
 
 -- one more of the held messages, numbered by its place
 pub numbered_more : (held : List Held) (i : ℕ) (h : Held) (m k : ℕ) (old mid new : Index) → i < length held → slice_get held i ≡ Some h → i < 4294967296
-    → m ≡ need_rank h.need → k ≡ key_rank (key_of h.message) → AreRowsOf (take i held) old → All (λ b. b < i) old.arrivals.items
+    → m ≡ need_rank h.need → k ≡ key_rank (key_of h.message) → AreTicketsOf (take i held) old → All (λ b. b < i) old.arrivals.items
     → mid.arrivals.items ≡ old.arrivals.items → mid.needs.items ≡ old.needs.items → mid.keys.items ≡ old.keys.items
     → new.arrivals.items ≡ mid.arrivals.items ++ i ∷ [] → IsWith (rank m i) (ticket_ranks mid.needs.items) (ticket_ranks new.needs.items) → IsWith (rank k i) (ticket_ranks mid.keys.items) (ticket_ranks new.keys.items)
-    → AreRowsOf (take (i + 1) held) new × All (λ b. b < i + 1) new.arrivals.items
+    → AreTicketsOf (take (i + 1) held) new × All (λ b. b < i + 1) new.arrivals.items
 numbered_more held i h m k old mid new within there small its_need its_key is later a n l arrivals needs keys =
     let before = IsIndexOf-same (need_ranks (take i held)) (key_ranks (take i held)) old mid a n l is in
     let later_still = subst (λ (us : List ℕ). All (λ b. b < i) us) (sym a) later in

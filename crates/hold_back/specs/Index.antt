@@ -131,7 +131,7 @@ pub record IsNextArrival (index : Index) (arrival : ℕ) : Type 0 where
   pub small : arrival < 4294967296
 
 -- there is room for a message of this number of arrival, which comes behind all
-pub record HasRoomFor (index : Index) (arrival : ℕ) : Type 0 where
+pub record HasArrivalRoom (index : Index) (arrival : ℕ) : Type 0 where
   pub room : HasIndexRoom index
   pub next : IsNextArrival index arrival
 
@@ -142,11 +142,11 @@ pub record IsIndexOf (needs keys : List ℕ) (index : Index) : Type 0 where
   pub keyed : IsTicketRow keys index.arrivals.items (ticket_ranks index.keys.items)
 
 -- the rows are those of the messages
-abbrev pub AreRowsOf : List Held → Index → Type 0
-AreRowsOf held index = IsIndexOf (need_ranks held) (key_ranks held) index
+abbrev pub AreTicketsOf : List Held → Index → Type 0
+AreTicketsOf held index = IsIndexOf (need_ranks held) (key_ranks held) index
 
 -- the rows are those of the held messages
 pub record IsIndexed (held : List Held) (index : Index) : Type 0 where
   pub hold : IsHold held
   pub fit : list_all held_fits held ≡ true
-  pub rows : AreRowsOf held index
+  pub rows : AreTicketsOf held index

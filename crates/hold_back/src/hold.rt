@@ -9,7 +9,7 @@ ghost use Rattle.element_name.specs.Growing.{EachAfter};
 ghost use Rattle.edit_message.specs.Message.{key_of, key_eq};
 ghost use Rattle.hold_back.specs.Hold.{find_held, keep_fault, needing_at, woken_at, waiting_at, woken_from, waiting_from, due_at};
 ghost use Rattle.hold_back.specs.Hold.{only_woken_due, is_woken, waits_for, IsNewKey, keys_of};
-ghost use Rattle.hold_back.specs.Index.{IsIndexed, AreRowsOf, HasRoomFor, awaited_rank, need_ranks, held_fits};
+ghost use Rattle.hold_back.specs.Index.{IsIndexed, AreTicketsOf, HasArrivalRoom, awaited_rank, need_ranks, held_fits};
 ghost use Rattle.std.specs.List.{All};
 
 use crate::awaited::Awaited;
@@ -282,7 +282,7 @@ fn take_out(held: &mut Vec<Parcel>, i: usize) -> Held
 /// The index of messages that are numbered anew, by their places.
 fn numbered(alloc: Global, held: &[Parcel]) -> Result<Index, HoldFault>
     requires { length held.now ≤ MAX_HELD }
-    ensures ok { IfOk result (λ index. AreRowsOf held.now index × All (λ a. a < length held.now) index.arrivals.items) }
+    ensures ok { IfOk result (λ index. AreTicketsOf held.now index × All (λ a. a < length held.now) index.arrivals.items) }
     ensures fault { IfErr result (λ fault. fault ≡ no_memory) }
 {
     let mut index = Index::new(alloc);
@@ -302,7 +302,7 @@ fn numbered(alloc: Global, held: &[Parcel]) -> Result<Index, HoldFault>
 #[inline(never)]
 fn renumbered(alloc: Global, held: &[Parcel]) -> Result<Index, HoldFault>
     requires { length held.now ≤ MAX_HELD }
-    ensures ok { IfOk result (λ index. AreRowsOf held.now index × HasRoomFor index (length held.now)) }
+    ensures ok { IfOk result (λ index. AreTicketsOf held.now index × HasArrivalRoom index (length held.now)) }
     ensures fault { IfErr result (λ fault. fault ≡ no_memory) }
 {
     let mut index = numbered(alloc, held)?;
@@ -314,9 +314,9 @@ fn renumbered(alloc: Global, held: &[Parcel]) -> Result<Index, HoldFault>
 /// numbered anew.
 fn make_room(index: &mut Index, alloc: Global, held: &[Parcel]) -> Result<u32, HoldFault>
     requires few { length held.now ≤ MAX_HELD }
-    requires index { AreRowsOf held.now index.old }
-    ensures index { AreRowsOf held.now index.new }
-    ensures ok { IfOk result (λ a. HasRoomFor index.new a) }
+    requires index { AreTicketsOf held.now index.old }
+    ensures index { AreTicketsOf held.now index.new }
+    ensures ok { IfOk result (λ a. HasArrivalRoom index.new a) }
     ensures fault { IfErr result (λ fault. fault ≡ no_memory) }
 {
     index.reserve()?;

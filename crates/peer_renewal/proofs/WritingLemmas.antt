@@ -51,11 +51,11 @@ insert_last [] x = refl
 insert_last (y ∷ xs) x = ap (λ l. y ∷ l) (insert_last xs x)
 
 -- how a peer stands that wrote one more piece
-pub record IsWritten (p q : Peer) (at : ℕ) (piece : List ℕ) : Type 0 where
+pub record IsPieceWritten (p q : Peer) (at : ℕ) (piece : List ℕ) : Type 0 where
   pub goes_on : IsWriting q (at + 1)
   pub text : text q ≡ text p ++ piece ∷ []
 
-pub writes_one : (p : Peer) (at : ℕ) (piece : List ℕ) → IsWriting p at → at < MAX_REQUESTS → is_piece piece ≡ true → IsWritten p (peer_after p (Edit (Insert at piece))) at piece
+pub writes_one : (p : Peer) (at : ℕ) (piece : List ℕ) → IsWriting p at → at < MAX_REQUESTS → is_piece piece ≡ true → IsPieceWritten p (peer_after p (Edit (Insert at piece))) at piece
 writes_one p at piece is low formed =
     let edit : LocalEdit = Insert at piece in
     let nq : Request = new_request p edit in

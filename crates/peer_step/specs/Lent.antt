@@ -41,6 +41,6 @@ is_conflict (Conflict kept) = true
 is_conflict answer = false
 
 -- what is told of an answer to a request that comes: all of it, and nothing where another one of its name is here
-abbrev pub IsTold : Answer → Option RequestAnswer → Type 0
-IsTold answer (Some told) = answer ≡ answer_told told
-IsTold answer None = is_conflict answer ≡ true
+abbrev pub IsAnswerTold : Answer → Option RequestAnswer → Type 0
+IsAnswerTold answer (Some told) = answer ≡ answer_told told
+IsAnswerTold answer None = is_conflict answer ≡ true

@@ -8,7 +8,7 @@ ghost use Rattle.peer_core.specs.Sound.{is_foreign};
 ghost use Rattle.peer_core.specs.Waiting.{MayIntegrate};
 ghost use Rattle.peer_core.specs.Answers.{answer_receive, answer_missing, answer_taken};
 ghost use Rattle.peer_core.specs.After.{changed_by, peer_after, takes_none};
-ghost use Rattle.peer_step.specs.Lent.{answer_told, IsTold};
+ghost use Rattle.peer_step.specs.Lent.{answer_told, IsAnswerTold};
 
 use super::Peer;
 use crate::known::{Known, answer_known, told_known};
@@ -49,7 +49,7 @@ impl Peer {
         &mut self,
         request: &LentRequest<'_>,
     ) -> Result<Option<RequestAnswer>, NoMemory>
-        ensures answer { IfOk result (λ told. IsTold (answer_receive self.old (Message.Coop request.now)) told) }
+        ensures answer { IfOk result (λ told. IsAnswerTold (answer_receive self.old (Message.Coop request.now)) told) }
         ensures after { OnOk result (self.new ≡ peer_after self.old (Step.Receive (Message.Coop request.now))) }
         ensures other { IfOk result (λ told. told ≡ None → self.new ≡ self.old) }
         ensures unchanged { OnErr result (self.new ≡ self.old) }

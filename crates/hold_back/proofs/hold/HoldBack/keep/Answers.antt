@@ -3,7 +3,7 @@ use Rattle.edit_message.specs.Message.{key_of}
 use Rattle.hold_back.specs.declared.held.Held.{Held}
 use Rattle.hold_back.specs.declared.hold.TheConstants.{MAX_HELD}
 use Rattle.hold_back.specs.Hold.{find_held}
-use Rattle.hold_back.specs.Index.{awaited_rank, key_rank, key_fits, rank, ticket_ranks, IsWith, AreRowsOf, IsIndexed}
+use Rattle.hold_back.specs.Index.{awaited_rank, key_rank, key_fits, rank, ticket_ranks, IsWith, AreTicketsOf, IsIndexed}
 use Rattle.hold_back.proofs.Indexes.{IsIndexed-keep}
 use Rattle.hold_back.proofs.hold.HoldBack.keep.Goals as goal
 
@@ -16,7 +16,7 @@ invariant_of-self-2 c =
     let a = c.in_ok-arrival.arrival in
     let none = subst (λ (hs : List Held). find_held (key_of c.args.message) hs ≡ None) (sym c.self.view_is) c.requires.new in
     let room : length held < MAX_HELD = omega arith in
-    let rows = subst (λ (hs : List Held). AreRowsOf hs old) c.deref.ensures.value c.in_ok-arrival.ensures.index in
+    let rows = subst (λ (hs : List Held). AreTicketsOf hs old) c.deref.ensures.value c.in_ok-arrival.ensures.index in
     let key = ap awaited_rank c.of_key-key.ensures.value ∙ ap key_rank c.key.ensures.value in
     let own = ap (λ b. b && key_fits (key_of c.args.message)) c.of_need-awaited.ensures.fits ∙ ap key_fits (sym c.key.ensures.value) ∙ c.of_key-key.ensures.fits in
     let needs = subst (λ (m : ℕ). IsWith (rank m a) (ticket_ranks old.needs.items) (ticket_ranks new.needs.items)) (ap awaited_rank c.of_need-awaited.ensures.value) c.enter.ensures.needs in
