@@ -1,7 +1,6 @@
-use Rattle.std.proofs.Common.{◌≡◌, ℕ, List, ap, subst, ◌∙◌, arith}
+use Rattle.std.proofs.Common.{◌≡◌, ap, subst, ◌∙◌, arith}
 use Rattle.std.specs.Prelude.{slice_set}
 use Rattle.std.proofs.lemmas.Grind.{common_steps}
-use Rattle.peer_step.specs.declared.step.Step.{Step}
 use Rattle.peer_step.specs.declared.step.Step.TheVariants.{Edit}
 use Rattle.peer_step.specs.Lent.{local_edit_lent}
 use Rattle.peer_core.specs.Peer.{Peer}
@@ -9,24 +8,20 @@ use Rattle.peer_core.specs.Sound.{IsSound}
 use Rattle.peer_core.specs.After.{peer_after}
 use Rattle.replay_net.specs.World.{peer_at}
 use Rattle.replay_net.proofs.world.edit_of.Goals as goal
+use Rattle.replay_net.proofs.world.edit_of.Goals.{In_ok-told}
+
+-- the peer of that number makes the step
+stepped : (c : In_ok-told) → c.index_mut-stepped.result.now ≡ peer_at c.args.peers.now.items c.args.peer
+stepped c = grind (arith, common_steps)
+
+changed : (c : In_ok-told) → c.edit.new.self ≡ peer_after (peer_at c.args.peers.now.items c.args.peer) (Edit (local_edit_lent c.args.edit))
+changed c = c.in_ok-told.ensures.after ∙ ap (λ (p : Peer). peer_after p (Edit (local_edit_lent c.args.edit))) (stepped c)
 
 pub returns-clause-answer : goal.returns-clause-answer
-returns-clause-answer c =
-    let same : c.index_mut-stepped.result.now ≡ peer_at c.args.peers.now.items c.args.peer = grind (arith, common_steps) in
-    rw same at c.in_ok-told.ensures.answer
+returns-clause-answer c = rw (stepped (goal.at.returns-clause-answer c).In_ok-told) at c.in_ok-told.ensures.answer
 
 pub returns-clause-after : goal.returns-clause-after
-returns-clause-after c =
-    let peers : List Peer = c.args.peers.now.items in
-    let i : ℕ = c.args.peer in
-    let step : Step = Edit (local_edit_lent c.args.edit) in
-    let same : c.index_mut-stepped.result.now ≡ peer_at peers i = grind (arith, common_steps) in
-    ap (slice_set peers i) (c.in_ok-told.ensures.after ∙ ap (λ (p : Peer). peer_after p step) same)
+returns-clause-after c = ap (slice_set c.args.peers.now.items c.args.peer) (changed (goal.at.returns-clause-after c).In_ok-told)
 
 pub returns-clause-sound : goal.returns-clause-sound
-returns-clause-sound c =
-    let peers : List Peer = c.args.peers.now.items in
-    let i : ℕ = c.args.peer in
-    let step : Step = Edit (local_edit_lent c.args.edit) in
-    let same : c.index_mut-stepped.result.now ≡ peer_at peers i = grind (arith, common_steps) in
-    subst IsSound (c.in_ok-told.ensures.after ∙ ap (λ (p : Peer). peer_after p step) same) c.site.ensures.sound
+returns-clause-sound c = subst IsSound (changed (goal.at.returns-clause-sound c).In_ok-told) c.site.ensures.sound
