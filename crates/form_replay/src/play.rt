@@ -1,5 +1,5 @@
 //! A script's lines on a world.
-ghost use Rattle.std.specs.Prelude.{◌≡◌, ◌<◌, [], None, Some, length, IfOk, OnOk, IsErrOf};
+ghost use Rattle.std.specs.Prelude.{◌≡◌, ◌<◌, true, false, [], None, Some, length, IsTrue, IfOk, OnOk, IsErrOf};
 ghost use Rattle.peer_step.specs.Lent.{local_edit_lent};
 ghost use Rattle.form_replay.specs.Replay.{reply_turn, script_turn};
 
@@ -7,10 +7,10 @@ use crate::reply::put_reply;
 use element_name::NoMemory;
 use line_engine::Lines;
 use line_spelling::LineFail;
-use line_write::put_edit_answer_line;
+use line_write::{put_edit_answer_line, put_request_answer_line};
 use peer_step::Step;
 use replay_net::{Line, World};
-use script_text::{OwnEdit, script_edit, script_line};
+use script_text::{Given, OwnEdit, script_edit, script_give, script_line};
 use std::alloc::Global;
 use std::marker::Model;
 
@@ -64,6 +64,24 @@ fn play_edit(world: &mut World, own: OwnEdit<'_>, out: &mut Vec<u8>) -> Result<(
     Ok(())
 }
 
+// Plays a later line that gives an issued request, and appends what it is answered. False where it is to be played as any line:
+// nothing is changed or appended then.
+fn play_give(world: &mut World, given: Given, out: &mut Vec<u8>) -> Result<bool, NoMemory>
+    requires there { given.peer < length world.old.peers }
+    requires empty { out.old.items ≡ [] }
+    ensures played { IfOk result (λ played. IsTrue played → reply_turn world.old (Line.Give given.message given.peer) ≡ record { reply = out.new.items; world = Some world.new }) }
+    ensures not_played { IfOk result (λ played. played ≡ false → (world.new ≡ world.old) × (out.new.items ≡ [])) }
+{
+    match world.give_request(given.message, given.peer) {
+        Ok(Some(told)) => {
+            put_request_answer_line(out, told)?;
+            Ok(true)
+        }
+        Ok(None) => Ok(false),
+        Err(NoMemory) => Err(NoMemory),
+    }
+}
+
 // Plays any later line, and appends what it is answered. It stands apart from `play`, since its line and its reply have room
 // for pieces, which is filled where a function begins.
 #[inline(never)]
@@ -94,8 +112,28 @@ fn play(alloc: Global, world: &mut World, line: &[u8], out: &mut Vec<u8>) -> Res
 {
     match script_edit(line, world.peers()) {
         Some(own) => play_edit(world, own, out).or(Err(LineFail::NoMemory)),
-        None => play_any(alloc, world, line, out),
+        None => play_other(alloc, world, line, out),
     }
+}
+
+// Plays a later line that is no own edit, and appends what it is answered.
+fn play_other(
+    alloc: Global,
+    world: &mut World,
+    line: &[u8],
+    out: &mut Vec<u8>,
+) -> Result<(), LineFail>
+    requires { out.old.items ≡ [] }
+    ensures ok { OnOk result (script_turn (Some world.old) line.now ≡ Some (record { reply = out.new.items; world = Some world.new })) }
+    ensures bad { IsErrOf result LineFail.Bad →
+        (script_turn (Some world.old) line.now ≡ None) × (world.new ≡ world.old) × (out.new.items ≡ []) }
+{
+    if let Some(given) = script_give(line, world.peers()) {
+        if play_give(world, given, out).or(Err(LineFail::NoMemory))? {
+            return Ok(());
+        }
+    }
+    play_any(alloc, world, line, out)
 }
 
 impl Lines for Replay {

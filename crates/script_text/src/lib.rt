@@ -10,4 +10,4 @@ mod own_edit;
 mod peers;
 
 pub use line::script_line;
-pub use own_edit::{OwnEdit, script_edit};
+pub use own_edit::{Given, OwnEdit, script_edit, script_give};

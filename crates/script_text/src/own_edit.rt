@@ -1,4 +1,4 @@
-//! Own edits in script lines.
+//! Own edits in script lines, and what is given.
 ghost use Rattle.std.specs.Prelude.{◌≡◌, ◌<◌, ◌∷◌, Some, IfSome, false, slice_get};
 ghost use Rattle.std.specs.Option.{option_map_or};
 ghost use Rattle.std.specs.Char.{is_ascii_digit};
@@ -6,13 +6,16 @@ ghost use Rattle.peer_step.specs.Lent.{local_edit_lent};
 ghost use Rattle.line_read.specs.Words.{bytes_of};
 ghost use Rattle.script_text.specs.Line.{read_later, script_line};
 
-use crate::peers::read_peer;
+use crate::peers::{read_count, read_peer};
 use line_read::{is_line, read_lent_edit, split_words};
 use peer_step::{LentLocalEdit, Step};
 use replay_net::Line;
 
 /// How many words the line of an own edit has at most.
 const EDIT_WORDS: usize = 4;
+
+/// How many words the line has that gives an issued message to a peer.
+const GIVE_WORDS: usize = 3;
 
 /// An edit of a peer's own, with a piece that lies elsewhere.
 #[derive(Drop)]
@@ -21,6 +24,15 @@ pub struct OwnEdit<'a> {
     pub peer: u32,
     /// Its edit.
     pub edit: LentLocalEdit<'a>,
+}
+
+/// An issued message that is given to a peer.
+#[derive(Clone, Copy)]
+pub struct Given {
+    /// The message's number, from 1.
+    pub message: u32,
+    /// The peer's number.
+    pub peer: u32,
 }
 
 // Whether a line begins with a digit, as one that begins with a peer does, and none that begins with a word.
@@ -68,4 +80,32 @@ pub fn script_edit(bytes: &[u8], peers: u32) -> Option<OwnEdit<'_>>
     let mut row = [&bytes[..0]; EDIT_WORDS];
     let count = split_words(bytes, &mut row)?;
     own_edit(peers, &row[..count])
+}
+
+// A message's number and a peer, behind the word.
+fn read_given(peers: u32, words: &[&[u8]]) -> Option<Given>
+    ensures says { IfSome result (λ given. read_later peers (bytes_of words.now) ≡ Some (Line.Give given.message given.peer)) }
+    ensures within { IfSome result (λ given. given.peer < peers) }
+{
+    match words {
+        [word, a, b] if *word == b"give".as_slice() => {
+            let message = read_count(u32::MAX, a)?;
+            let peer = read_peer(peers, b)?;
+            Some(Given { message, peer })
+        }
+        _ => None,
+    }
+}
+
+/// What a later line of a script says, as [`script_edit`] reads it, where it gives an issued message to a peer.
+pub fn script_give(bytes: &[u8], peers: u32) -> Option<Given>
+    ensures says { IfSome result (λ given. script_line false peers bytes.now ≡ Some (Line.Give given.message given.peer)) }
+    ensures within { IfSome result (λ given. given.peer < peers) }
+{
+    if !is_line(bytes) {
+        return None;
+    }
+    let mut row = [&bytes[..0]; GIVE_WORDS];
+    let count = split_words(bytes, &mut row)?;
+    read_given(peers, &row[..count])
 }
