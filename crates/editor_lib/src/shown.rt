@@ -15,7 +15,8 @@ use std::alloc::Global;
 fn piece_of(peer: &Peer, element: Name) -> Option<Piece>
     ensures { result ≡ piece_at peer.now element }
 {
-    shown(peer.cell(element)?)
+    let cell = peer.cell(element)?;
+    shown(&cell)
 }
 
 // The piece that shows at a place.
@@ -39,7 +40,7 @@ pub fn piece_bytes(alloc: Global, peer: &Peer, place: u32) -> Result<Vec<u8>, No
 }
 
 // The site of who wrote what shows of an element with this cell. Takes time in its updates.
-fn writer_by(element: Name, cell: &Cell) -> u16
+fn writer_by(element: Name, cell: &Cell<'_>) -> u16
     ensures { result ≡ writer_by element cell.now }
 {
     match cell.letter(cell.letters().saturating_sub(1)) {
@@ -53,7 +54,7 @@ fn writer_of(peer: &Peer, element: Name) -> u16
     ensures { result ≡ writer_of peer.now element }
 {
     match peer.cell(element) {
-        Some(cell) => writer_by(element, cell),
+        Some(cell) => writer_by(element, &cell),
         None => element.site(),
     }
 }

@@ -1,23 +1,20 @@
 -- Requests in ascending order of name.
 use Rattle.std.proofs.Common.{◌≡◌, ℕ, ◌+◌, Bool, true, false, ◌&&◌, List, [], ◌∷◌, ◌++◌, length, map, Some, None, refl, sym, subst, ◌∙◌, ap, arith, if◌then◌else◌}
-use Rattle.std.specs.Prelude.{filter}
+use Rattle.std.specs.Prelude.{filter, option_and_then}
 use Rattle.std.specs.List.{list_all}
 use Rattle.std.specs.Option.{option_map, option_or}
 use Rattle.std.specs.declared.option.Option.{Option}
-use Rattle.std.proofs.lemmas.List.{append-nil}
-use Rattle.std.proofs.lemmas.List.Elements.{filter-append}
 use Rattle.element_name.specs.Cases.{given}
 use Rattle.element_name.specs.Name.{Name, name_eq, name_lt, are_distinct}
 use Rattle.element_name.proofs.NameOrder.{name_eq-comm, same_name}
-use Rattle.element_name.proofs.NamedLemmas.{item_named-put, item_named-put_other, put_named-comm, without_named-put}
+use Rattle.element_name.proofs.NamedLemmas.{item_named-put_other}
 use Rattle.element_name.proofs.CaseLemmas.{option_or-None}
 use Rattle.coop_request.specs.Edit.{is_insert, piece_in}
 use Rattle.coop_request.specs.Request.{Request}
 use Rattle.coop_request.specs.History.{request_of}
-use Rattle.elem_show.specs.Cell.{is_insert_of, cell_from, own_piece, cell_of}
-use Rattle.elem_show.specs.Counting.{cell_with}
-use Rattle.elem_show.specs.Table.{cell_named, including, except, in_id_order, table_of}
-use Rattle.elem_show.proofs.Cells.{id_of, cell_from-cons, cell_from-including, together-except, together-snoc, together-set, once-cons, once-except, rest_once, first_new, absent-except}
+use Rattle.elem_show.specs.Cell.{is_insert_of, cell_from, own_of, own_piece, cell_of}
+use Rattle.elem_show.specs.Counting.{including}
+use Rattle.elem_show.proofs.Cells.{id_of, cell_of_set, once-cons, rest_once, first_new}
 
 -- ---- one more request
 
@@ -86,52 +83,7 @@ own_piece-including q (y ∷ ys) e new = by (name_lt q.id y.id) (name_eq y.id q.
     by true false a rest = here (name_eq q.id e) refl
     by false false a rest = later (given (is_insert_of e y) (piece_in y.edit)) (rest a)
 
--- ---- all of them
-
-pub in_id_order-snoc : (xs : List Request) (q : Request) → request_of xs q.id ≡ None → in_id_order (xs ++ q ∷ []) ≡ including q (in_id_order xs)
-in_id_order-snoc xs q new = together-snoc in_id_order including (λ r rs. refl) (put_named-comm id_of) q xs new
-
-pub found_in_id_order : (xs : List Request) (n : Name) → are_distinct (map id_of xs) ≡ true → request_of (in_id_order xs) n ≡ request_of xs n
-found_in_id_order [] n once = refl
-found_in_id_order (x ∷ xs) n once =
-    let rest = rest_once x xs once in
-    item_named-put id_of n x (in_id_order xs) (found_in_id_order xs x.id rest ∙ first_new x xs once)
-    ∙ ap (λ (o : Option Request). if name_eq x.id n then Some x else o) (found_in_id_order xs n rest)
-
-first_absent : (x : Request) (xs : List Request) → are_distinct (map id_of (x ∷ xs)) ≡ true → request_of (in_id_order xs) x.id ≡ None
-first_absent x xs once = found_in_id_order xs x.id (rest_once x xs once) ∙ first_new x xs once
-
-in_id_order-except : (q : Request) (xs : List Request) → are_distinct (map id_of xs) ≡ true → request_of xs q.id ≡ Some q → in_id_order xs ≡ including q (in_id_order (except xs q.id))
-in_id_order-except q xs once member = together-except in_id_order including (λ r rs. refl) (put_named-comm id_of) q xs once member
-
--- without one of them
-pub except-in_id_order : (q : Request) (xs : List Request) → are_distinct (map id_of xs) ≡ true → request_of xs q.id ≡ Some q → except (in_id_order xs) q.id ≡ in_id_order (except xs q.id)
-except-in_id_order q xs once member =
-    let left = except xs q.id in
-    let absent : request_of (in_id_order left) q.id ≡ None = found_in_id_order left q.id (once-except q.id xs once) ∙ absent-except q.id xs in
-    ap (λ qs. except qs q.id) (in_id_order-except q xs once member) ∙ without_named-put id_of q (in_id_order left) absent
-
--- the same requests are one list
-pub in_id_order-set : (xs ys : List Request) → are_distinct (map id_of xs) ≡ true → are_distinct (map id_of ys) ≡ true → ((n : Name) → request_of xs n ≡ request_of ys n) → in_id_order xs ≡ in_id_order ys
-in_id_order-set xs ys once_x once_y alike = together-set in_id_order including (λ r rs. refl) (put_named-comm id_of) xs ys once_x once_y alike
-
-pub length-in_id_order : (xs : List Request) → length (in_id_order xs) ≡ length xs
-length-in_id_order [] = refl
-length-in_id_order (x ∷ xs) =
-    let more = length-including x (in_id_order xs) in
-    let rest = length-in_id_order xs in
-    omega (arith, more, rest)
-
-cell_from-in_id_order : (e : Name) (own : List ℕ) (xs : List Request) → are_distinct (map id_of xs) ≡ true → cell_from e own (in_id_order xs) ≡ cell_from e own xs
-cell_from-in_id_order e own [] once = refl
-cell_from-in_id_order e own (x ∷ xs) once =
-    cell_from-including e x own (in_id_order xs) (first_absent x xs once) ∙ ap (cell_with e x) (cell_from-in_id_order e own xs (rest_once x xs once)) ∙ sym (cell_from-cons e x own xs)
-
--- ---- the table of some requests
-
--- the inserts among them
-abbrev pub inserts_in : List Request → List Request
-inserts_in requests = filter (λ q. is_insert q.edit) requests
+-- ---- of a set of requests
 
 pub filter_absent : (test : Request → Bool) (xs : List Request) (n : Name) → request_of xs n ≡ None → request_of (filter test xs) n ≡ None
 filter_absent test [] n h = refl
@@ -151,56 +103,35 @@ filter_once test (x ∷ xs) once = by (test x) (filter_once test xs (rest_once x
     by true rest = once-cons x (filter test xs) rest (filter_absent test xs x.id (first_new x xs once))
     by false rest = rest
 
-own_piece-inserts : (xs : List Request) (e : Name) → own_piece (inserts_in xs) e ≡ own_piece xs e
-own_piece-inserts [] e = refl
-own_piece-inserts (x ∷ xs) e = by (is_insert x.edit) refl (name_eq x.id e) (own_piece-inserts xs e)
+-- the piece is that of the insert of the name
+pub own_piece-found : (xs : List Request) (e : Name) → are_distinct (map id_of xs) ≡ true → own_piece xs e ≡ option_and_then own_of (request_of xs e)
+own_piece-found [] e once = refl
+own_piece-found (x ∷ xs) e once = by (name_eq x.id e) refl (own_piece-found xs e (rest_once x xs once))
   where
-    by : (inserted : Bool) → is_insert x.edit ≡ inserted → (same : Bool) → own_piece (inserts_in xs) e ≡ own_piece xs e
-        → own_piece (if inserted then x ∷ inserts_in xs else inserts_in xs) e ≡ option_or (given (name_eq x.id e && inserted) (piece_in x.edit)) (own_piece xs e)
-    by true is same rest = ap (option_or (given (is_insert_of e x) (piece_in x.edit))) rest ∙ ap (λ (b : Bool). option_or (given (name_eq x.id e && b) (piece_in x.edit)) (own_piece xs e)) is
-    by false is same rest = rest ∙ ap (λ (b : Bool). option_or (given b (piece_in x.edit)) (own_piece xs e)) (sym (never (name_eq x.id e)))
-      where
-        never : (b : Bool) → (b && false) ≡ false
-        never true = refl
-        never false = refl
-
-own_piece-in_id_order : (xs : List Request) (e : Name) → are_distinct (map id_of xs) ≡ true → own_piece (in_id_order xs) e ≡ own_piece xs e
-own_piece-in_id_order [] e once = refl
-own_piece-in_id_order (x ∷ xs) e once =
-    own_piece-including x (in_id_order xs) e (first_absent x xs once)
-    ∙ ap (λ (o : Option (List ℕ)). option_or o (own_piece (x ∷ []) e)) (own_piece-in_id_order xs e (rest_once x xs once))
-    ∙ turned (name_eq x.id e) refl
-  where
-    turned : (same : Bool) → name_eq x.id e ≡ same → option_or (own_piece xs e) (own_piece (x ∷ []) e) ≡ own_piece (x ∷ xs) e
-    turned true is =
+    by : (same : Bool) → name_eq x.id e ≡ same → own_piece xs e ≡ option_and_then own_of (request_of xs e)
+        → option_or (given (same && is_insert x.edit) (piece_in x.edit)) (own_piece xs e) ≡ option_and_then own_of (if same then Some x else request_of xs e)
+    by true is rest =
         let absent : own_piece xs e ≡ None = subst (λ (n : Name). own_piece xs n ≡ None) (same_name x.id e is) (own_piece-absent xs x.id (first_new x xs once)) in
-        ap (λ (o : Option (List ℕ)). option_or o (own_piece (x ∷ []) e)) absent ∙ ap (option_or (given (is_insert_of e x) (piece_in x.edit))) (sym absent)
-    turned false is =
-        let none : own_piece (x ∷ []) e ≡ None = rw is refl in
-        ap (option_or (own_piece xs e)) none ∙ option_or-None (own_piece xs e) ∙ ap (λ (b : Bool). option_or (given (b && is_insert x.edit) (piece_in x.edit)) (own_piece xs e)) (sym is)
+        ap (option_or (own_of x)) absent ∙ option_or-None (own_of x)
+    by false is rest = rest
 
--- each cell of the table is that of the requests
-pub table_cell : (requests counted : List Request) (e : Name) → are_distinct (map id_of requests) ≡ true → are_distinct (map id_of counted) ≡ true
-    → cell_named (table_of requests counted) e ≡ cell_of requests counted e
-table_cell requests counted e once counted_once =
-    ap (option_map (λ own. cell_from e own (in_id_order counted))) (own_piece-in_id_order (inserts_in requests) e (filter_once _ requests once) ∙ own_piece-inserts requests e)
-    ∙ each (own_piece requests e)
+-- a delete or an update is none of the inserts
+pub own_piece-other : (xs : List Request) (q : Request) (e : Name) → is_insert q.edit ≡ false → own_piece (xs ++ q ∷ []) e ≡ own_piece xs e
+own_piece-other [] q e is = by (name_eq q.id e)
   where
-    each : (o : Option (List ℕ)) → option_map (λ own. cell_from e own (in_id_order counted)) o ≡ option_map (λ own. cell_from e own counted) o
+    by : (same : Bool) → option_or (given (same && is_insert q.edit) (piece_in q.edit)) None ≡ None
+    by true = ap (λ (b : Bool). option_or (given b (piece_in q.edit)) None) is
+    by false = refl
+own_piece-other (x ∷ xs) q e is = ap (option_or (given (is_insert_of e x) (piece_in x.edit))) (own_piece-other xs q e is)
+
+-- the same requests, of which the same count, make the same cells
+pub cell_of-sets : (xs ys counted also : List Request) (e : Name) → are_distinct (map id_of xs) ≡ true → are_distinct (map id_of ys) ≡ true → ((n : Name) → request_of xs n ≡ request_of ys n)
+    → are_distinct (map id_of counted) ≡ true → are_distinct (map id_of also) ≡ true → ((n : Name) → request_of counted n ≡ request_of also n)
+    → cell_of xs counted e ≡ cell_of ys also e
+cell_of-sets xs ys counted also e once_x once_y alike once_c once_a counted_alike =
+    ap (option_map (λ own. cell_from e own counted)) (own_piece-found xs e once_x ∙ ap (option_and_then own_of) (alike e) ∙ sym (own_piece-found ys e once_y))
+    ∙ each (own_piece ys e)
+  where
+    each : (o : Option (List ℕ)) → option_map (λ own. cell_from e own counted) o ≡ option_map (λ own. cell_from e own also) o
     each None = refl
-    each (Some own) = ap (λ c. Some c) (cell_from-in_id_order e own counted counted_once)
-
--- ---- the table with one more request
-
--- an insert is one more of the inserts
-pub inserts-insert : (xs : List Request) (q : Request) → is_insert q.edit ≡ true → request_of xs q.id ≡ None → in_id_order (inserts_in (xs ++ q ∷ [])) ≡ including q (in_id_order (inserts_in xs))
-inserts-insert xs q is new =
-    ap in_id_order (filter-append (λ (r : Request). is_insert r.edit) xs (q ∷ []) ∙ ap (λ (b : Bool). inserts_in xs ++ (if b then q ∷ [] else [])) is)
-    ∙ in_id_order-snoc (inserts_in xs) q (filter_absent _ xs q.id new)
-
--- another request changes nothing of them
-pub inserts-other : (xs : List Request) (q : Request) → is_insert q.edit ≡ false → inserts_in (xs ++ q ∷ []) ≡ inserts_in xs
-inserts-other xs q is = filter-append (λ (r : Request). is_insert r.edit) xs (q ∷ []) ∙ ap (λ (b : Bool). inserts_in xs ++ (if b then q ∷ [] else [])) is ∙ append-nil (inserts_in xs)
-
-pub absent_in_table : (requests : List Request) (n : Name) → are_distinct (map id_of requests) ≡ true → request_of requests n ≡ None → request_of (in_id_order (inserts_in requests)) n ≡ None
-absent_in_table requests n once none = found_in_id_order (inserts_in requests) n (filter_once _ requests once) ∙ filter_absent _ requests n none
+    each (Some own) = ap (λ c. Some c) (cell_of_set e own counted also once_c once_a counted_alike)

@@ -39,7 +39,7 @@ fn is_shown(peer: &Peer, element: Name, piece: Piece) -> bool
     ensures { IsTrue result ↔ (option_and_then shown (cell_at peer.now element) ≡ Some piece) }
 {
     match peer.cell(element) {
-        Some(cell) => shown(cell) == Some(piece),
+        Some(cell) => shown(&cell) == Some(piece),
         None => false,
     }
 }

@@ -12,7 +12,7 @@ use std::alloc::Global;
 fn piece_at(peer: &Peer, place: u32) -> Option<Piece> {
     let name = peer.shown_at(place)?;
     let cell = peer.cell(name)?;
-    shown(cell)
+    shown(&cell)
 }
 
 /// The text that a peer shows. It takes time in the text's length, and memory for it.

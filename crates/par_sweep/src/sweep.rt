@@ -10,7 +10,6 @@ ghost use Rattle.par_sweep.specs.Judged.{judgement_on};
 
 use crate::judging::{Judgement, judge_each, share_len};
 use crate::setting::carry_out;
-use elem_show::ElemTable;
 use element_name::Places;
 use policy_book::{Policy, Reach};
 use request_state::{StateTable, Undone};
@@ -55,19 +54,18 @@ pub fn par_sweep<P: Places + Sync, R: Threads + Sync>(
     policy: &Policy,
     version: u32,
     states: &mut StateTable,
-    table: &mut ElemTable,
     places: &P,
 ) -> Undone
-    requires tables { MaySweep (P.names places.now) states.old table.old }
+    requires tables { MaySweep (P.names places.now) states.old }
     requires outside { are_reached reach (P.names places.now) policy.now states.old ≡ true }
-    ensures { IsSwept every_request (P.names places.now) policy.now version states.old table.old states.new table.new result.count }
+    ensures { IsSwept every_request (P.names places.now) policy.now version states.old states.new result.count }
 {
     let Some(judged) = judge_reach(rt, alloc, &reach, policy, states, places) else {
-        return sweep_reach(reach, policy, version, states, table, places);
+        return sweep_reach(reach, policy, version, states, places);
     };
     let mut count = 0;
     for judgement in judged.as_slice() {
-        count += u32::from(carry_out(judgement, version, states, table));
+        count += u32::from(carry_out(judgement, version, states));
     }
     Undone { count }
 }

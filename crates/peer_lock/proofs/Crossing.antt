@@ -16,7 +16,6 @@ use Rattle.edit_message.specs.contracts.packed_message.PackedMessage as PackedMe
 use Rattle.peer_step.specs.contracts.packed_step.PackedStep as PackedStep
 use Rattle.admin_log.specs.contracts.log.AdminLog as AdminLog
 use Rattle.request_state.specs.contracts.table.StateTable as StateTable
-use Rattle.elem_show.specs.contracts.table.ElemTable as ElemTable
 use Rattle.tomb_seq.specs.contracts.seq.TombSeq as TombSeq
 use Rattle.hold_back.specs.contracts.hold.HoldBack as HoldBack
 use Rattle.peer_step.specs.contracts.step.LocalEdit as LocalEdit
@@ -79,9 +78,6 @@ AdminLog-send = search (Entry-send, Policy-send, plain) depth 100 fits 100000
 StateTable-send : IsSend StateTable.the_row
 StateTable-send = search plain depth 100 fits 100000
 
-ElemTable-send : IsSend ElemTable.the_row
-ElemTable-send = search (ghost_list.the_send, plain) depth 100 fits 100000
-
 TombSeq-send : IsSend TombSeq.the_row
 TombSeq-send = search plain depth 100 fits 100000
 
@@ -89,7 +85,7 @@ HoldBack-send : IsSend HoldBack.the_row
 HoldBack-send = search (PackedMessage-send, Entry-send, plain) depth 100 fits 100000
 
 Journal-send : IsSend Journal.the_row
-Journal-send = search (AdminLog-send, StateTable-send, ElemTable-send, TombSeq-send, ghost_list.the_send, plain) depth 100 fits 100000
+Journal-send = search (AdminLog-send, StateTable-send, TombSeq-send, ghost_list.the_send, plain) depth 100 fits 100000
 
 Peer-send : IsSend Peer.the_row
 Peer-send = search (Journal-send, HoldBack-send, plain) depth 100 fits 100000

@@ -1,6 +1,5 @@
 //! The sweep on several threads, as a peer may be given it.
 
-use elem_show::ElemTable;
 use par_sweep::par_sweep;
 use peer_core::Sweep;
 use policy_book::{Policy, Reach};
@@ -43,9 +42,8 @@ impl<R: Threads + Sync> Sweep for ManyThreads<R> {
         policy: &Policy,
         version: u32,
         states: &mut StateTable,
-        cells: &mut ElemTable,
         seq: &TombSeq,
     ) -> Undone {
-        par_sweep(self, self.alloc, reach, policy, version, states, cells, seq)
+        par_sweep(self, self.alloc, reach, policy, version, states, seq)
     }
 }

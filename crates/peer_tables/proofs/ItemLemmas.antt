@@ -25,7 +25,6 @@ use Rattle.edit_message.specs.Message.{key_of, key_eq, find_key, requests_of, en
 use Rattle.admin_log.specs.Log.{FollowsLog, IsLog, entry_at}
 use Rattle.request_state.specs.declared.kept.Kept.{Kept}
 use Rattle.request_state.specs.Table.{kept_request}
-use Rattle.elem_show.specs.Table.{Table}
 use Rattle.tomb_seq.specs.declared.slot.Slot.{Slot}
 use Rattle.peer_tables.specs.PackedKey.{is_packable}
 use Rattle.peer_tables.specs.Items.{message_by, packed_eq, AreKeysOf}
@@ -195,8 +194,8 @@ found_again J i key each is = by (slice_get J i) refl is
 
 -- ---- by the states and the log
 
-module _ (J : List Message) (log : List Entry) (slots : List Slot) (cells : Table) (table : List Kept) (stamp count : ℕ)
-    (kept : IsKeptOf J log slots cells table stamp count) where
+module _ (J : List Message) (log : List Entry) (slots : List Slot) (table : List Kept) (stamp count : ℕ)
+    (kept : IsKeptOf J log slots table stamp count) where
   read_request : (n : Name) → kept_request table n ≡ request_of (requests_of J) n
   read_request n = ap (option_map (λ (k : Kept). k.request)) (kept.kept.states n) ∙ by (request_of (requests_of J) n)
     where

@@ -8,8 +8,7 @@ use Rattle.coop_request.specs.History.{request_of, FollowsHistory}
 use Rattle.element_name.specs.Growing.{EachFrom}
 use Rattle.elem_show.specs.Cell.{cell_from}
 use Rattle.elem_show.specs.Counting.{cell_with}
-use Rattle.elem_show.proofs.Cells.{cell_from-cons}
-use Rattle.elem_show.proofs.Tables.{with_elsewhere}
+use Rattle.elem_show.proofs.Cells.{cell_from-cons, with_elsewhere}
 use Rattle.request_state.specs.declared.kept.Kept.{Kept}
 use Rattle.request_state.specs.Table.{kept_of}
 use Rattle.retro_undo.proofs.Found.{never_start}

@@ -1,27 +1,25 @@
 -- Journals with the same requests and the same log look alike.
-use Rattle.std.proofs.Common.{◌≡◌, ℕ, inl, inr, Bool, true, false, not, List, [], ◌∷◌, ◌++◌, None, Some, ◌&&◌, refl, ap, sym, subst, ◌∙◌, append_assoc, IsPermutation}
-use Rattle.std.specs.Prelude.{map, filter, filter_map, option_map, option_and_then, if◌then◌else◌}
+use Rattle.std.proofs.Common.{◌≡◌, ℕ, inl, inr, Bool, true, false, not, List, [], ◌∷◌, ◌++◌, None, Some, refl, ap, sym, subst, ◌∙◌, append_assoc, IsPermutation}
+use Rattle.std.specs.Prelude.{map, filter, filter_map, option_and_then, if◌then◌else◌}
 use Rattle.std.specs.declared.option.Option.{Option}
 use Rattle.std.proofs.lemmas.List.Elements.{filter_map-append}
 use Rattle.std.proofs.lemmas.List.Sorted.{IsPermutation-refl, IsPermutation-sym, IsPermutation-trans, IsPermutation-append_right, IsPermutation-append_left, IsPermutation-append_comm}
-use Rattle.std.specs.Option.{option_or}
-use Rattle.element_name.proofs.CaseLemmas.{option_or-None}
-use Rattle.element_name.specs.Cases.{when, given}
+use Rattle.element_name.specs.Cases.{when}
 use Rattle.element_name.specs.Name.{Name, name_eq, are_distinct}
 use Rattle.element_name.specs.Tree.{Placed}
 use Rattle.element_name.proofs.NameOrder.{name_eq-refl, same_name}
 use Rattle.element_name.proofs.NamedLemmas.{without_named-absent}
-use Rattle.coop_request.specs.Edit.{piece_in, is_insert, placed_by}
+use Rattle.coop_request.specs.Edit.{placed_by}
 use Rattle.coop_request.specs.Request.{Request}
 use Rattle.coop_request.specs.History.{placed_of, text_order, request_of, IsHistory}
 use Rattle.coop_request.proofs.Histories.{IsTree-placed_of}
 use Rattle.policy_book.specs.Entry.{Entry}
 use Rattle.edit_message.specs.Message.{requests_of, entries_of}
-use Rattle.elem_show.specs.Cell.{cell_from, own_piece, shown}
-use Rattle.elem_show.specs.Table.{cell_named, except, table_of}
+use Rattle.elem_show.specs.Cell.{shown}
+use Rattle.elem_show.specs.Counting.{except}
 use Rattle.elem_show.specs.Text.{shown_of}
-use Rattle.elem_show.proofs.Cells.{first_new, rest_once, once-except, found_id, cell_of_set, alike_rest, first_alike, none_alike}
-use Rattle.elem_show.proofs.Orders.{filter_absent, filter_once, table_cell}
+use Rattle.elem_show.proofs.Cells.{first_new, rest_once, once-except, found_id, alike_rest, first_alike, none_alike}
+use Rattle.elem_show.proofs.Orders.{filter_absent, filter_once, cell_of-sets}
 use Rattle.check_remote.specs.State.{is_granted, state_of}
 use Rattle.tomb_seq.proofs.Has.{Has, Has-from_Contains, Contains-from_Has}
 use Rattle.tomb_seq.proofs.Theorems.{same_law}
@@ -118,23 +116,6 @@ placed_alike (x ∷ xs) ys once_x once_y alike =
     (IsPermutation-append_right own (placed_of xs) (placed_of (except ys x.id)) rest)
     (IsPermutation-sym (placed_of ys) (own ++ placed_of (except ys x.id)) out))
 
--- ---- an element's own piece
-
--- the piece that a request brings, if it is an insert
-abbrev pub piece_made : Request → Option (List ℕ)
-piece_made q = given (is_insert q.edit) (piece_in q.edit)
-
-pub own_by : (xs : List Request) (e : Name) → IsOnce xs → own_piece xs e ≡ option_and_then piece_made (request_of xs e)
-own_by [] e once = refl
-own_by (r ∷ xs) e once = by (name_eq r.id e) refl (own_by xs e (rest_once r xs once))
-  where
-    by : (b : Bool) → name_eq r.id e ≡ b → own_piece xs e ≡ option_and_then piece_made (request_of xs e)
-        → option_or (given (b && is_insert r.edit) (piece_in r.edit)) (own_piece xs e) ≡ option_and_then piece_made (if b then Some r else request_of xs e)
-    by false h rest = rest
-    by true h rest =
-        let none : request_of xs e ≡ None = subst (λ (m : Name). request_of xs m ≡ None) (same_name r.id e h) (first_new r xs once) in
-        ap (λ (o : Option (List ℕ)). option_or (piece_made r) o) (rest ∙ ap (option_and_then piece_made) none) ∙ option_or-None (piece_made r)
-
 -- ---- the requests that count
 
 pub filter_found : (test : Request → Bool) (xs : List Request) (n : Name) → IsOnce xs
@@ -151,12 +132,6 @@ filter_found test (r ∷ xs) n once = by (name_eq r.id n) refl (test r) refl (fi
         rw s (filter_absent test xs n none)
     by false e true s rest = rw e rest
     by false e false s rest = rest
-
--- each cell of the table is that of the journal
-pub read_cells : (R : List Request) (L : List Entry) → IsHistory R → (e : Name) → cell_named (table_of R (counted_in R L)) e ≡ cell_in R L e
-read_cells R L history e =
-    let once = once_law R history in
-    table_cell R (counted_in R L) e once (filter_once (is_granted (text_order R) L) R once)
 
 pub filter_alike : (test : Request → Bool) (xs ys : List Request) → IsOnce xs → IsOnce ys → AreAlike xs ys → AreAlike (filter test xs) (filter test ys)
 filter_alike test xs ys once_x once_y alike n =
@@ -184,14 +159,8 @@ module _ (R S : List Request) (L : List Entry) (first : IsHistory R) (second : I
 
   pub same_cells : (e : Name) → cell_in R L e ≡ cell_in S L e
   same_cells e =
-      ap (λ (o : Option (List ℕ)). option_map (λ own. cell_from e own (counted_in R L)) o)
-      (own_by R e once_R ∙ ap (option_and_then piece_made) (alike e) ∙ sym (own_by S e once_S))
-      ∙ same (own_piece S e)
-    where
-      same : (o : Option (List ℕ)) → option_map (λ own. cell_from e own (counted_in R L)) o ≡ option_map (λ own. cell_from e own (counted_in S L)) o
-      same None = refl
-      same (Some own) = ap Some (cell_of_set e own (counted_in R L) (counted_in S L)
-          (filter_once (is_granted (text_order R) L) R once_R) (filter_once (is_granted (text_order S) L) S once_S) counted_alike)
+      cell_of-sets R S (counted_in R L) (counted_in S L) e once_R once_S alike
+      (filter_once (is_granted (text_order R) L) R once_R) (filter_once (is_granted (text_order S) L) S once_S) counted_alike
 
   pub same_texts : text_in R L ≡ text_in S L
   same_texts =

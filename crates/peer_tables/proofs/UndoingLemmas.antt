@@ -10,7 +10,6 @@ use Rattle.coop_request.specs.History.{text_order}
 use Rattle.coop_request.specs.Request.{Request, element_of, user_of}
 use Rattle.edit_message.specs.Message.{entries_of, requests_of}
 use Rattle.edit_message.specs.declared.message.Message.{Message}
-use Rattle.elem_show.specs.Table.{Table}
 use Rattle.element_name.proofs.EachAfterLemmas.{EachAfter-push}
 use Rattle.element_name.proofs.NameOrder.{name_eq-refl, same_name}
 use Rattle.element_name.specs.Name.{Name, has_name, name_eq, name_lt, start}
@@ -45,7 +44,7 @@ use Rattle.tomb_seq.specs.declared.slot.Slot.{Slot}
 
 -- ---- the elements of Tentative requests
 
-module _ (R : List Request) (L : List Entry) (slots : List Slot) (cells : Table) (table : List Kept) (stamp : ℕ) (kept : AreTablesOf R L slots cells table stamp) where
+module _ (R : List Request) (L : List Entry) (slots : List Slot) (table : List Kept) (stamp : ℕ) (kept : AreTablesOf R L slots table stamp) where
   kept_tentative : (k : Kept) → Has table k → is_tentative k.state ≡ true → has_tentative R L (element_of k.request) ≡ true
   kept_tentative k there waits =
       let by = stands (state_in R L) R table k kept.in_order kept.states there in
@@ -133,11 +132,11 @@ module _ (R : List Request) (L : List Entry) (e : Entry) (known : AreKnown R L) 
 
 -- ---- a journal
 
-module _ (J : List Message) (log : List Entry) (slots : List Slot) (cells : Table) (table : List Kept) (stamp count : ℕ) (k : IsKeptOf J log slots cells table stamp count) where
+module _ (J : List Message) (log : List Entry) (slots : List Slot) (table : List Kept) (stamp count : ℕ) (k : IsKeptOf J log slots table stamp count) where
   pub journal_tentative : (reach : Reach) (elements : List Name) → elements ≡ taken_within element_of reach table → AreOfTentative (requests_of J) (entries_of J) elements
   journal_tentative reach elements is e h =
       ap (λ (L : List Entry). has_tentative (requests_of J) L e) (sym k.entries)
-      ∙ reached_tentative (requests_of J) log slots cells table stamp k.kept reach e (ap (λ (names : List Name). has_name names e) (sym is) ∙ h)
+      ∙ reached_tentative (requests_of J) log slots table stamp k.kept reach e (ap (λ (names : List Name). has_name names e) (sym is) ∙ h)
 
   pub journal_undone : (op : Option AdminOp) (reach : Reach) (elements : List Name) → reach ≡ next_reach (entries_of J) op
       → elements ≡ taken_within element_of reach table → (e : Entry) → FollowsLog (entries_of J) e → op ≡ Some e.op
@@ -155,4 +154,4 @@ module _ (J : List Message) (log : List Entry) (slots : List Slot) (cells : Tabl
       let has : Has R q = Has-from_Contains R q there in
       let waits = (and_parts (is_tentative (state_in R log q)) (is_invalid (state_in R (log ++ e ∷ []) q)) undone).0 in
       ap (λ (names : List Name). has_name names (element_of q)) (is ∙ ap (λ (r : Reach). taken_within element_of r table) reach_is)
-      ∙ covered R log slots cells table stamp e k.kept known here q has waits (undone_reached R log e known here q has undone))
+      ∙ covered R log slots table stamp e k.kept known here q has waits (undone_reached R log e known here q has undone))

@@ -1,12 +1,11 @@
 -- What is kept of a journal beside its items.
-use Rattle.std.specs.Prelude.{◌≡◌, ℕ, ◌≤◌, ◌<◌, Bool, true, false, Some, List, [], ◌∷◌, ◌++◌, Option, length, option_map, is_some, is_none, Contains, ◌^◌, ◌-◌, IsTrue, if◌then◌else◌, None}
+use Rattle.std.specs.Prelude.{◌≡◌, ℕ, ◌≤◌, ◌<◌, Bool, true, false, Some, List, [], ◌∷◌, ◌++◌, Option, length, option_map, is_some, Contains, ◌^◌, ◌-◌, IsTrue, if◌then◌else◌, None}
 use Rattle.std.specs.List.{list_all}
 use Rattle.element_name.specs.Name.{Name, has_name}
 use Rattle.element_name.specs.Tree.{with_fresh}
 use Rattle.coop_request.specs.declared.edit.Edit.{Edit}
 use Rattle.coop_request.specs.declared.edit.Edit.TheVariants.{Insert, Delete, Update}
 use Rattle.coop_request.specs.declared.request.TheConstants.{MAX_REQUESTS}
-use Rattle.coop_request.specs.Edit.{is_insert}
 use Rattle.coop_request.specs.Request.{Request}
 use Rattle.coop_request.specs.History.{text_order, elements_of, request_of, IsHistory}
 use Rattle.policy_book.specs.Entry.{Entry}
@@ -23,8 +22,7 @@ use Rattle.check_remote.specs.State.{state_of}
 use Rattle.check_remote.specs.Laws.{have_span_ends}
 use Rattle.std.specs.Option.{option_map_or}
 use Rattle.request_state.specs.declared.state.State.TheVariants.{Valid}
-use Rattle.request_state.specs.Table.{kept_of, is_in_order, with_state, kept_state as table_state}
-use Rattle.elem_show.specs.Table.{Table, cell_named, including, table_of}
+use Rattle.request_state.specs.Table.{kept_of, is_in_order, with_state, has_element, kept_state as table_state}
 use Rattle.elem_show.specs.Text.{shown_of}
 use Rattle.tomb_seq.specs.declared.slot.Slot.{Slot}
 use Rattle.tomb_seq.specs.Insert.{insert_fault}
@@ -58,36 +56,15 @@ IsPlaceable names id (Insert after letter) = insert_fault names id after ≡ Non
 IsPlaceable names id (Delete target) = has_name names target ≡ true
 IsPlaceable names id (Update target letter) = has_name names target ≡ true
 
--- the new element isn't there yet, another edit's target has a cell
-abbrev pub is_addable : Table → Name → Edit → Bool
-is_addable cells id (Insert after letter) = is_none (request_of cells.inserts id)
-is_addable cells id (Delete target) = is_some (cell_named cells target)
-is_addable cells id (Update target letter) = is_some (cell_named cells target)
-
 -- the counted requests, with one more unless its state is Invalid
 abbrev pub counted_more : List Request → Request → State → List Request
 counted_more counted q state = if is_invalid state then counted else counted ++ q ∷ []
 
--- the table with the element that an insert makes
-abbrev pub with_element : Table → Request → Table
-with_element cells q = if is_insert q.edit then record cells { inserts = including q cells.inserts } else cells
-
--- the table with the request among those that count
-abbrev pub with_one_counted : Table → Request → Table
-with_one_counted cells q = record cells { counted = including q cells.counted }
-
--- the same, unless its state is Invalid
-abbrev pub counted_by : Table → Request → State → Table
-counted_by cells q state = if is_invalid state then cells else with_one_counted cells q
-
--- both
-abbrev pub cells_joined : Table → Request → State → Table
-cells_joined cells q state = counted_by (with_element cells q) q state
-
--- none that is counted has the name of q, and few are counted
-pub record IsJoinable (cells : Table) (q : Request) : Type 0 where
-  pub new : request_of cells.counted q.id ≡ None
-  pub few : length cells.counted < 2 ^ 32 - 1
+-- none has the name of q, its element is there, and few requests are
+pub record IsJoinable (table : List Kept) (q : Request) : Type 0 where
+  pub new : kept_of table q.id ≡ None
+  pub element : has_element table q ≡ true
+  pub few : length table < 2 ^ 32 - 1
 
 -- a state that is given is that of the request
 abbrev pub IsGivenState : Option State → List Name → List Entry → Request → Type 0
@@ -108,10 +85,9 @@ shows_in R L e = is_some (shown_of R (counted_in R L) e)
 abbrev pub kept_in : List Request → List Entry → Request → Kept
 kept_in R L q = record { request = q; state = state_in R L q }
 
--- what is kept of requests R and a log L: the elements in text order with their marks, the cells, the states, the greatest stamp
-pub record AreTablesOf (R : List Request) (L : List Entry) (slots : List Slot) (cells : Table) (table : List Kept) (stamp : ℕ) : Type 0 where
+-- what is kept of requests R and a log L: the elements in text order with their marks, the states, the greatest stamp
+pub record AreTablesOf (R : List Request) (L : List Entry) (slots : List Slot) (table : List Kept) (stamp : ℕ) : Type 0 where
   pub marked : slots ≡ slots_by (shows_in R L) (text_order R)
-  pub shown : cells ≡ table_of R (counted_in R L)
   pub states : (n : Name) → kept_of table n ≡ option_map (kept_in R L) (request_of R n)
   pub in_order : is_in_order table ≡ true
   pub size : length table ≡ length R
@@ -125,10 +101,10 @@ pub record AreKnown (R : List Request) (L : List Entry) : Type 0 where
   pub versions : (q : Request) → Contains R q → q.version ≤ length L
 
 -- what is kept is that of some requests, of which few are, and the entry may follow the log
-pub record IsAdvancing (log : List Entry) (slots : List Slot) (cells : Table) (table : List Kept) (e : Entry) : Type 0 where
+pub record IsAdvancing (log : List Entry) (slots : List Slot) (table : List Kept) (e : Entry) : Type 0 where
   pub requests : List Request
   pub stamp : ℕ
-  pub kept : AreTablesOf requests log slots cells table stamp
+  pub kept : AreTablesOf requests log slots table stamp
   pub known : AreKnown requests log
   pub few : length requests ≤ MAX_REQUESTS
   pub follows : FollowsLog log e
@@ -139,10 +115,10 @@ states_confirmed None version table = table
 states_confirmed (Some n) version table = if is_tentative_in table n then with_state table n (Valid version) else table
 
 -- what is kept of a journal within its limits
-pub record IsKeptOf (J : List Message) (log : List Entry) (slots : List Slot) (cells : Table) (table : List Kept) (stamp count : ℕ) : Type 0 where
+pub record IsKeptOf (J : List Message) (log : List Entry) (slots : List Slot) (table : List Kept) (stamp count : ℕ) : Type 0 where
   pub journal : IsJournal J
   pub formed : IsTrue (list_all is_message J)
   pub few : length (requests_of J) ≤ MAX_REQUESTS
   pub counted : count ≡ length (requests_of J)
   pub entries : log ≡ entries_of J
-  pub kept : AreTablesOf (requests_of J) log slots cells table stamp
+  pub kept : AreTablesOf (requests_of J) log slots table stamp

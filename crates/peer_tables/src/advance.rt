@@ -6,13 +6,12 @@ ghost use Rattle.policy_book.specs.Entry.{is_entry};
 ghost use Rattle.admin_log.specs.Log.{push_fault};
 ghost use Rattle.peer_tables.specs.Awaiting.{validated_by};
 ghost use Rattle.peer_tables.specs.Kept.{AreTablesOf, AreKnown, IsAdvancing, states_confirmed};
-ghost use Rattle.elem_show.specs.Table.{shows_by};
+ghost use Rattle.request_state.specs.Table.{kept_shows};
 ghost use Rattle.peer_tables.specs.Derived.{undone_between};
 
 use crate::join::ByCells;
 use crate::sweep::Sweep;
 use admin_log::{AdminLog, LogFault};
-use elem_show::ElemTable;
 use element_name::{Name, NoMemory};
 use policy_book::{AdminOp, Entry};
 use request_state::{State, StateTable, Undone};
@@ -55,12 +54,12 @@ fn push(log: &mut AdminLog, entry: Entry) -> Result<(), NoMemory>
 }
 
 // Where anything was undone, these elements are marked by whether their cells show.
-fn mark_undone(seq: &mut TombSeq, cells: &ElemTable, elements: &[Name], count: u32)
-    ensures marked { 0 < count → seq.new ≡ map (marked_among elements.now (shows_by cells.now)) seq.old }
+fn mark_undone(seq: &mut TombSeq, states: &StateTable, elements: &[Name], count: u32)
+    ensures marked { 0 < count → seq.new ≡ map (marked_among elements.now (kept_shows states.now)) seq.old }
     ensures unmarked { count ≤ 0 → seq.new ≡ seq.old }
 {
     if count > 0 {
-        seq.mark_these(elements, &ByCells(cells));
+        seq.mark_these(elements, &ByCells(states));
     }
 }
 
@@ -70,21 +69,19 @@ pub(crate) fn advance<W: Sweep>(
     alloc: Global,
     log: &mut AdminLog,
     seq: &mut TombSeq,
-    cells: &mut ElemTable,
     states: &mut StateTable,
     entry: Entry,
     sweep: &W,
 ) -> Result<Undone, NoMemory>
-    requires { IsAdvancing log.old seq.old cells.old states.old entry }
+    requires { IsAdvancing log.old seq.old states.old entry }
     ensures formed { OnOk result (IsTrue (is_entry entry)) }
     ensures log { OnOk result (log.new ≡ log.old ++ entry ∷ []) }
-    ensures kept { OnOk result ((R : List Request) (stamp : ℕ) → AreTablesOf R log.old seq.old cells.old states.old stamp → AreKnown R log.old
-        → AreTablesOf R log.new seq.new cells.new states.new stamp) }
-    ensures undone { IfOk result (λ undone. (R : List Request) (stamp : ℕ) → AreTablesOf R log.old seq.old cells.old states.old stamp → AreKnown R log.old
+    ensures kept { OnOk result ((R : List Request) (stamp : ℕ) → AreTablesOf R log.old seq.old states.old stamp → AreKnown R log.old
+        → AreTablesOf R log.new seq.new states.new stamp) }
+    ensures undone { IfOk result (λ undone. (R : List Request) (stamp : ℕ) → AreTablesOf R log.old seq.old states.old stamp → AreKnown R log.old
         → undone.count ≡ undone_between R log.old log.new) }
     ensures same_log { OnErr result (log.new ≡ log.old) }
     ensures same_seq { OnErr result (seq.new ≡ seq.old) }
-    ensures same_cells { OnErr result (cells.new ≡ cells.old) }
     ensures same_states { OnErr result (states.new ≡ states.old) }
 {
     let version = entry.version();
@@ -93,7 +90,7 @@ pub(crate) fn advance<W: Sweep>(
     let elements = list_reach(alloc, Taken::Element, &reach, states)?;
     push(log, entry)?;
     confirm(states, validated, version);
-    let undone = sweep.sweep(reach, log.policy(), version, states, cells, seq);
-    mark_undone(seq, cells, &elements, undone.count);
+    let undone = sweep.sweep(reach, log.policy(), version, states, seq);
+    mark_undone(seq, states, &elements, undone.count);
     Ok(undone)
 }

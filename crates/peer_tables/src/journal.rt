@@ -33,7 +33,7 @@ use auth_match::{Verdict, covers};
 use check_local::{LocalVerdict, check_local};
 use coop_request::{LentRequest, MAX_REQUESTS};
 use edit_message::{Key, Message, Missing};
-use elem_show::{Cell, ElemTable};
+use elem_show::Cell;
 use element_name::{Name, NoMemory};
 use peer_step::Text;
 use policy_book::{AdminOp, Entry, EntryFault, Extent, Policy, Reach};
@@ -44,14 +44,13 @@ use std::marker::Model;
 use tomb_seq::TombSeq;
 
 /// Messages in order of integration, and what is kept of them: the log, the elements in text order with the
-/// marks of those that show, the cells, the states, and the greatest stamp.
+/// marks of those that show, the states with what is counted of each element, and the greatest stamp.
 #[derive(Drop)]
 pub struct Journal {
     alloc: Global,
     items: Items,
     log: AdminLog,
     seq: TombSeq,
-    cells: ElemTable,
     states: StateTable,
     stamp: u64,
     requests: u32,
@@ -66,7 +65,7 @@ impl Model for Journal {
 
     ghost view = { λ j. j.items };
 
-    ghost invariant = { λ j. IsKeptOf j.items j.log j.seq j.cells j.states j.stamp j.requests };
+    ghost invariant = { λ j. IsKeptOf j.items j.log j.seq j.states j.stamp j.requests };
 }
 
 impl Journal {
@@ -79,7 +78,6 @@ impl Journal {
             items: Items::new(alloc),
             log: AdminLog::new(alloc)?,
             seq: TombSeq::new(alloc),
-            cells: ElemTable::new(alloc),
             states: StateTable::new(alloc),
             stamp: 0,
             requests: 0,
@@ -201,12 +199,12 @@ impl Journal {
         self.states.state(id)
     }
 
-    /// The cell of an element.
+    /// The cell of an element, lent.
     #[tactic(auto, using(crate::proofs::KeptLemmas::Reads::read_cell))]
-    pub fn cell(&self, element: Name) -> Option<&Cell>
-        ensures { option_copied result ≡ cell_in (requests_of self.now) (entries_of self.now) element }
+    pub fn cell(&self, element: Name) -> Option<Cell<'_>>
+        ensures { result ≡ cell_in (requests_of self.now) (entries_of self.now) element }
     {
-        self.cells.cell(element)
+        self.states.cell(element)
     }
 
     /// How many elements show.
@@ -272,7 +270,7 @@ impl Journal {
     pub fn text(&self) -> Result<Text, NoMemory>
         ensures { IfOk result (λ text. text ≡ text_in (requests_of self.now) (entries_of self.now)) }
     {
-        text_of(self.alloc, &self.seq, &self.cells)
+        text_of(self.alloc, &self.seq, &self.states)
     }
 
     /// The elements of the Tentative requests that an entry with this operation may undo; none without an operation.
@@ -311,14 +309,7 @@ impl Journal {
         ensures unchanged { OnErr result (self.new ≡ self.old) }
     {
         self.items.push_request(request)?;
-        match join(
-            &self.log,
-            &mut self.seq,
-            &mut self.cells,
-            &mut self.states,
-            request,
-            given,
-        ) {
+        match join(&self.log, &mut self.seq, &mut self.states, request, given) {
             Ok(state) => {
                 self.stamp = self.stamp.max(request.id().stamp());
                 self.requests += 1;
@@ -343,7 +334,6 @@ impl Journal {
             self.alloc,
             &mut self.log,
             &mut self.seq,
-            &mut self.cells,
             &mut self.states,
             entry,
             sweep,

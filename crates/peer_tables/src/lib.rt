@@ -1,4 +1,4 @@
-//! A journal, and the tables that a peer keeps of it: the log, the elements in text order, the cells and the states. They are
+//! A journal, and the tables that a peer keeps of it: the log, the elements in text order, and the states with the cells. They are
 //! what the definitions make of the whole journal, whatever message joins it. Nothing here knows of steps or of what is
 //! held.
 //!

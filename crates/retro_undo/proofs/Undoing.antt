@@ -1,68 +1,21 @@
 -- One request that is undone.
-use Rattle.std.proofs.Common.{◌≡◌, ℕ, Bool, true, false, not, cond, List, [], ◌∷◌, map, None, Some, refl, sym, ap, subst, ◌∙◌}
-use Rattle.std.specs.Prelude.{filter}
+use Rattle.std.proofs.Common.{◌≡◌, ℕ, Bool, true, false, cond, List, [], ◌∷◌, None, Some, refl, sym, ap, subst, ◌∙◌}
 use Rattle.std.specs.declared.option.Option.{Option}
 use Rattle.std.specs.Option.{option_map}
 use Rattle.std.specs.List.{AllByRecursion}
 use Rattle.element_name.specs.Name.{Name, name_eq}
 use Rattle.element_name.proofs.NameOrder.{same_name}
 use Rattle.coop_request.specs.Request.{Request}
-use Rattle.coop_request.specs.History.{request_of}
 use Rattle.policy_book.specs.Policy.{Policy}
 use Rattle.auth_match.specs.declared.verdict.Verdict.{Verdict}
 use Rattle.auth_match.specs.Requests.{request_verdict}
 use Rattle.request_state.specs.declared.state.State.{State}
-use Rattle.request_state.specs.declared.state.State.TheVariants.{Tentative, Invalid}
+use Rattle.request_state.specs.declared.state.State.TheVariants.{Tentative}
 use Rattle.request_state.specs.declared.kept.Kept.{Kept}
-use Rattle.request_state.specs.State.{is_invalid}
 use Rattle.request_state.specs.Table.{kept_of, kept_request, kept_state, with_state, is_in_order}
-use Rattle.elem_show.specs.Table.{Table, except}
-use Rattle.retro_undo.specs.Undo.{state_after_verdict, kept_after, counted_of, with_counted, states_after_in}
+use Rattle.retro_undo.specs.Undo.{state_after_verdict, kept_after, states_after_in}
 use Rattle.retro_undo.specs.Part.{is_named}
 use Rattle.retro_undo.proofs.Found.{found_at, alone, at_passes, request_named}
-
--- ---- what counts
-
--- a Tentative request counts
-pub tentative_counts : (q : Request) (table : List Kept) → kept_of table q.id ≡ Some (record { request = q; state = Tentative }) → request_of (counted_of table) q.id ≡ Some q
-tentative_counts q [] there = absurd cc
-tentative_counts q (k ∷ table) there = by (name_eq k.request.id q.id) refl (is_invalid k.state) refl there (tentative_counts q table)
-  where
-    by : (same : Bool) → name_eq k.request.id q.id ≡ same → (denied : Bool) → is_invalid k.state ≡ denied
-        → cond same (Some k) (kept_of table q.id) ≡ Some (record { request = q; state = Tentative })
-        → (kept_of table q.id ≡ Some (record { request = q; state = Tentative }) → request_of (counted_of table) q.id ≡ Some q)
-        → request_of (map (λ (x : Kept). x.request) (cond (not denied) (k ∷ filter (λ x. not (is_invalid x.state)) table) (filter (λ x. not (is_invalid x.state)) table))) q.id ≡ Some q
-    by true same true denied there rest =
-        let found : k ≡ record { request = q; state = Tentative } = cc in
-        let counts : is_invalid k.state ≡ false = ap (λ x. is_invalid x.state) found in
-        absurd cc
-    by true same false counts there rest =
-        let found : k ≡ record { request = q; state = Tentative } = cc in
-        rw same (ap (λ x. Some x.request) found)
-    by false apart true denied there rest = rest there
-    by false apart false counts there rest = rw apart (rest there)
-
--- once it is Invalid, it counts no more
-pub counted_without : (table : List Kept) (n : Name) (at : ℕ) (a : Option ℕ) → counted_of (with_state table n (Invalid at a)) ≡ except (counted_of table) n
-counted_without [] n at a = refl
-counted_without (k ∷ table) n at a = by (name_eq k.request.id n) refl (is_invalid k.state) refl (counted_without table n at a)
-  where
-    by : (same : Bool) → name_eq k.request.id n ≡ same → (denied : Bool) → is_invalid k.state ≡ denied
-        → counted_of (with_state table n (Invalid at a)) ≡ except (counted_of table) n
-        → counted_of (cond same (record { request = k.request; state = Invalid at a }) k ∷ with_state table n (Invalid at a))
-        ≡ except (map (λ (x : Kept). x.request) (cond (not denied) (k ∷ filter (λ x. not (is_invalid x.state)) table) (filter (λ x. not (is_invalid x.state)) table))) n
-    by true same true denied rest = rest
-    by true same false counts rest = rw same rest
-    by false apart true denied rest = rw denied rest
-    by false apart false counts rest = rw (counts, apart) (ap (λ qs. k.request ∷ qs) rest)
-
--- a table that counts them is not changed by counting them
-pub counted_again : (t : Table) (table : List Kept) → t.counted ≡ counted_of table → t ≡ with_counted t table
-counted_again t table counts = ap (λ (counted : List Request). record t { counted = counted }) counts
-
--- what is counted last is counted
-pub counted_last : (old new last : Table) (middle table : List Kept) → new ≡ with_counted old middle → last ≡ with_counted new table → last ≡ with_counted old table
-counted_last old new last middle table first second = second ∙ ap (λ (t : Table). with_counted t table) first
 
 -- ---- the request of a name
 

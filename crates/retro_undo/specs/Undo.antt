@@ -1,5 +1,5 @@
--- What one new version makes of states and of what counts.
-use Rattle.std.specs.Prelude.{ℕ, Bool, true, false, not, ◌&&◌, ◌||◌, List, map, filter, count_by, if◌then◌else◌}
+-- What one new version makes of states.
+use Rattle.std.specs.Prelude.{ℕ, Bool, true, false, not, ◌&&◌, ◌||◌, List, map, count_by, if◌then◌else◌}
 use Rattle.std.specs.List.{list_all}
 use Rattle.element_name.specs.Name.{Name, has_name}
 use Rattle.coop_request.specs.Request.{Request, user_of, element_of}
@@ -12,8 +12,7 @@ use Rattle.auth_match.specs.Requests.{request_verdict}
 use Rattle.request_state.specs.declared.state.State.{State}
 use Rattle.request_state.specs.declared.state.State.TheVariants.{Tentative, Valid, Invalid}
 use Rattle.request_state.specs.declared.kept.Kept.{Kept}
-use Rattle.request_state.specs.State.{is_tentative, is_invalid}
-use Rattle.elem_show.specs.Table.{Table}
+use Rattle.request_state.specs.State.{is_tentative}
 
 -- the state after the version, by the verdict of its policy: a Tentative request that is denied becomes Invalid, and every other state stays
 abbrev pub state_after_verdict : State → ℕ → Verdict → State
@@ -52,12 +51,6 @@ states_after_in part names p version table = map (λ k. if part k.request then k
 abbrev pub undone_in : (Request → Bool) → List Name → Policy → List Kept → ℕ
 undone_in part names p table = count_by (λ k. part k.request && is_undone names p k) table
 
--- ---- what counts
-
--- the requests that count: those that aren't Invalid
-abbrev pub counted_of : List Kept → List Request
-counted_of table = map (λ k. k.request) (filter (λ k. not (is_invalid k.state)) table)
-
 -- ---- when a sweep may be made
 
 -- the judged element of each request is one of the names
@@ -67,7 +60,3 @@ have_elements names table = list_all (λ k. has_name names (element_of k.request
 -- each Tentative request that the policy denies is of a user within the reach
 abbrev pub are_reached : Reach → List Name → Policy → List Kept → Bool
 are_reached reach names p table = list_all (λ k. not (is_undone names p k) || is_reached reach (user_of k.request)) table
-
--- the table of elements, with the requests that count
-abbrev pub with_counted : Table → List Kept → Table
-with_counted t table = record t { counted = counted_of table }

@@ -9,7 +9,6 @@ mod listing;
 mod sweep;
 mod walk;
 
-pub use judge::undo;
 pub use listing::{Taken, list_reach};
 pub use sweep::sweep_reach;
 pub use walk::{Whose, below_all};

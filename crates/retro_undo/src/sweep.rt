@@ -6,7 +6,6 @@ ghost use Rattle.retro_undo.specs.Undo.{are_reached};
 ghost use Rattle.retro_undo.specs.Sweep.{every_request, MaySweep, IsSwept};
 
 use crate::walk::{Whose, sweep_line};
-use elem_show::ElemTable;
 use element_name::Places;
 use policy_book::{Policy, Reach, UserRow};
 use request_state::{StateTable, Undone};
@@ -17,17 +16,16 @@ fn sweep_users<P: Places>(
     policy: &Policy,
     version: u32,
     states: &mut StateTable,
-    table: &mut ElemTable,
     places: &P,
 ) -> u32
-    requires { MaySweep (P.names places.now) states.old table.old }
+    requires { MaySweep (P.names places.now) states.old }
     ensures { IsSwept (λ q. has_number users (user_of q)) (P.names places.now)
-        policy.now version states.old table.old states.new table.new result }
+        policy.now version states.old states.new result }
 {
     let mut count = 0;
     for i in 0..users.len() {
         if let Some(user) = users.at(i) {
-            count += sweep_line(Whose::One(user), policy, version, states, table, places);
+            count += sweep_line(Whose::One(user), policy, version, states, places);
         }
     }
     count
@@ -37,26 +35,25 @@ fn sweep_users<P: Places>(
 ///
 /// Such a request becomes Invalid at that version, by its authorization or none, and counts no more. No other
 /// state changes, and no other request's counting. It takes no memory, and visits only the Tentative requests
-/// of users within the reach: one verdict for each, and a look-up in both tables, in time logarithmic in them.
+/// of users within the reach: one verdict for each, and look-ups in the table, in time logarithmic in it.
 pub fn sweep_reach<P: Places>(
     reach: Reach,
     policy: &Policy,
     version: u32,
     states: &mut StateTable,
-    table: &mut ElemTable,
     places: &P,
 ) -> Undone
-    requires tables { MaySweep (P.names places.now) states.old table.old }
+    requires tables { MaySweep (P.names places.now) states.old }
     requires outside { are_reached reach (P.names places.now) policy.now states.old ≡ true }
-    ensures { IsSwept every_request (P.names places.now) policy.now version states.old table.old states.new table.new result.count }
+    ensures { IsSwept every_request (P.names places.now) policy.now version states.old states.new result.count }
 {
     match reach {
         Reach::Nobody => Undone { count: 0 },
         Reach::Users(users) => Undone {
-            count: sweep_users(users, policy, version, states, table, places),
+            count: sweep_users(users, policy, version, states, places),
         },
         Reach::Everyone => Undone {
-            count: sweep_line(Whose::All, policy, version, states, table, places),
+            count: sweep_line(Whose::All, policy, version, states, places),
         },
     }
 }

@@ -8,7 +8,6 @@ ghost use Rattle.retro_undo.specs.Sweep.{MaySweep, IsSwept};
 use crate::judge::settle;
 use auth_match::request_verdict_lent;
 use coop_request::LentRequest;
-use elem_show::ElemTable;
 use element_name::{Name, Places};
 use policy_book::Policy;
 use request_state::StateTable;
@@ -59,18 +58,17 @@ pub(crate) fn sweep_line<P: Places>(
     policy: &Policy,
     version: u32,
     states: &mut StateTable,
-    table: &mut ElemTable,
     places: &P,
 ) -> u32
-    requires { MaySweep (P.names places.now) states.old table.old }
-    ensures { IsSwept (is_in whose) (P.names places.now) policy.now version states.old table.old states.new table.new result }
+    requires { MaySweep (P.names places.now) states.old }
+    ensures { IsSwept (is_in whose) (P.names places.now) policy.now version states.old states.new result }
 {
     let mut count = 0;
     let mut above = below_all(states);
     while let Some(request) = next_tentative(states, whose, above) {
         above = request.id();
         let verdict = request_verdict_lent(policy, &request, places);
-        count += u32::from(settle(above, verdict, version, states, table));
+        count += u32::from(settle(above, verdict, version, states));
     }
     count
 }

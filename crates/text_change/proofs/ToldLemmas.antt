@@ -56,7 +56,8 @@ use Rattle.peer_core.proofs.AnswerLemmas.Refusals.{edit_refuses}
 use Rattle.peer_core.proofs.EditLemmas.Law.{edit_law}
 use Rattle.peer_tables.proofs.HistoryLemmas.{order_push}
 use Rattle.peer_tables.proofs.JournalLemmas.{history_law, follows_history, follows_log, requests_request, requests_entry, entries_request, entries_entry}
-use Rattle.peer_tables.proofs.KeptLemmas.OneMore.{granted_valid, cell_more, no_own}
+use Rattle.peer_tables.proofs.KeptLemmas.Tables.{granted_valid}
+use Rattle.peer_tables.proofs.KeptLemmas.OneMore.{cell_more, no_own}
 use Rattle.peer_tables.proofs.ReachedLemmas.{cell_filter}
 use Rattle.peer_tables.proofs.StableLemmas.{known_law, element_in_order}
 use Rattle.text_change.specs.declared.seen.Seen.{Seen}

@@ -12,7 +12,8 @@ use peer_step::LocalEdit;
 pub(crate) fn piece_at(peer: &Peer, element: Name) -> Option<Piece>
     ensures { result ≡ piece_at peer.now element }
 {
-    shown(peer.cell(element)?)
+    let cell = peer.cell(element)?;
+    shown(&cell)
 }
 
 // The row that makes one shown piece of another, where so many elements show up to that place then.

@@ -19,16 +19,17 @@ use Rattle.coop_request.proofs.Histories.{new_element}
 use Rattle.policy_book.specs.Entry.{Entry}
 use Rattle.request_state.specs.State.{is_invalid}
 use Rattle.check_remote.specs.State.{is_granted}
-use Rattle.elem_show.specs.Cell.{Cell, cell_from, own_piece, letters_of, update_of, shown}
+use Rattle.elem_show.specs.Cell.{Cell, cell_from, own_of, own_piece, letters_of, update_of, shown}
 use Rattle.elem_show.specs.Counting.{with_one_more}
 use Rattle.elem_show.specs.Text.{shown_of}
 use Rattle.elem_show.proofs.Cells.{cell_from-cons, cell_from-snoc}
+use Rattle.elem_show.proofs.Orders.{own_piece-found}
 use Rattle.tomb_seq.proofs.Has.{Has}
 use Rattle.peer_tables.specs.Derived.{state_in, counted_in, greatest_stamp}
 use Rattle.peer_tables.specs.Kept.{AreKnown}
 use Rattle.peer_tables.proofs.HistoryLemmas.{once_law, element_there}
-use Rattle.peer_tables.proofs.SameSetLemmas.{own_by, piece_made}
-use Rattle.peer_tables.proofs.KeptLemmas.OneMore.{granted_valid, found_own, found_other, counted_push, not_counted, cell_more}
+use Rattle.peer_tables.proofs.KeptLemmas.Tables.{granted_valid}
+use Rattle.peer_tables.proofs.KeptLemmas.OneMore.{found_own, found_other, counted_push, not_counted, cell_more}
 use Rattle.peer_core.proofs.AnswerLemmas.Edits.{named, named_below}
 use Rattle.peer_core.proofs.EditLemmas.Pieces.{apart}
 
@@ -166,7 +167,7 @@ pub insert_shows : (R : List Request) (L : List Entry) (known : AreKnown R L) (i
 insert_shows R L known id version after letter follows counts =
     let q : Request = record { id = id; version = version; edit = edits.Insert after letter } in
     let own : own_piece (R ++ q ∷ []) id ≡ Some letter =
-    own_by (R ++ q ∷ []) id (once_more R L known q follows counts) ∙ ap (option_and_then piece_made) (found_own R L known q follows) in
+    own_piece-found (R ++ q ∷ []) id (once_more R L known q follows counts) ∙ ap (option_and_then own_of) (found_own R L known q follows) in
     let made : Cell → Cell = λ c. record { made = true; cuts = c.cuts; letters = c.letters; own = c.own } in
     ap (λ (o : Option (List ℕ)). option_and_then shown (option_map (λ x. cell_from id x (counted_in (R ++ q ∷ []) L)) o)) own
     ∙ ap shown (cell_own R L known q follows counts letter ∙ ap made (no_cells id letter (counted_in R L) (not_judged R L known q follows counts)))
@@ -200,9 +201,9 @@ update_shows R L known id version target letter old follows counts newer there b
 
     same_own : own_piece (R ++ q ∷ []) target ≡ own_piece R target
     same_own =
-        own_by (R ++ q ∷ []) target (once_more R L known q follows counts)
-        ∙ ap (option_and_then piece_made) (found_other R L known q follows target (other_name R L known q follows counts target there))
-        ∙ sym (own_by R target (once_law R known.history))
+        own_piece-found (R ++ q ∷ []) target (once_more R L known q follows counts)
+        ∙ ap (option_and_then own_of) (found_other R L known q follows target (other_name R L known q follows counts target there))
+        ∙ sym (own_piece-found R target (once_law R known.history))
 
     by : (o : Option (List ℕ)) → option_and_then shown (option_map (λ x. cell_from target x (counted_in R L)) o) ≡ Some old
         → option_and_then shown (option_map (λ x. cell_from target x (counted_in (R ++ q ∷ []) L)) o) ≡ Some letter

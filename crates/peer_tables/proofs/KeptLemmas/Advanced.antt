@@ -19,8 +19,8 @@ use Rattle.policy_book.specs.Reach.{narrowed_reach}
 use Rattle.admin_log.specs.Log.{FollowsLog, policy_of}
 use Rattle.request_state.specs.declared.kept.Kept.{Kept}
 use Rattle.retro_undo.specs.Listed.{taken_within}
-use Rattle.retro_undo.specs.Undo.{states_after, undone_count, have_elements, are_reached, counted_of, with_counted}
-use Rattle.elem_show.specs.Table.{Table, shows_by}
+use Rattle.retro_undo.specs.Undo.{states_after, undone_count, have_elements, are_reached}
+use Rattle.request_state.specs.Table.{kept_shows}
 use Rattle.tomb_seq.specs.declared.slot.Slot.{Slot}
 use Rattle.tomb_seq.specs.Slots.{names_in, marked_among}
 use Rattle.peer_tables.specs.Awaiting.{validated_by}
@@ -29,11 +29,11 @@ use Rattle.peer_tables.specs.Kept.{AreTablesOf, IsKeptOf, AreKnown, IsAdvancing,
 use Rattle.peer_tables.specs.Journal.{FollowsJournal}
 use Rattle.peer_tables.proofs.JournalLemmas.{follows_log, formed_push, requests_entry, entries_entry}
 use Rattle.peer_tables.proofs.StableLemmas.{known_law}
-use Rattle.peer_tables.proofs.KeptLemmas.Entered.{confirmed_law, elements_law, counts_before, reached_law, undone_law_of, kept_marked, kept_unmarked}
+use Rattle.peer_tables.proofs.KeptLemmas.Entered.{confirmed_law, elements_law, reached_law, undone_law_of, kept_marked, kept_unmarked}
 
 -- ---- the steps of an advance
 
-module _ (L : List Entry) (slots : List Slot) (cells : Table) (table : List Kept) (e : Entry)
+module _ (L : List Entry) (slots : List Slot) (table : List Kept) (e : Entry)
     (middle : List Kept) (op : AdminOp) (validated : Option Name) (version : ℕ)
     (is_op : op ≡ e.op) (is_validated : validated ≡ validated_by op) (is_version : version ≡ e.version)
     (is_confirmed : middle ≡ states_confirmed validated version table) where
@@ -44,19 +44,16 @@ module _ (L : List Entry) (slots : List Slot) (cells : Table) (table : List Kept
       ∙ ap (λ v. states_confirmed (validated_by e.op) v table) is_version
 
   -- what is asked of the sweep
-  module _ (a : IsAdvancing L slots cells table e) where
+  module _ (a : IsAdvancing L slots table e) where
     pub elements_before : have_elements (names_in slots) middle ≡ true
     elements_before =
         subst (λ (t : List Kept). have_elements (names_in slots) t ≡ true) (sym is)
-        (elements_law a.requests L slots cells table a.stamp e a.kept a.known a.follows)
-
-    pub counted_before : cells.counted ≡ counted_of middle
-    counted_before = counts_before a.requests L slots cells table a.stamp e a.kept a.known a.follows ∙ ap (λ (t : List Kept). counted_of t) (sym is)
+        (elements_law a.requests L slots table a.stamp e a.kept a.known a.follows)
 
     pub few_before : length middle < 2 ^ 32
     few_before =
         let size : length middle ≡ length table =
-        ap (λ (t : List Kept). length t) is ∙ (confirmed_law a.requests L slots cells table a.stamp e a.kept a.known a.follows).size in
+        ap (λ (t : List Kept). length t) is ∙ (confirmed_law a.requests L slots table a.stamp e a.kept a.known a.follows).size in
         omega (arith, size, a.kept.size, a.few)
 
     pub reached_before : (M : List Entry) (known_op : AdminOp) (old new : Policy) (reach : Reach) → M ≡ L ++ e ∷ [] → known_op ≡ e.op → old ≡ policy_of L → new ≡ policy_of M
@@ -65,14 +62,14 @@ module _ (L : List Entry) (slots : List Slot) (cells : Table) (table : List Kept
         ap (λ (r : Reach). are_reached r (names_in slots) new middle) (is_reach ∙ ap (λ (p : Policy). narrowed_reach p known_op) is_old ∙ ap (narrowed_reach (policy_of L)) is_known)
         ∙ ap (λ (p : Policy). are_reached (narrowed_reach (policy_of L) e.op) (names_in slots) p middle) (is_new ∙ ap policy_of is_log)
         ∙ subst (λ (t : List Kept). are_reached (narrowed_reach (policy_of L) e.op) (names_in slots) (policy_of (L ++ e ∷ [])) t ≡ true) (sym is)
-        (reached_law a.requests L slots cells table a.stamp e a.kept a.known a.follows)
+        (reached_law a.requests L slots table a.stamp e a.kept a.known a.follows)
 
   -- what the sweep makes
-  module _ (M : List Entry) (p : Policy) (new : List Kept) (new_cells : Table) (count : ℕ)
+  module _ (M : List Entry) (p : Policy) (new : List Kept) (count : ℕ)
       (is_log : M ≡ L ++ e ∷ []) (is_policy : p ≡ policy_of M)
-      (is_states : new ≡ states_after (names_in slots) p version middle) (after : new_cells ≡ with_counted cells new)
+      (is_states : new ≡ states_after (names_in slots) p version middle)
       (is_count : count ≡ undone_count (names_in slots) p middle)
-      (R : List Request) (stamp : ℕ) (kept : AreTablesOf R L slots cells table stamp) (known : AreKnown R L) (follows : FollowsLog L e) where
+      (R : List Request) (stamp : ℕ) (kept : AreTablesOf R L slots table stamp) (known : AreKnown R L) (follows : FollowsLog L e) where
     policy_is : p ≡ policy_of (L ++ e ∷ [])
     policy_is = is_policy ∙ ap policy_of is_log
 
@@ -83,58 +80,56 @@ module _ (L : List Entry) (slots : List Slot) (cells : Table) (table : List Kept
         ∙ ap (λ v. states_after (names_in slots) (policy_of (L ++ e ∷ [])) v middle) is_version
         ∙ ap (λ (t : List Kept). states_after (names_in slots) (policy_of (L ++ e ∷ [])) e.version t) is
 
-    cells_are : new_cells ≡ with_counted cells (states_after (names_in slots) (policy_of (L ++ e ∷ [])) e.version (states_confirmed (validated_by e.op) e.version table))
-    cells_are = after ∙ ap (with_counted cells) states_are
-
     pub undone_is : count ≡ undone_between R L M
     undone_is =
         is_count
         ∙ ap (λ (q : Policy). undone_count (names_in slots) q middle) policy_is
         ∙ ap (undone_count (names_in slots) (policy_of (L ++ e ∷ []))) is
-        ∙ undone_law_of R L slots cells table stamp e kept known follows
+        ∙ undone_law_of R L slots table stamp e kept known follows
         ∙ ap (undone_between R L) (sym is_log)
 
     kept_at : (new_slots : List Slot)
-        → AreTablesOf R (L ++ e ∷ []) new_slots new_cells (states_after (names_in slots) (policy_of (L ++ e ∷ [])) e.version (states_confirmed (validated_by e.op) e.version table)) stamp
-        → AreTablesOf R M new_slots new_cells new stamp
+        → AreTablesOf R (L ++ e ∷ []) new_slots (states_after (names_in slots) (policy_of (L ++ e ∷ [])) e.version (states_confirmed (validated_by e.op) e.version table)) stamp
+        → AreTablesOf R M new_slots new stamp
     kept_at new_slots k =
-        subst (λ (N : List Entry). AreTablesOf R N new_slots new_cells new stamp) (sym is_log)
-        (subst (λ (t : List Kept). AreTablesOf R (L ++ e ∷ []) new_slots new_cells t stamp) (sym states_are) k)
+        subst (λ (N : List Entry). AreTablesOf R N new_slots new stamp) (sym is_log)
+        (subst (λ (t : List Kept). AreTablesOf R (L ++ e ∷ []) new_slots t stamp) (sym states_are) k)
 
     advanced_marked : (known_op : AdminOp) (old : Policy) (reach : Reach) (elements : List Name) → known_op ≡ e.op → old ≡ policy_of L → reach ≡ narrowed_reach old known_op
-        → elements ≡ taken_within element_of reach table → (new_slots : List Slot) → new_slots ≡ map (marked_among elements (shows_by new_cells)) slots → AreTablesOf R M new_slots new_cells new stamp
+        → elements ≡ taken_within element_of reach table → (new_slots : List Slot) → new_slots ≡ map (marked_among elements (kept_shows new)) slots → AreTablesOf R M new_slots new stamp
     advanced_marked known_op old reach elements is_known is_old is_reach are new_slots marked =
         let reach_is : reach ≡ narrowed_reach (policy_of L) e.op = is_reach ∙ ap (λ (q : Policy). narrowed_reach q known_op) is_old ∙ ap (narrowed_reach (policy_of L)) is_known in
         let elements_are : elements ≡ taken_within element_of (narrowed_reach (policy_of L) e.op) table = are ∙ ap (λ (r : Reach). taken_within element_of r table) reach_is in
         kept_at new_slots
-        (subst (λ (s : List Slot). AreTablesOf R (L ++ e ∷ []) s new_cells (states_after (names_in slots) (policy_of (L ++ e ∷ [])) e.version (states_confirmed (validated_by e.op) e.version table)) stamp)
-        (sym (marked ∙ ap (λ (names : List Name). map (marked_among names (shows_by new_cells)) slots) elements_are))
-        (kept_marked R L slots cells table stamp e kept known follows new_cells cells_are))
+        (subst (λ (s : List Slot). AreTablesOf R (L ++ e ∷ []) s (states_after (names_in slots) (policy_of (L ++ e ∷ [])) e.version (states_confirmed (validated_by e.op) e.version table)) stamp)
+        (sym (marked ∙ ap (λ (names : List Name). map (marked_among names (kept_shows new)) slots) elements_are
+        ∙ ap (λ (t : List Kept). map (marked_among (taken_within element_of (narrowed_reach (policy_of L) e.op) table) (kept_shows t)) slots) states_are))
+        (kept_marked R L slots table stamp e kept known follows))
 
-    advanced_unmarked : count ≤ 0 → AreTablesOf R M slots new_cells new stamp
+    advanced_unmarked : count ≤ 0 → AreTablesOf R M slots new stamp
     advanced_unmarked none =
         let zero : count ≡ 0 = omega arith in
-        kept_at slots (kept_unmarked R L slots cells table stamp e kept known follows new_cells cells_are (ap (undone_between R L) (sym is_log) ∙ sym undone_is ∙ zero))
+        kept_at slots (kept_unmarked R L slots table stamp e kept known follows (ap (undone_between R L) (sym is_log) ∙ sym undone_is ∙ zero))
 
     -- with marks where anything was undone
     pub advanced : (known_op : AdminOp) (old : Policy) (reach : Reach) (elements : List Name) → known_op ≡ e.op → old ≡ policy_of L → reach ≡ narrowed_reach old known_op
-        → elements ≡ taken_within element_of reach table → (new_slots : List Slot) → (0 < count → new_slots ≡ map (marked_among elements (shows_by new_cells)) slots)
-        → (count ≤ 0 → new_slots ≡ slots) → AreTablesOf R M new_slots new_cells new stamp
+        → elements ≡ taken_within element_of reach table → (new_slots : List Slot) → (0 < count → new_slots ≡ map (marked_among elements (kept_shows new)) slots)
+        → (count ≤ 0 → new_slots ≡ slots) → AreTablesOf R M new_slots new stamp
     advanced known_op old reach elements is_known is_old is_reach are new_slots marked unmarked = ⊎_elim
         (λ (t : nat_lt 0 count ≡ true). advanced_marked known_op old reach elements is_known is_old is_reach are new_slots (marked (ltb-true 0 count t)))
         (λ (f : nat_lt 0 count ≡ false).
         let none : count ≤ 0 = ltb-false 0 count f in
-        subst (λ (s : List Slot). AreTablesOf R M s new_cells new stamp) (sym (unmarked none)) (advanced_unmarked none))
+        subst (λ (s : List Slot). AreTablesOf R M s new stamp) (sym (unmarked none)) (advanced_unmarked none))
         (cases_Bool (nat_lt 0 count))
 
 -- ---- a journal with one more entry
 
-module _ (J : List Message) (L : List Entry) (slots : List Slot) (cells : Table) (table : List Kept) (stamp count : ℕ)
-    (k : IsKeptOf J L slots cells table stamp count) (e : Entry) (follows : FollowsJournal J (Admin e)) where
+module _ (J : List Message) (L : List Entry) (slots : List Slot) (table : List Kept) (stamp count : ℕ)
+    (k : IsKeptOf J L slots table stamp count) (e : Entry) (follows : FollowsJournal J (Admin e)) where
   known_of : AreKnown (requests_of J) L
   known_of = subst (λ (M : List Entry). AreKnown (requests_of J) M) (sym k.entries) (known_law J k.journal)
 
-  pub is_advancing : IsAdvancing L slots cells table e
+  pub is_advancing : IsAdvancing L slots table e
   is_advancing = record {
     requests = requests_of J;
     stamp = stamp;
@@ -148,22 +143,22 @@ module _ (J : List Message) (L : List Entry) (slots : List Slot) (cells : Table)
   entries_are : (M : List Entry) → M ≡ L ++ e ∷ [] → M ≡ entries_of J ++ e ∷ []
   entries_are M is = is ∙ ap (λ (N : List Entry). N ++ e ∷ []) k.entries
 
-  pub kept_of_longer : (K : List Message) (M : List Entry) (new_slots : List Slot) (new_cells : Table) (new : List Kept)
+  pub kept_of_longer : (K : List Message) (M : List Entry) (new_slots : List Slot) (new : List Kept)
       → K ≡ J ++ Admin e ∷ [] → M ≡ L ++ e ∷ [] → IsTrue (is_entry e)
-      → ((R : List Request) (s : ℕ) → AreTablesOf R L slots cells table s → AreKnown R L → AreTablesOf R M new_slots new_cells new s)
-      → IsKeptOf K M new_slots new_cells new stamp count
-  kept_of_longer K M new_slots new_cells new is_journal is_log formed keeps =
-      subst (λ (I : List Message). IsKeptOf I M new_slots new_cells new stamp count) (sym is_journal) (record {
+      → ((R : List Request) (s : ℕ) → AreTablesOf R L slots table s → AreKnown R L → AreTablesOf R M new_slots new s)
+      → IsKeptOf K M new_slots new stamp count
+  kept_of_longer K M new_slots new is_journal is_log formed keeps =
+      subst (λ (I : List Message). IsKeptOf I M new_slots new stamp count) (sym is_journal) (record {
         journal = EachAfter-push FollowsJournal J (Admin e) k.journal follows;
         formed = formed_push J (Admin e) k.formed formed;
         few = subst (λ (R : List Request). length R ≤ MAX_REQUESTS) (sym (requests_entry J e)) k.few;
         counted = k.counted ∙ ap (λ (R : List Request). length R) (sym (requests_entry J e));
         entries = entries_are M is_log ∙ sym (entries_entry J e);
-        kept = subst (λ (R : List Request). AreTablesOf R M new_slots new_cells new stamp) (sym (requests_entry J e)) (keeps (requests_of J) stamp k.kept known_of);
+        kept = subst (λ (R : List Request). AreTablesOf R M new_slots new stamp) (sym (requests_entry J e)) (keeps (requests_of J) stamp k.kept known_of);
       })
 
   pub undone_longer : (M : List Entry) (n : ℕ) → M ≡ L ++ e ∷ []
-      → ((R : List Request) (s : ℕ) → AreTablesOf R L slots cells table s → AreKnown R L → n ≡ undone_between R L M)
+      → ((R : List Request) (s : ℕ) → AreTablesOf R L slots table s → AreKnown R L → n ≡ undone_between R L M)
       → n ≡ undone_between (requests_of J) (entries_of J) (entries_of J ++ e ∷ [])
   undone_longer M n is_log counts =
       counts (requests_of J) stamp k.kept known_of

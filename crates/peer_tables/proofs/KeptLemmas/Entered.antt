@@ -19,15 +19,13 @@ use Rattle.request_state.specs.declared.state.State.{State}
 use Rattle.request_state.specs.declared.state.State.TheVariants.{Tentative, Valid}
 use Rattle.request_state.specs.declared.kept.Kept.{Kept}
 use Rattle.request_state.specs.State.{is_tentative, is_invalid}
-use Rattle.request_state.specs.Table.{kept_of, is_in_order, with_state}
+use Rattle.request_state.specs.Table.{kept_of, is_in_order, with_state, requests_kept, kept_shows}
 use Rattle.check_remote.specs.State.{is_granted}
 use Rattle.check_remote.specs.Laws.{state_after_entry as judged_after}
 use Rattle.check_remote.proofs.States.{entry_law}
-use Rattle.retro_undo.specs.Undo.{state_after_verdict as swept_after, kept_after, states_after, is_denied, is_undone, undone_count, have_elements, are_reached, counted_of, with_counted}
+use Rattle.retro_undo.specs.Undo.{state_after_verdict as swept_after, kept_after, states_after, is_denied, is_undone, undone_count, have_elements, are_reached}
 use Rattle.elem_show.specs.Cell.{Cell, cell_from, own_piece, shown}
-use Rattle.elem_show.specs.Table.{Table, in_id_order, table_of, shows_by}
 use Rattle.elem_show.specs.Text.{shown_of}
-use Rattle.elem_show.proofs.Orders.{inserts_in, in_id_order-set, filter_once}
 use Rattle.tomb_seq.specs.declared.slot.Slot.{Slot}
 use Rattle.tomb_seq.specs.Slots.{names_in, slots_by, marked_among}
 use Rattle.tomb_seq.proofs.Has.{Has, Contains-from_Has}
@@ -38,17 +36,16 @@ use Rattle.peer_tables.specs.Kept.{AreTablesOf, AreKnown, states_confirmed, is_t
 use Rattle.retro_undo.specs.Listed.{taken_within}
 use Rattle.peer_tables.proofs.HistoryLemmas.{once_law}
 use Rattle.peer_tables.proofs.StableLemmas.{element_in_order}
-use Rattle.peer_tables.proofs.SameSetLemmas.{IsOnce, found_has, has_found, read_cells}
+use Rattle.peer_tables.proofs.SameSetLemmas.{IsOnce, found_has, has_found}
 use Rattle.retro_undo.proofs.Within.{IsListedIn, each_listed}
 use Rattle.peer_tables.proofs.ReachedLemmas.{cell_filter, kept_has, no_start}
-use Rattle.peer_tables.proofs.KeptLemmas.Tables.{counted_ordered, all_has, all_at, filter_has, count_has, count_none, count_alike, counted_once, requests_in, requests_once, requests_alike, count_requests, kept_by, IsBy, Stands, stands, order_mapped, by_mapped, by_same}
-use Rattle.peer_tables.proofs.KeptLemmas.OneMore.{granted_valid}
-use Rattle.peer_tables.proofs.KeptLemmas.States.{confirm_state, steps_law, undone_law, confirm_invalid, confirm_tentative, tentative_state, settled_invalid, confirm_none, confirm_other, confirm_own, undone_none, is_validation_of, validates_by, validation_reach, granted_later, counted_law, reached_by}
+use Rattle.peer_tables.proofs.KeptLemmas.Tables.{all_has, all_at, filter_has, count_has, count_none, count_alike, requests_once, requests_alike, count_requests, granted_valid, kept_by, IsBy, Stands, stands, order_mapped, by_mapped, by_same}
+use Rattle.peer_tables.proofs.KeptLemmas.States.{confirm_state, steps_law, undone_law, confirm_invalid, confirm_tentative, tentative_state, settled_invalid, confirm_none, confirm_other, confirm_own, undone_none, is_validation_of, validates_by, validation_reach, granted_later, shows_kept, reached_by}
 
 -- ---- what is kept
 
-module _ (R : List Request) (L : List Entry) (slots : List Slot) (cells : Table) (table : List Kept) (stamp : ℕ) (e : Entry)
-    (kept : AreTablesOf R L slots cells table stamp) (known : AreKnown R L) (follows : FollowsLog L e) where
+module _ (R : List Request) (L : List Entry) (slots : List Slot) (table : List Kept) (stamp : ℕ) (e : Entry)
+    (kept : AreTablesOf R L slots table stamp) (known : AreKnown R L) (follows : FollowsLog L e) where
   once : IsOnce R
   once = once_law R known.history
 
@@ -147,13 +144,6 @@ module _ (R : List Request) (L : List Entry) (slots : List Slot) (cells : Table)
   elements_law = all_has (λ k. has_name (names_in slots) (element_of k.request)) done
       (λ k h. ap (λ (names : List Name). has_name names (element_of k.request)) names_are ∙ element_in_order R L k.request known (has_request k h))
 
-  pub counts_before : cells.counted ≡ counted_of done
-  counts_before =
-      ap (λ (t : Table). t.counted) kept.shown
-      ∙ in_id_order-set (counted_in R L) (counted_of done) (filter_once (is_granted (text_order R) L) R once) (counted_once done confirmed_law.in_order)
-      (λ n. sym (counted_law first R L done once confirmed_law.in_order confirmed_law.by_states (λ q h. confirm_invalid (state_in R L q) e.version (validates q.id e.op)) n))
-      ∙ counted_ordered done confirmed_law.in_order
-
   pub reached_law : are_reached (narrowed_reach (policy_of L) e.op) (names_in slots) (policy_of (L ++ e ∷ [])) done ≡ true
   reached_law = all_has (λ k. not (is_undone (names_in slots) (policy_of (L ++ e ∷ [])) k) || is_reached (narrowed_reach (policy_of L) e.op) (user_of k.request)) done
       (λ k h. reached_by (is_tentative k.state) (is_denied (request_verdict (names_in slots) (policy_of (L ++ e ∷ [])) k.request)) (is_reached (narrowed_reach (policy_of L) e.op) (user_of k.request))
@@ -182,7 +172,7 @@ module _ (R : List Request) (L : List Entry) (slots : List Slot) (cells : Table)
   undone_law_of =
       count_requests (is_undone (names_in slots) (policy_of (L ++ e ∷ []))) (λ q. is_tentative (first q) && is_denied (request_verdict (names_in slots) (policy_of (L ++ e ∷ [])) q)) done
       (λ k h. ap (λ s. is_tentative s && is_denied (request_verdict (names_in slots) (policy_of (L ++ e ∷ [])) k.request)) (by_name k h).state)
-      ∙ count_alike (λ q. is_tentative (first q) && is_denied (request_verdict (names_in slots) (policy_of (L ++ e ∷ [])) q)) (requests_in done) R
+      ∙ count_alike (λ q. is_tentative (first q) && is_denied (request_verdict (names_in slots) (policy_of (L ++ e ∷ [])) q)) (requests_kept done) R
       (requests_once done confirmed_law.in_order) once (requests_alike first R done confirmed_law.by_states)
       ∙ count_has (λ q. is_tentative (first q) && is_denied (request_verdict (names_in slots) (policy_of (L ++ e ∷ [])) q)) (λ q. is_tentative (state_in R L q) && is_invalid (state_in R (L ++ e ∷ []) q)) R
       (λ q h. ap (λ (names : List Name). is_tentative (first q) && is_denied (request_verdict names (policy_of (L ++ e ∷ [])) q)) names_are
@@ -232,46 +222,36 @@ module _ (R : List Request) (L : List Entry) (slots : List Slot) (cells : Table)
 
   -- ---- after the sweep
 
-  module _ (new_cells : Table) (after : new_cells ≡ with_counted cells swept) where
-    shown_later : new_cells ≡ table_of R (counted_in R (L ++ e ∷ []))
-    shown_later =
-        after ∙ ap (λ (t : Table). with_counted t swept) kept.shown
-        ∙ ap (λ (counted : List Request). record { inserts = in_id_order (inserts_in R); counted = counted })
-        (sym (counted_ordered swept swept_order)
-        ∙ in_id_order-set (counted_of swept) (counted_in R (L ++ e ∷ [])) (counted_once swept swept_order) (filter_once (is_granted (text_order R) (L ++ e ∷ [])) R once)
-        (counted_law (state_in R (L ++ e ∷ [])) R (L ++ e ∷ []) swept once swept_order swept_by (λ q h. refl)))
+  kept_with : (new_slots : List Slot) → new_slots ≡ slots_by (shows_in R (L ++ e ∷ [])) (text_order R) → AreTablesOf R (L ++ e ∷ []) new_slots swept stamp
+  kept_with new_slots marked = record {
+    marked = marked;
+    states = swept_by;
+    in_order = swept_order;
+    size = length-map done (kept_after (names_in slots) (policy_of (L ++ e ∷ [])) e.version) ∙ confirmed_law.size ∙ kept.size;
+    greatest = kept.greatest;
+  }
 
-    kept_with : (new_slots : List Slot) → new_slots ≡ slots_by (shows_in R (L ++ e ∷ [])) (text_order R) → AreTablesOf R (L ++ e ∷ []) new_slots new_cells swept stamp
-    kept_with new_slots marked = record {
-      marked = marked;
-      shown = shown_later;
-      states = swept_by;
-      in_order = swept_order;
-      size = length-map done (kept_after (names_in slots) (policy_of (L ++ e ∷ [])) e.version) ∙ confirmed_law.size ∙ kept.size;
-      greatest = kept.greatest;
-    }
+  shows_now : (n : Name) → kept_shows swept n ≡ shows_in R (L ++ e ∷ []) n
+  shows_now n = shows_kept R (L ++ e ∷ []) swept known.history swept_order swept_by n
 
-    -- the elements that the operation may reach are marked anew
-    pub kept_marked : AreTablesOf R (L ++ e ∷ []) (map (marked_among reached (shows_by new_cells)) slots) new_cells swept stamp
-    kept_marked = kept_with (map (marked_among reached (shows_by new_cells)) slots)
-        (ap (λ (ss : List Slot). map (marked_among reached (shows_by new_cells)) ss) kept.marked
-        ∙ among_law (shows_in R L) (shows_by new_cells) reached (text_order R) (λ n outside. shows_still n outside ∙ sym (shows_now n))
-        ∙ slots_agree (shows_by new_cells) (shows_in R (L ++ e ∷ [])) (text_order R) (λ n h. shows_now n))
-      where
-        shows_now : (n : Name) → shows_by new_cells n ≡ shows_in R (L ++ e ∷ []) n
-        shows_now n = ap (λ (t : Table). shows_by t n) shown_later ∙ ap (λ (c : Option Cell). is_some (option_and_then shown c)) (read_cells R (L ++ e ∷ []) known.history n)
+  -- the elements that the operation may reach are marked anew
+  pub kept_marked : AreTablesOf R (L ++ e ∷ []) (map (marked_among reached (kept_shows swept)) slots) swept stamp
+  kept_marked = kept_with (map (marked_among reached (kept_shows swept)) slots)
+      (ap (λ (ss : List Slot). map (marked_among reached (kept_shows swept)) ss) kept.marked
+      ∙ among_law (shows_in R L) (kept_shows swept) reached (text_order R) (λ n outside. shows_still n outside ∙ sym (shows_now n))
+      ∙ slots_agree (kept_shows swept) (shows_in R (L ++ e ∷ [])) (text_order R) (λ n h. shows_now n))
 
-    -- nothing was undone, so no mark changes
-    pub kept_unmarked : undone_between R L (L ++ e ∷ []) ≡ 0 → AreTablesOf R (L ++ e ∷ []) slots new_cells swept stamp
-    kept_unmarked none = kept_with slots (kept.marked ∙ ap (λ (counted : List Request). slots_by (λ n. is_some (shown_of R counted n)) (text_order R)) (sym same_counted))
-      where
-        same_invalid : (q : Request) → Has R q → is_invalid (state_in R (L ++ e ∷ []) q) ≡ is_invalid (state_in R L q)
-        same_invalid q h =
-            ap is_invalid (state_later q h)
-            ∙ undone_none (state_in R L q) e.version (later q) (validates q.id e.op)
-            (ap (λ s. is_tentative (state_in R L q) && is_invalid s) (sym (state_later q h))
-            ∙ count_none (λ r. is_tentative (state_in R L r) && is_invalid (state_in R (L ++ e ∷ []) r)) R q none h)
+  -- nothing was undone, so no mark changes
+  pub kept_unmarked : undone_between R L (L ++ e ∷ []) ≡ 0 → AreTablesOf R (L ++ e ∷ []) slots swept stamp
+  kept_unmarked none = kept_with slots (kept.marked ∙ ap (λ (counted : List Request). slots_by (λ n. is_some (shown_of R counted n)) (text_order R)) (sym same_counted))
+    where
+      same_invalid : (q : Request) → Has R q → is_invalid (state_in R (L ++ e ∷ []) q) ≡ is_invalid (state_in R L q)
+      same_invalid q h =
+          ap is_invalid (state_later q h)
+          ∙ undone_none (state_in R L q) e.version (later q) (validates q.id e.op)
+          (ap (λ s. is_tentative (state_in R L q) && is_invalid s) (sym (state_later q h))
+          ∙ count_none (λ r. is_tentative (state_in R L r) && is_invalid (state_in R (L ++ e ∷ []) r)) R q none h)
 
-        same_counted : counted_in R (L ++ e ∷ []) ≡ counted_in R L
-        same_counted = filter_has (is_granted (text_order R) (L ++ e ∷ [])) (is_granted (text_order R) L) R
-            (λ q h. granted_valid (text_order R) (L ++ e ∷ []) q ∙ ap not (same_invalid q h) ∙ sym (granted_valid (text_order R) L q))
+      same_counted : counted_in R (L ++ e ∷ []) ≡ counted_in R L
+      same_counted = filter_has (is_granted (text_order R) (L ++ e ∷ [])) (is_granted (text_order R) L) R
+          (λ q h. granted_valid (text_order R) (L ++ e ∷ []) q ∙ ap not (same_invalid q h) ∙ sym (granted_valid (text_order R) L q))

@@ -1,6 +1,6 @@
 -- What a request that may follow a journal finds there.
 use Rattle.std.proofs.Common.{◌≡◌, ℕ, ◌≤◌, Bool, true, false, ◌&&◌, ◌||◌, List, [], ◌∷◌, ◌++◌, length, None, Some, refl, ap, sym, subst, ◌∙◌, arith}
-use Rattle.std.specs.Prelude.{is_none, is_some, filter_map, option_map}
+use Rattle.std.specs.Prelude.{is_some, filter_map, option_map}
 use Rattle.std.specs.declared.option.Option.{Option}
 use Rattle.std.specs.Option.{option_or}
 use Rattle.std.proofs.Math.Seq.{take-length}
@@ -12,27 +12,27 @@ use Rattle.element_name.proofs.EachAfterLemmas.{EachAfter-push, EachAfter-last}
 use Rattle.element_name.proofs.NameOrder.{name_eq-comm}
 use Rattle.coop_request.specs.declared.edit.Edit.{Edit}
 use Rattle.coop_request.specs.declared.edit.Edit.TheVariants.{Insert, Delete, Update}
-use Rattle.coop_request.specs.Edit.{right_of, element_by, anchor_or_target, targets_start, placed_by}
+use Rattle.coop_request.specs.Edit.{is_insert, right_of, element_by, anchor_or_target, targets_start, placed_by}
 use Rattle.coop_request.specs.Request.{Request, user_of}
-use Rattle.coop_request.specs.History.{request_of, placed_of, elements_of, text_order, FollowsHistory}
+use Rattle.coop_request.specs.History.{placed_of, elements_of, text_order, FollowsHistory}
 use Rattle.coop_request.proofs.Histories.{IsTree-placed_of, new_element}
 use Rattle.policy_book.specs.Entry.{Entry}
 use Rattle.auth_match.specs.Coverage.{IsJudged, names_with, judged_name}
 use Rattle.auth_match.specs.Requests.{request_verdict}
 use Rattle.admin_log.specs.Log.{policy_of}
 use Rattle.check_local.specs.Local.{local_verdict, with_version as told_at}
-use Rattle.check_remote.specs.State.{verdict_at, is_granted}
+use Rattle.check_remote.specs.State.{verdict_at}
 use Rattle.elem_show.specs.Cell.{own_piece, cell_from}
-use Rattle.elem_show.specs.Table.{Table, cell_named, table_of}
-use Rattle.elem_show.proofs.Orders.{filter_once, absent_in_table, found_in_id_order, length-in_id_order}
+use Rattle.request_state.specs.declared.kept.Kept.{Kept}
+use Rattle.request_state.specs.Table.{kept_cell}
 use Rattle.tomb_seq.proofs.Theorems.{no_fault_law}
-use Rattle.policy_book.proofs.Ascending.{length_filter}
+use Rattle.tomb_seq.specs.declared.slot.Slot.{Slot}
 use Rattle.coop_request.specs.declared.request.TheConstants.{MAX_REQUESTS}
 use Rattle.peer_tables.specs.Derived.{counted_in}
-use Rattle.peer_tables.specs.Kept.{AreKnown, IsJoinable, IsPlaceable, is_addable, judged_by, names_after}
-use Rattle.peer_tables.proofs.HistoryLemmas.{once_law, has_order, order_push, no_start_target, placed_append, other_true}
-use Rattle.peer_tables.proofs.KeptLemmas.OneMore.{fresh, not_counted}
-use Rattle.peer_tables.proofs.SameSetLemmas.{IsOnce, read_cells}
+use Rattle.peer_tables.specs.Kept.{AreKnown, AreTablesOf, IsJoinable, IsPlaceable, judged_by, kept_in, names_after}
+use Rattle.peer_tables.proofs.HistoryLemmas.{has_order, order_push, no_start_target, placed_append, other_true}
+use Rattle.peer_tables.proofs.KeptLemmas.OneMore.{fresh}
+use Rattle.peer_tables.proofs.KeptLemmas.States.{cells_kept}
 
 -- an element has a cell
 own_there : (R : List Request) (e : Name) → has_name (elements_of R) e ≡ true → is_some (own_piece R e) ≡ true
@@ -91,31 +91,21 @@ module _ (R : List Request) (L : List Entry) (known : AreKnown R L) (r : Request
   some_cell None C e h = h
   some_cell (Some own) C e h = refl
 
-  module _ (cells : Table) (table : cells ≡ table_of R (counted_in R L)) where
-    once : IsOnce R
-    once = once_law R known.history
+  module _ (slots : List Slot) (table : List Kept) (stamp : ℕ) (kept : AreTablesOf R L slots table stamp) where
+    cell_there : (target : Name) → has_name (elements_of R) target ≡ true → is_some (kept_cell table target) ≡ true
+    cell_there target h = ap is_some (cells_kept R L table known.history kept.in_order kept.states target) ∙ some_cell (own_piece R target) (counted_in R L) target (own_there R target h)
 
-    cell_there : (target : Name) → has_name (elements_of R) target ≡ true → is_some (cell_named cells target) ≡ true
-    cell_there target h = ap (λ (t : Table). is_some (cell_named t target)) table ∙ ap is_some (read_cells R L known.history target) ∙ some_cell (own_piece R target) (counted_in R L) target (own_there R target h)
-
-    addable_by : (edit : Edit) → r.edit ≡ edit → is_addable cells r.id edit ≡ true
-    addable_by (Insert after letter) is =
-        ap (λ (t : Table). is_none (request_of t.inserts r.id)) table ∙ ap is_none (absent_in_table R r.id once (fresh R L known r follows))
-    addable_by (Delete target) is = cell_there target (target_there (Delete target) is (no_start_by (Delete target) is) target refl (no_start_by (Delete target) is))
-    addable_by (Update target letter) is =
+    element_there : (edit : Edit) → r.edit ≡ edit → (is_insert edit || is_some (kept_cell table (element_by r.id edit))) ≡ true
+    element_there (Insert after letter) is = refl
+    element_there (Delete target) is = cell_there target (target_there (Delete target) is (no_start_by (Delete target) is) target refl (no_start_by (Delete target) is))
+    element_there (Update target letter) is =
         cell_there target (target_there (Update target letter) is (no_start_by (Update target letter) is) target refl (no_start_by (Update target letter) is))
 
-    pub addable : is_addable cells r.id r.edit ≡ true
-    addable = addable_by r.edit refl
-
-    pub joinable : length R ≤ MAX_REQUESTS → IsJoinable cells r
+    pub joinable : length R ≤ MAX_REQUESTS → IsJoinable table r
     joinable few = record {
-      new = ap (λ (t : Table). request_of t.counted r.id) table ∙ found_in_id_order (counted_in R L) r.id (filter_once (is_granted (text_order R) L) R once) ∙ not_counted R L known r follows;
-      few =
-          let same = ap (λ (t : Table). length t.counted) table in
-          let ordered = length-in_id_order (counted_in R L) in
-          let counted = length_filter (is_granted (text_order R) L) R in
-          omega (arith, same, ordered, counted, few);
+      new = kept.states r.id ∙ ap (option_map (kept_in R L)) (fresh R L known r follows);
+      element = element_there r.edit refl;
+      few = let size = kept.size in omega (arith, size, few);
     }
 
   -- ---- the verdict

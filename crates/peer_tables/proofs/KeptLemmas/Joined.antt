@@ -26,18 +26,17 @@ use Rattle.check_remote.specs.State.{verdict_at, denial_by, state_by, state_of}
 use Rattle.check_remote.proofs.States.{front_alone}
 use Rattle.request_state.specs.declared.kept.Kept.{Kept}
 use Rattle.request_state.specs.declared.state.State.{State}
-use Rattle.request_state.specs.Table.{kept_of, is_in_order, with_request}
-use Rattle.elem_show.specs.Table.{Table, shows_by}
+use Rattle.request_state.specs.Table.{kept_of, is_in_order, with_request, kept_shows}
 use Rattle.tomb_seq.specs.declared.slot.Slot.{Slot}
 use Rattle.tomb_seq.specs.Slots.{names_in, with_mark}
 use Rattle.peer_tables.specs.Derived.{state_in, missing_in}
 use Rattle.peer_tables.specs.Journal.{FollowsJournal}
-use Rattle.peer_tables.specs.Kept.{AreKnown, IsGivenState, IsJoinable, cells_joined, AreTablesOf, IsKeptOf, IsPlaceable, is_addable, kept_in, names_after, slots_after}
+use Rattle.peer_tables.specs.Kept.{AreKnown, IsGivenState, IsJoinable, AreTablesOf, IsKeptOf, IsPlaceable, names_after, slots_after}
 use Rattle.peer_tables.proofs.JournalLemmas.{log_law, formed_push, requests_request, entries_request, follows_history}
 use Rattle.peer_tables.proofs.HistoryLemmas.{order_push}
 use Rattle.peer_tables.proofs.StableLemmas.{known_law}
-use Rattle.peer_tables.proofs.KeptLemmas.OneMore.{fresh, kept_push}
-use Rattle.peer_tables.proofs.KeptLemmas.Follows.{placeable, addable, joinable}
+use Rattle.peer_tables.proofs.KeptLemmas.OneMore.{kept_push}
+use Rattle.peer_tables.proofs.KeptLemmas.Follows.{placeable, joinable}
 use Rattle.peer_tables.proofs.KeptLemmas.Reads.{read_names, read_has}
 
 -- ---- what is missing depends on which elements there are
@@ -58,12 +57,12 @@ missing_agree front xs ys (Admin e) same =
 pub follows_items : (items J : List Message) (m : Message) → items ≡ J → FollowsJournal J m → FollowsJournal items m
 follows_items items J m is follows = subst (λ (I : List Message). FollowsJournal I m) (sym is) follows
 
-module _ (J : List Message) (log : List Entry) (slots : List Slot) (cells : Table) (table : List Kept) (stamp count : ℕ)
-    (kept : IsKeptOf J log slots cells table stamp count) where
+module _ (J : List Message) (log : List Entry) (slots : List Slot) (table : List Kept) (stamp count : ℕ)
+    (kept : IsKeptOf J log slots table stamp count) where
   -- what a message misses at the front of the log and among the elements that stand is what it misses in the journal
   pub missing_kept : (front : ℕ) (m : Message) → front ≡ length log → missing_of front (names_in slots) m ≡ missing_in J m
   missing_kept front m is =
-      missing_agree front (names_in slots) (elements_of (requests_of J)) m (read_has J log slots cells table stamp count kept)
+      missing_agree front (names_in slots) (elements_of (requests_of J)) m (read_has J log slots table stamp count kept)
       ∙ ap (λ (n : ℕ). missing_of n (elements_of (requests_of J)) m) is
       ∙ ap (λ (L : List Entry). missing_of (length L) (elements_of (requests_of J)) m) kept.entries
 
@@ -71,7 +70,7 @@ module _ (J : List Message) (log : List Entry) (slots : List Slot) (cells : Tabl
   known = subst (λ (L : List Entry). AreKnown (requests_of J) L) (sym kept.entries) (known_law J kept.journal)
 
   names_are : names_in slots ≡ text_order (requests_of J)
-  names_are = read_names J log slots cells table stamp count kept
+  names_are = read_names J log slots table stamp count kept
 
   -- the items of the longer journal, cut again
   pub cut_again : (m : Message) (items : List Message) → items ≡ take (length (J ++ m ∷ []) - 1) (J ++ m ∷ []) → items ≡ J
@@ -81,10 +80,10 @@ module _ (J : List Message) (log : List Entry) (slots : List Slot) (cells : Tabl
       is ∙ ap (λ k. take k (J ++ m ∷ [])) n ∙ take-append-le (length J) J (m ∷ []) (omega arith) ∙ take-length J
 
   -- all is as it was
-  pub kept_again : (items : List Message) (new_slots : List Slot) (new_cells : Table) (new_table : List Kept)
-      → items ≡ J → new_slots ≡ slots → new_cells ≡ cells → new_table ≡ table → IsKeptOf items log new_slots new_cells new_table stamp count
-  kept_again items new_slots new_cells new_table same_items same_slots same_cells same_table =
-      subst (λ (I : List Message). IsKeptOf I log new_slots new_cells new_table stamp count) (sym same_items) (record {
+  pub kept_again : (items : List Message) (new_slots : List Slot) (new_table : List Kept)
+      → items ≡ J → new_slots ≡ slots → new_table ≡ table → IsKeptOf items log new_slots new_table stamp count
+  kept_again items new_slots new_table same_items same_slots same_table =
+      subst (λ (I : List Message). IsKeptOf I log new_slots new_table stamp count) (sym same_items) (record {
         journal = kept.journal;
         formed = kept.formed;
         few = kept.few;
@@ -92,7 +91,6 @@ module _ (J : List Message) (log : List Entry) (slots : List Slot) (cells : Tabl
         entries = kept.entries;
         kept = record {
           marked = same_slots ∙ kept.kept.marked;
-          shown = same_cells ∙ kept.kept.shown;
           states = λ n. ap (λ (t : List Kept). kept_of t n) same_table ∙ kept.kept.states n;
           in_order = ap is_in_order same_table ∙ kept.kept.in_order;
           size = ap (λ (t : List Kept). length t) same_table ∙ kept.kept.size;
@@ -117,14 +115,8 @@ module _ (J : List Message) (log : List Entry) (slots : List Slot) (cells : Tabl
     pub placeable_here : IsPlaceable (names_in slots) q.id q.edit
     placeable_here = subst (λ (names : List Name). IsPlaceable names q.id q.edit) (sym names_are) (placeable (requests_of J) log known q may_follow)
 
-    pub joinable_here : IsJoinable cells q
-    joinable_here = joinable (requests_of J) log known q may_follow cells kept.kept.shown kept.few
-
-    pub addable_here : is_addable cells q.id q.edit ≡ true
-    addable_here = addable (requests_of J) log known q may_follow cells kept.kept.shown
-
-    pub absent_here : kept_of table q.id ≡ None
-    absent_here = kept.kept.states q.id ∙ ap (option_map (kept_in (requests_of J) log)) (fresh (requests_of J) log known q may_follow)
+    pub joinable_here : IsJoinable table q
+    joinable_here = joinable (requests_of J) log known q may_follow slots table stamp kept.kept kept.few
 
     pub state_here : state_of (names_after (names_in slots) q.id q.edit) log q ≡ state_in (requests_of J ++ q ∷ []) log q
     state_here =
@@ -135,25 +127,25 @@ module _ (J : List Message) (log : List Entry) (slots : List Slot) (cells : Tabl
     given_here None h = tt
     given_here (Some s) h = h ∙ ap (λ (L : List Entry). state_in (requests_of J ++ q ∷ []) L q) (sym kept.entries) ∙ sym state_here
 
-    pub grown : (items : List Message) (new_slots : List Slot) (new_cells : Table) (new_table : List Kept) (state : State)
+    pub grown : (items : List Message) (new_slots : List Slot) (new_table : List Kept) (state : State)
         → items ≡ J ++ Coop q ∷ [] → is_message (Coop q) ≡ true → length (requests_of J) < MAX_REQUESTS
         → state ≡ state_of (names_after (names_in slots) q.id q.edit) log q
-        → new_slots ≡ with_mark (slots_after slots q.id q.edit) (element_of q) (shows_by new_cells (element_of q))
-        → new_cells ≡ cells_joined cells q state → new_table ≡ with_request table q state
-        → IsKeptOf items log new_slots new_cells new_table (max stamp q.id.stamp) (count + 1)
-    grown items new_slots new_cells new_table state is formed room judged marked joined states =
+        → new_slots ≡ with_mark (slots_after slots q.id q.edit) (element_of q) (kept_shows new_table (element_of q))
+        → new_table ≡ with_request table q state
+        → IsKeptOf items log new_slots new_table (max stamp q.id.stamp) (count + 1)
+    grown items new_slots new_table state is formed room judged marked states =
         let R = requests_of J in
         let s : state ≡ state_in (R ++ q ∷ []) log q = judged ∙ state_here in
         let more = requests_request J q in
         let size = length-append R (q ∷ []) in
-        let all : AreTablesOf (R ++ q ∷ []) log new_slots new_cells new_table (max stamp q.id.stamp) =
-        kept_push R log known q may_follow slots new_slots cells new_cells table new_table stamp kept.kept marked
-        (joined ∙ ap (cells_joined cells q) s) (states ∙ ap (with_request table q) s) in
-        subst (λ (I : List Message). IsKeptOf I log new_slots new_cells new_table (max stamp q.id.stamp) (count + 1)) (sym is) (record {
+        let all : AreTablesOf (R ++ q ∷ []) log new_slots new_table (max stamp q.id.stamp) =
+        kept_push R log known q may_follow slots new_slots table new_table stamp kept.kept marked
+        (states ∙ ap (with_request table q) s) in
+        subst (λ (I : List Message). IsKeptOf I log new_slots new_table (max stamp q.id.stamp) (count + 1)) (sym is) (record {
           journal = EachAfter-push FollowsJournal J (Coop q) kept.journal follows;
           formed = formed_push J (Coop q) kept.formed formed;
           few = rw more (omega (arith, size, room));
           counted = let c = kept.counted in rw more (omega (arith, size, c));
           entries = kept.entries ∙ sym (entries_request J q);
-          kept = subst (λ (S : List Request). AreTablesOf S log new_slots new_cells new_table (max stamp q.id.stamp)) (sym more) all;
+          kept = subst (λ (S : List Request). AreTablesOf S log new_slots new_table (max stamp q.id.stamp)) (sym more) all;
         })

@@ -12,9 +12,8 @@ use Rattle.edit_message.specs.Message.{requests_of, entries_of}
 use Rattle.request_state.specs.declared.kept.Kept.{Kept}
 use Rattle.request_state.specs.State.{is_tentative}
 use Rattle.request_state.specs.Lines.{lesser}
-use Rattle.request_state.specs.Table.{is_in_order, name_of, first_tentative}
+use Rattle.request_state.specs.Table.{is_in_order, name_of, first_tentative, requests_kept}
 use Rattle.retro_undo.proofs.Found.{IsAbove, first_below, rest_in_order}
-use Rattle.elem_show.specs.Table.{Table}
 use Rattle.elem_show.proofs.Orders.{filter_once}
 use Rattle.elem_show.proofs.Cells.{together-set}
 use Rattle.tomb_seq.proofs.Has.{Has}
@@ -25,7 +24,7 @@ use Rattle.peer_tables.specs.Awaiting.{least_name, awaits, least_awaiting}
 use Rattle.peer_tables.proofs.JournalLemmas.{history_law}
 use Rattle.peer_tables.proofs.HistoryLemmas.{once_law}
 use Rattle.peer_tables.proofs.SameSetLemmas.{IsOnce, AreAlike, filter_alike}
-use Rattle.peer_tables.proofs.KeptLemmas.Tables.{requests_in, requests_once, requests_alike, IsBy, stands}
+use Rattle.peer_tables.proofs.KeptLemmas.Tables.{requests_once, requests_alike, IsBy, stands}
 
 -- ---- the lesser of names
 
@@ -80,30 +79,30 @@ least_alike xs ys once_x once_y alike =
 
 -- ---- the first of a table in order is the least
 
-least_above : (test : Request → Bool) (n : Name) (table : List Kept) → AllByRecursion (IsAbove n) table → lesser (Some n) (least (filter test (requests_in table))) ≡ Some n
+least_above : (test : Request → Bool) (n : Name) (table : List Kept) → AllByRecursion (IsAbove n) table → lesser (Some n) (least (filter test (requests_kept table))) ≡ Some n
 least_above test n [] all = refl
 least_above test n (k ∷ table) all = by (test k.request) (least_above test n table all.1)
   where
-    by : (b : Bool) → lesser (Some n) (least (filter test (requests_in table))) ≡ Some n
-        → lesser (Some n) (least (if b then k.request ∷ filter test (requests_in table) else filter test (requests_in table))) ≡ Some n
+    by : (b : Bool) → lesser (Some n) (least (filter test (requests_kept table))) ≡ Some n
+        → lesser (Some n) (least (if b then k.request ∷ filter test (requests_kept table) else filter test (requests_kept table))) ≡ Some n
     by false rest = rest
     by true rest =
         let below : name_lt k.request.id n ≡ false = name_lt-asym n k.request.id all.0 in
-        let more : Option Name = least (filter test (requests_in table)) in
+        let more : Option Name = least (filter test (requests_kept table)) in
         sym (lesser_assoc (Some n) (Some k.request.id) more)
         ∙ ap (λ b. lesser (Some (if b then k.request.id else n)) more) below
         ∙ rest
 
 first_least : (test : Kept → Bool) (other : Request → Bool) (table : List Kept) → is_in_order table ≡ true → ((k : Kept) → Has table k → test k ≡ other k.request)
-    → option_map name_of (find test table) ≡ least (filter other (requests_in table))
+    → option_map name_of (find test table) ≡ least (filter other (requests_kept table))
 first_least test other [] order agree = refl
 first_least test other (k ∷ table) order agree =
     ap (λ b. option_map name_of (if b then Some k else find test table)) (agree k (inl refl))
     ∙ by (other k.request) (first_least test other table (rest_in_order k table order) (λ x h. agree x (inr h)))
   where
-    by : (b : Bool) → option_map name_of (find test table) ≡ least (filter other (requests_in table))
+    by : (b : Bool) → option_map name_of (find test table) ≡ least (filter other (requests_kept table))
         → option_map name_of (if b then Some k else find test table)
-        ≡ least (if b then k.request ∷ filter other (requests_in table) else filter other (requests_in table))
+        ≡ least (if b then k.request ∷ filter other (requests_kept table) else filter other (requests_kept table))
     by true rest = sym (least_above other k.request.id table (first_below k table order))
     by false rest = rest
 
@@ -112,12 +111,12 @@ first_awaiting : (R : List Request) (L : List Entry) (table : List Kept) → IsO
 first_awaiting R L table once order is =
     first_least (λ k. is_tentative k.state && not (k.request.id.site == 0)) (awaits R L) table order
     (λ k h. ap (λ s. is_tentative s && not (k.request.id.site == 0)) (stands (state_in R L) R table k order is h).state)
-    ∙ least_alike (filter (awaits R L) (requests_in table)) (filter (awaits R L) R)
-    (filter_once (awaits R L) (requests_in table) (requests_once table order)) (filter_once (awaits R L) R once)
-    (filter_alike (awaits R L) (requests_in table) R (requests_once table order) once (requests_alike (state_in R L) R table is))
+    ∙ least_alike (filter (awaits R L) (requests_kept table)) (filter (awaits R L) R)
+    (filter_once (awaits R L) (requests_kept table) (requests_once table order)) (filter_once (awaits R L) R once)
+    (filter_alike (awaits R L) (requests_kept table) R (requests_once table order) once (requests_alike (state_in R L) R table is))
 
-pub journal_awaiting : (J : List Message) (L : List Entry) (slots : List Slot) (cells : Table) (table : List Kept) (stamp count : ℕ)
-    → IsKeptOf J L slots cells table stamp count → first_tentative table ≡ least_awaiting (requests_of J) (entries_of J)
-journal_awaiting J L slots cells table stamp count k =
+pub journal_awaiting : (J : List Message) (L : List Entry) (slots : List Slot) (table : List Kept) (stamp count : ℕ)
+    → IsKeptOf J L slots table stamp count → first_tentative table ≡ least_awaiting (requests_of J) (entries_of J)
+journal_awaiting J L slots table stamp count k =
     first_awaiting (requests_of J) L table (once_law (requests_of J) (history_law J k.journal)) k.kept.in_order k.kept.states
     ∙ ap (least_awaiting (requests_of J)) k.entries

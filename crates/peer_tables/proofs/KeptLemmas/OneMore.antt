@@ -1,5 +1,5 @@
 -- What is kept of requests and a log, with one more request.
-use Rattle.std.proofs.Common.{rules, ◌≡◌, ℕ, ◌+◌, inl, inr, Bool, true, false, not, List, [], ◌∷◌, ◌++◌, length, None, Some, refl, ap, sym, ◌∙◌, arith, length-append}
+use Rattle.std.proofs.Common.{◌≡◌, ℕ, ◌+◌, inl, inr, Bool, true, false, not, List, [], ◌∷◌, ◌++◌, length, None, Some, refl, ap, sym, ◌∙◌, arith, length-append}
 use Rattle.std.specs.Prelude.{filter, max, option_map, option_and_then, is_some, if◌then◌else◌}
 use Rattle.std.specs.declared.option.Option.{Option}
 use Rattle.std.specs.Option.{option_or}
@@ -21,24 +21,23 @@ use Rattle.coop_request.specs.Request.{Request, element_of}
 use Rattle.coop_request.specs.History.{request_of, text_order, FollowsHistory, IsHistory}
 use Rattle.policy_book.specs.Entry.{Entry}
 use Rattle.auth_match.proofs.FirstMatches.{find_none}
-use Rattle.request_state.specs.declared.state.State.{State}
 use Rattle.request_state.specs.declared.kept.Kept.{Kept}
 use Rattle.request_state.specs.State.{is_invalid}
-use Rattle.request_state.specs.Table.{name_of, kept_of, with_request, is_in_order}
-use Rattle.check_remote.specs.State.{is_granted, state_of}
-use Rattle.elem_show.specs.Cell.{cell_from, cell_of, own_piece, shown}
-use Rattle.elem_show.specs.Table.{Table, including, in_id_order, table_of, shows_by}
-use Rattle.elem_show.proofs.Orders.{inserts_in, inserts-insert, inserts-other, in_id_order-snoc}
-use Rattle.elem_show.proofs.Cells.{cell_from-snoc}
-use Rattle.elem_show.proofs.Tables.{with_elsewhere}
+use Rattle.request_state.specs.Table.{name_of, kept_of, with_request, is_in_order, kept_shows}
+use Rattle.check_remote.specs.State.{is_granted}
+use Rattle.elem_show.specs.Cell.{cell_from, cell_of, own_of, own_piece, shown}
+use Rattle.elem_show.proofs.Orders.{own_piece-found}
+use Rattle.elem_show.proofs.Cells.{cell_from-snoc, with_elsewhere}
 use Rattle.tomb_seq.specs.declared.slot.Slot.{Slot}
 use Rattle.tomb_seq.specs.Slots.{slots_by, with_mark}
 use Rattle.tomb_seq.proofs.Has.{Has}
 use Rattle.tomb_seq.proofs.MarkLemmas.{slots_agree, with_new_by, with_mark_by}
 use Rattle.peer_tables.specs.Derived.{state_in, counted_in, greatest_stamp}
-use Rattle.peer_tables.specs.Kept.{AreKnown, AreTablesOf, cells_joined, counted_more, kept_in, names_after, shows_in, slots_after}
+use Rattle.peer_tables.specs.Kept.{AreKnown, AreTablesOf, counted_more, kept_in, names_after, shows_in, slots_after}
 use Rattle.peer_tables.proofs.HistoryLemmas.{once_law, order_push}
-use Rattle.peer_tables.proofs.SameSetLemmas.{found_has, own_by, filter_found, piece_made, read_cells}
+use Rattle.peer_tables.proofs.SameSetLemmas.{found_has, filter_found}
+use Rattle.peer_tables.proofs.KeptLemmas.Tables.{granted_valid}
+use Rattle.peer_tables.proofs.KeptLemmas.States.{shows_kept}
 use Rattle.peer_tables.proofs.StableLemmas.{state_more}
 
 -- ---- names in order, with one more
@@ -86,10 +85,6 @@ module _ {A : Type 0} (name : A → Name) where
 filter_members : {X : Type 0} (f g : X → Bool) (xs : List X) → ((x : X) → Has xs x → f x ≡ g x) → filter f xs ≡ filter g xs
 filter_members f g [] same = refl
 filter_members f g (x ∷ xs) same = rw (same x (inl refl)) (ap (λ ys. if g x then x ∷ ys else ys) (filter_members f g xs (λ y h. same y (inr h))))
-
--- the granted requests are those that aren't Invalid
-pub granted_valid : (names : List Name) (L : List Entry) (q : Request) → is_granted names L q ≡ not (is_invalid (state_of names L q))
-granted_valid names L q = search rules
 
 -- ---- one more request
 
@@ -139,21 +134,21 @@ module _ (R : List Request) (L : List Entry) (known : AreKnown R L) (r : Request
 
   own_more : (e : Name) → name_eq (element_of r) e ≡ false → own_piece (R ++ r ∷ []) e ≡ own_piece R e
   own_more e other =
-      own_by (R ++ r ∷ []) e (once_law (R ++ r ∷ []) longer) ∙ by (name_eq r.id e) refl ∙ sym (own_by R e (once_law R known.history))
+      own_piece-found (R ++ r ∷ []) e (once_law (R ++ r ∷ []) longer) ∙ by (name_eq r.id e) refl ∙ sym (own_piece-found R e (once_law R known.history))
     where
       no_insert : (id : Name) (edit : Edit) → name_eq (element_by id edit) e ≡ false → name_eq id e ≡ true → given (is_insert edit) (piece_in edit) ≡ None
       no_insert id (Insert after letter) f t = absurd cc
       no_insert id (Delete target) f t = refl
       no_insert id (Update target letter) f t = refl
 
-      by : (b : Bool) → name_eq r.id e ≡ b → option_and_then piece_made (request_of (R ++ r ∷ []) e) ≡ option_and_then piece_made (request_of R e)
-      by false f = ap (option_and_then piece_made) (found_other e f)
+      by : (b : Bool) → name_eq r.id e ≡ b → option_and_then own_of (request_of (R ++ r ∷ []) e) ≡ option_and_then own_of (request_of R e)
+      by false f = ap (option_and_then own_of) (found_other e f)
       by true t =
           let here : e ≡ r.id = sym (same_name r.id e t) in
-          ap (λ n. option_and_then piece_made (request_of (R ++ r ∷ []) n)) here
-          ∙ ap (option_and_then piece_made) found_own
+          ap (λ n. option_and_then own_of (request_of (R ++ r ∷ []) n)) here
+          ∙ ap (option_and_then own_of) found_own
           ∙ no_insert r.id r.edit other t
-          ∙ sym (ap (λ n. option_and_then piece_made (request_of R n)) here ∙ ap (option_and_then piece_made) fresh)
+          ∙ sym (ap (λ n. option_and_then own_of (request_of R n)) here ∙ ap (option_and_then own_of) fresh)
 
   pub cell_more : (e : Name) → name_eq (element_of r) e ≡ false → cell_of (R ++ r ∷ []) (counted_in (R ++ r ∷ []) L) e ≡ cell_of R (counted_in R L) e
   cell_more e other =
@@ -176,7 +171,7 @@ module _ (R : List Request) (L : List Entry) (known : AreKnown R L) (r : Request
   -- the new element doesn't show before
 
   pub no_own : own_piece R r.id ≡ None
-  no_own = own_by R r.id (once_law R known.history) ∙ ap (option_and_then piece_made) fresh
+  no_own = own_piece-found R r.id (once_law R known.history) ∙ ap (option_and_then own_of) fresh
 
   shows_not : shows_in R L r.id ≡ false
   shows_not = ap (λ (o : Option (List ℕ)). is_some (option_and_then shown (option_map (λ own. cell_from r.id own (counted_in R L)) o))) no_own
@@ -222,43 +217,21 @@ module _ (R : List Request) (L : List Entry) (known : AreKnown R L) (r : Request
   pub stamp_push : greatest_stamp (R ++ r ∷ []) ≡ max (greatest_stamp R) r.id.stamp
   stamp_push = fold-append (λ stamp (q : Request). max stamp q.id.stamp) 0 R (r ∷ [])
 
-  -- the table of elements
-  cells_push : (state : State) → cells_joined (table_of R (counted_in R L)) r state ≡ table_of (R ++ r ∷ []) (counted_more (counted_in R L) r state)
-  cells_push state = by (is_insert r.edit) refl (is_invalid state)
-    where
-      C : List Request
-      C = counted_in R L
-
-      by : (inserted : Bool) → is_insert r.edit ≡ inserted → (out : Bool)
-          → (if out then (if inserted then record (table_of R C) { inserts = including r (table_of R C).inserts } else table_of R C)
-          else record (if inserted then record (table_of R C) { inserts = including r (table_of R C).inserts } else table_of R C) {
-            counted = including r (if inserted then record (table_of R C) { inserts = including r (table_of R C).inserts } else table_of R C).counted;
-          }) ≡ table_of (R ++ r ∷ []) (if out then C else C ++ r ∷ [])
-      by true is true = ap (λ inserts. record { inserts = inserts; counted = in_id_order C }) (sym (inserts-insert R r is fresh))
-      by true is false = ap (λ inserts. record { inserts = inserts; counted = including r (in_id_order C) }) (sym (inserts-insert R r is fresh))
-          ∙ ap (λ counted. record { inserts = in_id_order (inserts_in (R ++ r ∷ [])); counted = counted }) (sym (in_id_order-snoc C r not_counted))
-      by false is true = ap (λ inserts. record { inserts = in_id_order inserts; counted = in_id_order C }) (sym (inserts-other R r is))
-      by false is false = ap (λ inserts. record { inserts = in_id_order inserts; counted = including r (in_id_order C) }) (sym (inserts-other R r is))
-          ∙ ap (λ counted. record { inserts = in_id_order (inserts_in (R ++ r ∷ [])); counted = counted }) (sym (in_id_order-snoc C r not_counted))
-
   -- all of it
-  pub kept_push : (slots new_slots : List Slot) (cells new_cells : Table) (table new_table : List Kept) (stamp : ℕ)
-      → AreTablesOf R L slots cells table stamp
-      → new_slots ≡ with_mark (slots_after slots r.id r.edit) (element_of r) (shows_by new_cells (element_of r))
-      → new_cells ≡ cells_joined cells r (state_in (R ++ r ∷ []) L r)
+  pub kept_push : (slots new_slots : List Slot) (table new_table : List Kept) (stamp : ℕ)
+      → AreTablesOf R L slots table stamp
+      → new_slots ≡ with_mark (slots_after slots r.id r.edit) (element_of r) (kept_shows new_table (element_of r))
       → new_table ≡ with_request table r (state_in (R ++ r ∷ []) L r)
-      → AreTablesOf (R ++ r ∷ []) L new_slots new_cells new_table (max stamp r.id.stamp)
-  kept_push slots new_slots cells new_cells table new_table stamp kept marked joined states =
-      let state = state_in (R ++ r ∷ []) L r in
-      let table_is : new_cells ≡ table_of (R ++ r ∷ []) (counted_in (R ++ r ∷ []) L) =
-      joined ∙ ap (λ (t : Table). cells_joined t r state) kept.shown ∙ cells_push state ∙ ap (table_of (R ++ r ∷ [])) (sym counted_push) in
+      → AreTablesOf (R ++ r ∷ []) L new_slots new_table (max stamp r.id.stamp)
+  kept_push slots new_slots table new_table stamp kept marked states =
       let absent : kept_of table r.id ≡ None = kept.states r.id ∙ ap (option_map (kept_in R L)) fresh in
+      let found : (n : Name) → kept_of new_table n ≡ option_map (kept_in (R ++ r ∷ []) L) (request_of (R ++ r ∷ []) n) = λ n. ap (λ (t : List Kept). kept_of t n) states ∙ states_push table kept.states n in
+      let order : is_in_order new_table ≡ true = ap is_in_order states ∙ ascending-put name_of (kept_in (R ++ r ∷ []) L r) table absent kept.in_order in
       record {
-        marked = marked ∙ ap (λ (ss : List Slot). with_mark (slots_after ss r.id r.edit) (element_of r) (shows_by new_cells (element_of r))) kept.marked
-            ∙ slots_push (shows_by new_cells (element_of r)) (ap (λ (t : Table). shows_by t (element_of r)) table_is ∙ ap (λ c. is_some (option_and_then shown c)) (read_cells (R ++ r ∷ []) L longer (element_of r)));
-        shown = table_is;
-        states = λ n. ap (λ (t : List Kept). kept_of t n) states ∙ states_push table kept.states n;
-        in_order = ap is_in_order states ∙ ascending-put name_of (kept_in (R ++ r ∷ []) L r) table absent kept.in_order;
+        marked = marked ∙ ap (λ (ss : List Slot). with_mark (slots_after ss r.id r.edit) (element_of r) (kept_shows new_table (element_of r))) kept.marked
+            ∙ slots_push (kept_shows new_table (element_of r)) (shows_kept (R ++ r ∷ []) L new_table longer order found (element_of r));
+        states = found;
+        in_order = order;
         size = ap (λ (t : List Kept). length t) states ∙ length-put_named name_of (kept_in (R ++ r ∷ []) L r) table ∙ ap (λ k. k + 1) kept.size ∙ sym (length-append R (r ∷ []));
         greatest = ap (λ s. max s r.id.stamp) kept.greatest ∙ sym stamp_push;
       }

@@ -1,6 +1,5 @@
 -- One more request among what is kept, and taken out again.
-use Rattle.std.proofs.Common.{◌≡◌, ℕ, Bool, true, false, not, List, ◌∷◌, take, drop, insert, None, ap, sym, ◌∙◌}
-use Rattle.std.specs.Prelude.{if◌then◌else◌}
+use Rattle.std.proofs.Common.{◌≡◌, ℕ, true, false, not, List, ◌∷◌, take, drop, insert, ap, sym, ◌∙◌}
 use Rattle.std.proofs.Math.ListN.{take-append-drop}
 use Rattle.std.proofs.lemmas.List.Elements.{filter-append}
 use Rattle.element_name.specs.Name.{Name, name_eq, has_name}
@@ -9,17 +8,11 @@ use Rattle.element_name.proofs.NameOrder.{name_eq-refl}
 use Rattle.coop_request.specs.declared.edit.Edit.{Edit}
 use Rattle.coop_request.specs.declared.edit.Edit.TheVariants.{Insert, Delete, Update}
 use Rattle.coop_request.specs.Edit.{is_insert, element_by}
-use Rattle.coop_request.specs.Request.{Request}
-use Rattle.coop_request.specs.History.{request_of}
 use Rattle.auth_match.proofs.OneMore.{has_new}
-use Rattle.elem_show.specs.Table.{Table, including}
 use Rattle.tomb_seq.specs.declared.slot.Slot.{Slot}
 use Rattle.tomb_seq.specs.Slots.{names_in, without_slot}
 use Rattle.tomb_seq.proofs.SlotEdits.{IsFree-no_fault, without_none}
-use Rattle.peer_tables.proofs.JournalLemmas.{none_is}
-use Rattle.peer_tables.specs.Kept.{names_after, slots_after, IsPlaceable, is_addable, with_element, with_one_counted}
-
--- ---- the element
+use Rattle.peer_tables.specs.Kept.{names_after, slots_after, IsPlaceable}
 
 without_insert : (slots : List Slot) (k : ℕ) (s : Slot) → has_name (names_in slots) s.name ≡ false → without_slot (insert slots k s) s.name ≡ slots
 without_insert slots k s h =
@@ -41,19 +34,3 @@ pub placed_element : (names : List Name) (id : Name) (edit : Edit) → IsPlaceab
 placed_element names id (Insert after letter) placeable = has_new names (skip names id after) id
 placed_element names id (Delete target) placeable = placeable
 placed_element names id (Update target letter) placeable = placeable
-
--- ---- its cell
-
--- an insert's element is new
-pub new_insert : (cells : Table) (q : Request) → is_addable cells q.id q.edit ≡ true → is_insert q.edit ≡ true → request_of cells.inserts q.id ≡ None
-new_insert cells q addable is = by q.edit addable is
-  where
-    by : (edit : Edit) → is_addable cells q.id edit ≡ true → is_insert edit ≡ true → request_of cells.inserts q.id ≡ None
-    by (Insert after letter) a i = none_is (request_of cells.inserts q.id) a
-    by (Delete target) a i = absurd cc
-    by (Update target letter) a i = absurd cc
-
--- what an insert leaves where it counts
-pub insert_counted : (cells new : Table) (q : Request) → is_insert q.edit ≡ true
-    → new ≡ record { inserts = including q cells.inserts; counted = including q cells.counted } → new ≡ with_one_counted (with_element cells q) q
-insert_counted cells new q insert is = is ∙ ap (λ (b : Bool). with_one_counted (if b then record cells { inserts = including q cells.inserts } else cells) q) (sym insert)

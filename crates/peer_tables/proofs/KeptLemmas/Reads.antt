@@ -25,8 +25,7 @@ use Rattle.edit_message.specs.declared.message.Message.TheVariants.{Coop, Admin}
 use Rattle.edit_message.specs.Message.{requests_of, entries_of}
 use Rattle.admin_log.specs.Log.{FollowsLog}
 use Rattle.request_state.specs.declared.kept.Kept.{Kept}
-use Rattle.request_state.specs.Table.{kept_state as table_state}
-use Rattle.elem_show.specs.Table.{Table, cell_named as table_cell}
+use Rattle.request_state.specs.Table.{kept_cell, kept_state as table_state}
 use Rattle.tomb_seq.specs.declared.slot.Slot.{Slot}
 use Rattle.tomb_seq.specs.Slots.{names_in, marked_names as shown_slots}
 use Rattle.tomb_seq.proofs.MarkLemmas.{names_by, shown_by}
@@ -35,7 +34,7 @@ use Rattle.peer_tables.specs.Derived.{state_in, cell_in, shown_in, greatest_stam
 use Rattle.peer_tables.specs.Journal.{IsJournal, IsWithin}
 use Rattle.peer_tables.specs.Kept.{IsKeptOf, kept_in, shows_in}
 use Rattle.peer_tables.proofs.JournalLemmas.{history_law, log_law}
-use Rattle.peer_tables.proofs.SameSetLemmas.{read_cells}
+use Rattle.peer_tables.proofs.KeptLemmas.States.{cells_kept}
 use Rattle.peer_tables.proofs.HistoryLemmas.{has_order}
 
 -- ---- limits
@@ -98,8 +97,8 @@ order_size R each =
 
 -- ---- readers
 
-module _ (J : List Message) (log : List Entry) (slots : List Slot) (cells : Table) (table : List Kept) (stamp count : ℕ)
-    (kept : IsKeptOf J log slots cells table stamp count) where
+module _ (J : List Message) (log : List Entry) (slots : List Slot) (table : List Kept) (stamp count : ℕ)
+    (kept : IsKeptOf J log slots table stamp count) where
   pub within : IsWithin J
   within = record {
     journal_is = kept.journal;
@@ -120,8 +119,8 @@ module _ (J : List Message) (log : List Entry) (slots : List Slot) (cells : Tabl
       by None = refl
       by (Some q) = refl
 
-  pub read_cell : (e : Name) → table_cell cells e ≡ cell_in (requests_of J) (entries_of J) e
-  read_cell e = ap (λ (t : Table). table_cell t e) kept.kept.shown ∙ read_cells (requests_of J) log (history_law J kept.journal) e ∙ ap (λ (L : List Entry). cell_in (requests_of J) L e) kept.entries
+  pub read_cell : (e : Name) → kept_cell table e ≡ cell_in (requests_of J) (entries_of J) e
+  read_cell e = cells_kept (requests_of J) log table history kept.kept.in_order kept.kept.states e ∙ ap (λ (L : List Entry). cell_in (requests_of J) L e) kept.entries
 
   pub read_names : names_in slots ≡ text_order (requests_of J)
   read_names = ap names_in kept.kept.marked ∙ names_by (shows_in (requests_of J) log) (text_order (requests_of J))

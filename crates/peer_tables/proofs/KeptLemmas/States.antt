@@ -1,6 +1,6 @@
 -- What an entry makes of the states of requests, and of those that count.
 use Rattle.std.proofs.Common.{◌≡◌, ℕ, ◌≤◌, Bool, true, false, not, ◌&&◌, ◌||◌, List, [], ◌∷◌, ◌++◌, length, take, get_or, None, Some, refl, sym, ap, subst, ◌∙◌, arith, length-append}
-use Rattle.std.specs.Prelude.{max, is_none, option_map, option_and_then}
+use Rattle.std.specs.Prelude.{max, is_none, is_some, option_map, option_and_then}
 use Rattle.std.specs.declared.option.Option.{Option}
 use Rattle.std.specs.Option.{option_map_or}
 use Rattle.std.proofs.Math.Seq.{take-length}
@@ -26,17 +26,21 @@ use Rattle.request_state.specs.declared.state.State.{State}
 use Rattle.request_state.specs.declared.state.State.TheVariants.{Tentative, Valid, Invalid}
 use Rattle.request_state.specs.declared.kept.Kept.{Kept}
 use Rattle.request_state.specs.State.{is_tentative, is_invalid}
-use Rattle.request_state.specs.Table.{is_in_order}
+use Rattle.request_state.specs.Table.{is_in_order, requests_kept, counted_of, kept_cell, kept_shows}
+use Rattle.elem_show.specs.Cell.{Cell, shown}
+use Rattle.elem_show.proofs.Orders.{cell_of-sets, filter_once}
 use Rattle.check_remote.specs.State.{until, is_granted, first_denial, state_by, state_of}
 use Rattle.check_remote.specs.Laws.{state_after_entry as judged_after}
 use Rattle.check_remote.proofs.States.{granted_law}
-use Rattle.retro_undo.specs.Undo.{state_after_verdict as swept_after, is_denied, counted_of}
+use Rattle.retro_undo.specs.Undo.{state_after_verdict as swept_after, is_denied}
 use Rattle.tomb_seq.proofs.Has.{Has}
 use Rattle.peer_tables.specs.Awaiting.{validated_by}
-use Rattle.peer_tables.specs.Derived.{state_in, counted_in}
+use Rattle.peer_tables.specs.Derived.{state_in, counted_in, cell_in}
+use Rattle.peer_tables.specs.Kept.{shows_in}
 use Rattle.peer_tables.proofs.SameSetLemmas.{IsOnce, AreAlike, found_has, filter_found}
-use Rattle.peer_tables.proofs.KeptLemmas.OneMore.{granted_valid}
-use Rattle.peer_tables.proofs.KeptLemmas.Tables.{counts_by, counted_found, kept_by, IsBy}
+use Rattle.peer_tables.proofs.HistoryLemmas.{once_law}
+use Rattle.coop_request.specs.History.{IsHistory}
+use Rattle.peer_tables.proofs.KeptLemmas.Tables.{counts_by, counted_found, counted_once, requests_once, requests_alike, granted_valid, kept_by, IsBy}
 
 -- ---- states
 
@@ -186,6 +190,17 @@ counted_law f R M table once order is agree n =
     each : (o : Option Request) → request_of R n ≡ o → option_and_then counts_by (option_map (kept_by f) o) ≡ option_and_then (λ q. when (is_granted (text_order R) M q) q) o
     each None e = refl
     each (Some q) e = ap (λ b. when b q) (ap not (agree q (found_has R n q e)) ∙ sym (granted_valid (text_order R) M q))
+
+-- the cells of a table are those of the definition
+pub cells_kept : (R : List Request) (L : List Entry) (table : List Kept) → IsHistory R → is_in_order table ≡ true → IsBy (state_in R L) R table → (e : Name) → kept_cell table e ≡ cell_in R L e
+cells_kept R L table history order is e =
+    let once = once_law R history in
+    cell_of-sets (requests_kept table) R (counted_of table) (counted_in R L) e (requests_once table order) once (requests_alike (state_in R L) R table is)
+    (counted_once table order) (filter_once (is_granted (text_order R) L) R once) (counted_law (state_in R L) R L table once order is (λ q h. refl))
+
+-- and the same elements show
+pub shows_kept : (R : List Request) (L : List Entry) (table : List Kept) → IsHistory R → is_in_order table ≡ true → IsBy (state_in R L) R table → (e : Name) → kept_shows table e ≡ shows_in R L e
+shows_kept R L table history order is e = ap (λ (c : Option Cell). is_some (option_and_then shown c)) (cells_kept R L table history order is e)
 
 pub reached_by : (t d x : Bool) → (t ≡ true → x ≡ false → d ≡ false) → (not (t && d) || x) ≡ true
 reached_by true true true h = refl

@@ -1,5 +1,5 @@
 -- A table of states in which each request of a list has its state.
-use Rattle.std.proofs.Common.{◌≡◌, ◌+◌, inl, inr, Bool, true, false, not, cond, ◌&&◌, List, [], ◌∷◌, map, None, Some, refl, sym, ap, subst, ◌∙◌, arith}
+use Rattle.std.proofs.Common.{rules, ◌≡◌, ◌+◌, inl, inr, Bool, true, false, not, cond, ◌&&◌, List, [], ◌∷◌, map, None, Some, refl, sym, ap, subst, ◌∙◌, arith}
 use Rattle.std.specs.Prelude.{filter, count_by, option_map, option_and_then, if◌then◌else◌}
 use Rattle.std.specs.declared.option.Option.{Option}
 use Rattle.std.specs.List.{list_all, AllByRecursion}
@@ -12,12 +12,12 @@ use Rattle.coop_request.specs.History.{request_of}
 use Rattle.request_state.specs.declared.kept.Kept.{Kept}
 use Rattle.request_state.specs.declared.state.State.{State}
 use Rattle.request_state.specs.State.{is_invalid}
-use Rattle.request_state.specs.Table.{kept_of, is_in_order}
-use Rattle.retro_undo.specs.Undo.{counted_of}
+use Rattle.request_state.specs.Table.{kept_of, is_in_order, requests_kept, counted_of}
+use Rattle.check_remote.specs.State.{is_granted, state_of}
+use Rattle.policy_book.specs.Entry.{Entry}
 use Rattle.retro_undo.proofs.Parts.{count_cons}
 use Rattle.retro_undo.proofs.Found.{IsAbove, first_below, rest_in_order}
 use Rattle.tomb_seq.proofs.Has.{Has}
-use Rattle.elem_show.specs.Table.{including, in_id_order}
 use Rattle.elem_show.proofs.Cells.{once-cons, together-set}
 use Rattle.peer_tables.proofs.SameSetLemmas.{IsOnce, AreAlike, found_has}
 
@@ -55,6 +55,10 @@ module _ {X : Type 0} where
   all_at P [] x all h = absurd h
   all_at P (y ∷ ys) x all (inl p) = subst P p all.0
   all_at P (y ∷ ys) x all (inr h) = all_at P ys x all.1 h
+
+-- the granted requests are those that aren't Invalid
+pub granted_valid : (names : List Name) (L : List Entry) (q : Request) → is_granted names L q ≡ not (is_invalid (state_of names L q))
+granted_valid names L q = search rules
 
 -- ---- alike lists of requests have as many that pass a test
 
@@ -107,54 +111,30 @@ counted_once (k ∷ table) order = by (is_invalid k.state) (counted_once table (
         once-cons k.request (counted_of table) rest
         (counted_found table k.request.id (rest_in_order k table order) ∙ ap (option_and_then counts_by) (none_above k.request.id table (first_below k table order)))
 
--- they are in order of name
-counted_first : (q : Request) (table : List Kept) → AllByRecursion (IsAbove q.id) table → including q (counted_of table) ≡ q ∷ counted_of table
-counted_first q [] all = refl
-counted_first q (k ∷ table) all = by (is_invalid k.state) (counted_first q table all.1)
-  where
-    by : (denied : Bool) → including q (counted_of table) ≡ q ∷ counted_of table
-        → including q (map (λ (x : Kept). x.request) (if not denied then k ∷ filter (λ x. not (is_invalid x.state)) table else filter (λ x. not (is_invalid x.state)) table))
-        ≡ q ∷ map (λ (x : Kept). x.request) (if not denied then k ∷ filter (λ x. not (is_invalid x.state)) table else filter (λ x. not (is_invalid x.state)) table)
-    by true rest = rest
-    by false rest = rw all.0 refl
-
-pub counted_ordered : (table : List Kept) → is_in_order table ≡ true → in_id_order (counted_of table) ≡ counted_of table
-counted_ordered [] order = refl
-counted_ordered (k ∷ table) order = by (is_invalid k.state) (counted_ordered table (rest_in_order k table order))
-  where
-    by : (denied : Bool) → in_id_order (counted_of table) ≡ counted_of table
-        → in_id_order (map (λ (x : Kept). x.request) (if not denied then k ∷ filter (λ x. not (is_invalid x.state)) table else filter (λ x. not (is_invalid x.state)) table))
-        ≡ map (λ (x : Kept). x.request) (if not denied then k ∷ filter (λ x. not (is_invalid x.state)) table else filter (λ x. not (is_invalid x.state)) table)
-    by true rest = rest
-    by false rest = ap (including k.request) rest ∙ counted_first k.request table (first_below k table order)
-
--- its requests
-abbrev pub requests_in : List Kept → List Request
-requests_in table = map (λ k. k.request) table
-
-requests_found : (table : List Kept) (n : Name) → request_of (requests_in table) n ≡ option_map (λ k. k.request) (kept_of table n)
+-- its requests are found as they are kept
+requests_found : (table : List Kept) (n : Name) → request_of (requests_kept table) n ≡ option_map (λ k. k.request) (kept_of table n)
 requests_found [] n = refl
 requests_found (k ∷ table) n = by (name_eq k.request.id n) (requests_found table n)
   where
-    by : (b : Bool) → request_of (requests_in table) n ≡ option_map (λ (x : Kept). x.request) (kept_of table n)
-        → (if b then Some k.request else request_of (requests_in table) n) ≡ option_map (λ (x : Kept). x.request) (if b then Some k else kept_of table n)
+    by : (b : Bool) → request_of (requests_kept table) n ≡ option_map (λ (x : Kept). x.request) (kept_of table n)
+        → (if b then Some k.request else request_of (requests_kept table) n) ≡ option_map (λ (x : Kept). x.request) (if b then Some k else kept_of table n)
     by true rest = refl
     by false rest = rest
 
-pub requests_once : (table : List Kept) → is_in_order table ≡ true → IsOnce (requests_in table)
+pub requests_once : (table : List Kept) → is_in_order table ≡ true → IsOnce (requests_kept table)
 requests_once [] order = refl
 requests_once (k ∷ table) order =
-    once-cons k.request (requests_in table) (requests_once table (rest_in_order k table order))
+    once-cons k.request (requests_kept table) (requests_once table (rest_in_order k table order))
     (requests_found table k.request.id ∙ ap (option_map (λ (x : Kept). x.request)) (none_above k.request.id table (first_below k table order)))
 
 pub count_requests : (test : Kept → Bool) (other : Request → Bool) (table : List Kept) → ((k : Kept) → Has table k → test k ≡ other k.request)
-    → count_by test table ≡ count_by other (requests_in table)
+    → count_by test table ≡ count_by other (requests_kept table)
 count_requests test other [] h = refl
 count_requests test other (k ∷ table) h =
     count_cons test k table
     ∙ ap (λ b. cond b 1 0 + count_by test table) (h k (inl refl))
     ∙ ap (λ n. cond (other k.request) 1 0 + n) (count_requests test other table (λ x there. h x (inr there)))
-    ∙ sym (count_cons other k.request (requests_in table))
+    ∙ sym (count_cons other k.request (requests_kept table))
 
 -- ---- a table of the requests R with the states f
 
@@ -181,7 +161,7 @@ stands f R table k order is h = by (request_of R k.request.id) refl (sym (is k.r
         let own : q ≡ k.request = ap (λ (x : Kept). x.request) same in
         record { found = e ∙ ap (λ (r : Request). Some r) own; state = sym (ap (λ (x : Kept). x.state) same) ∙ ap f own }
 
-pub requests_alike : (f : Request → State) (R : List Request) (table : List Kept) → IsBy f R table → AreAlike (requests_in table) R
+pub requests_alike : (f : Request → State) (R : List Request) (table : List Kept) → IsBy f R table → AreAlike (requests_kept table) R
 requests_alike f R table is n = requests_found table n ∙ ap (option_map (λ (k : Kept). k.request)) (is n) ∙ each (request_of R n)
   where
     each : (o : Option Request) → option_map (λ (k : Kept). k.request) (option_map (kept_by f) o) ≡ o

@@ -13,14 +13,14 @@ use Rattle.edit_message.specs.declared.message.Message.{Message}
 use Rattle.edit_message.specs.Message.{requests_of, entries_of}
 use Rattle.request_state.specs.declared.kept.Kept.{Kept}
 use Rattle.elem_show.specs.Cell.{shown}
-use Rattle.elem_show.specs.Table.{Table, cell_named, piece_by}
+use Rattle.request_state.specs.Table.{kept_piece}
 use Rattle.tomb_seq.specs.declared.slot.Slot.{Slot}
 use Rattle.tomb_seq.specs.Slots.{names_in}
 use Rattle.tomb_seq.proofs.MarkLemmas.{names_by}
 use Rattle.peer_tables.specs.Kept.{IsKeptOf, shows_in}
 use Rattle.peer_tables.specs.Derived.{text_in}
 use Rattle.peer_tables.proofs.JournalLemmas.{history_law}
-use Rattle.peer_tables.proofs.SameSetLemmas.{read_cells}
+use Rattle.peer_tables.proofs.KeptLemmas.States.{cells_kept}
 
 -- the items so far, with what one more item gives
 pub items_more : {X Y : Type 0} (h : X → Option Y) (xs : List X) (i : ℕ) (found : Option Y) → i < length xs → found ≡ option_and_then h (slice_get xs i)
@@ -35,9 +35,9 @@ items_more {X} {Y} h xs i found lt is =
     (slice_get_cases xs i).1
 
 -- the pieces that show, by what is kept
-pub text_kept : (J : List Message) (L : List Entry) (slots : List Slot) (cells : Table) (table : List Kept) (stamp count : ℕ)
-    → IsKeptOf J L slots cells table stamp count → filter_map (piece_by cells) (names_in slots) ≡ text_in (requests_of J) (entries_of J)
-text_kept J L slots cells table stamp count k =
-    ap (λ (names : List Name). filter_map (piece_by cells) names) (ap names_in k.kept.marked ∙ names_by (shows_in (requests_of J) L) (text_order (requests_of J)))
-    ∙ ap (λ (f : Name → Option (List ℕ)). filter_map f (text_order (requests_of J))) (λ i e. option_and_then shown ((ap (λ (t : Table). cell_named t e) k.kept.shown ∙ read_cells (requests_of J) L (history_law J k.journal) e) i))
+pub text_kept : (J : List Message) (L : List Entry) (slots : List Slot) (table : List Kept) (stamp count : ℕ)
+    → IsKeptOf J L slots table stamp count → filter_map (kept_piece table) (names_in slots) ≡ text_in (requests_of J) (entries_of J)
+text_kept J L slots table stamp count k =
+    ap (λ (names : List Name). filter_map (kept_piece table) names) (ap names_in k.kept.marked ∙ names_by (shows_in (requests_of J) L) (text_order (requests_of J)))
+    ∙ ap (λ (f : Name → Option (List ℕ)). filter_map f (text_order (requests_of J))) (λ i e. option_and_then shown (cells_kept (requests_of J) L table (history_law J k.journal) k.kept.in_order k.kept.states e i))
     ∙ ap (text_in (requests_of J)) k.entries

@@ -7,9 +7,9 @@ returns-in_default-clause-states c = carried_granted c.args.version c.args.judge
 
 pub returns-then-is_tentative-clause-states : goal.returns-then-is_tentative-clause-states
 returns-then-is_tentative-clause-states c =
-    c.undo.ensures.states
-    ∙ carried_denied c.args.version c.args.judged.now c.args.states.now c.in-Denied.by c.requires.order (sym c.is_tentative.ensures ∙ c.if-is_tentative.true) c.in-Denied.is
+    c.set.ensures
+    ∙ carried_denied c.args.version c.args.judged.now c.args.states.now c.in-Denied.by c.requires (sym c.is_tentative.ensures ∙ c.if-is_tentative.true) c.in-Denied.is
 
 pub returns-clause-states : goal.returns-clause-states
 returns-clause-states c =
-    carried_settled c.args.version c.args.judged.now c.args.states.now c.requires.order (sym c.is_tentative.ensures ∙ c.if-is_tentative.false)
+    carried_settled c.args.version c.args.judged.now c.args.states.now c.requires (sym c.is_tentative.ensures ∙ c.if-is_tentative.false)

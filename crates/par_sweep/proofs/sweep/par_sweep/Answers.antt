@@ -2,10 +2,8 @@ use Rattle.std.proofs.Common.{◌≡◌, ◌+◌, List, length, take, sym, ap, �
 use Rattle.std.proofs.lemmas.List.{length-map}
 use Rattle.request_state.specs.declared.kept.Kept.{Kept}
 use Rattle.request_state.specs.Table.{is_in_order}
-use Rattle.elem_show.specs.Table.{Table}
 use Rattle.retro_undo.proofs.Parts.{states_of_none, undone_of_none, few_undone}
 use Rattle.retro_undo.proofs.Steps.{one_counted}
-use Rattle.retro_undo.proofs.Undoing.{counted_again, counted_last}
 use Rattle.par_sweep.specs.declared.judging.Judgement.{Judgement}
 use Rattle.par_sweep.specs.Judged.{judgement_on}
 use Rattle.par_sweep.proofs.Swept.{names_within, is_among, order_after, states_next, undone_next, states_swept, undone_swept}
@@ -15,18 +13,14 @@ pub loop-judgement-init : goal.loop-judgement-init
 loop-judgement-init g c = record {
   states = sym (states_of_none (g.P.Places.names c.args.places.now) c.args.policy.now c.args.version c.args.states.now);
   count = sym (undone_of_none (g.P.Places.names c.args.places.now) c.args.policy.now c.args.version c.args.states.now);
-  cells = counted_again c.args.table.now c.args.states.now c.requires.tables.counted;
 }
 
-pub carry_out-requires-clause-order : goal.carry_out-requires-clause-order
-carry_out-requires-clause-order g c =
+pub carry_out-requires : goal.carry_out-requires
+carry_out-requires g c =
     let ids = names_within c.args.reach c.args.states.now in
     ap (λ (t : List Kept). is_in_order t) c.loop-judgement.invariant.states
     ∙ order_after (g.P.Places.names c.args.places.now) c.args.policy.now c.args.version (is_among (take c.loop-judgement.judgement-index ids)) c.args.states.now
     ∙ c.in-Some.ensures.in_order
-
-pub carry_out-requires-clause-counted : goal.carry_out-requires-clause-counted
-carry_out-requires-clause-counted g c = ap (λ (t : Table). t.counted) c.loop-judgement.invariant.cells
 
 pub overflow_add-count : goal.overflow_add-count
 overflow_add-count g c =
@@ -49,7 +43,6 @@ loop-judgement-preserved g c =
       states = states_next names c.args.policy.now c.args.version ids c.args.states.now c.as_slice-judgement-items.result.now c.loop-judgement.judgement-index c.judgement-item.result c.judgement-item.result c.loop-judgement.states
           (c.as_slice-judgement-items.ensures.value ∙ c.in-Some.ensures.judged) c.loop-judgement-test.true (sym c.judgement-item.is) c.in-Some.ensures.in_order c.loop-judgement.invariant.states c.carry_out.new.states c.carry_out.ensures.states;
       count = omega (arith, more, one, c.loop-judgement.invariant.count);
-      cells = counted_last c.args.table.now c.loop-judgement.table c.carry_out.new.table c.loop-judgement.states c.carry_out.new.states c.loop-judgement.invariant.cells c.carry_out.ensures.cells;
     }
 
 pub returns : goal.returns
@@ -63,6 +56,5 @@ returns g c =
     let end : i ≡ length ids = omega (arith, judged, c.loop-judgement-test.false, c.loop-judgement.auto.judgement-index-end) in
     record {
       states = c.loop-judgement.invariant.states ∙ states_swept names p c.args.version c.args.reach table i end c.in-Some.ensures.no_start c.requires.outside;
-      cells = c.loop-judgement.invariant.cells;
       count = c.loop-judgement.invariant.count ∙ undone_swept names p c.args.version c.args.reach table i end c.in-Some.ensures.no_start c.requires.outside;
     }

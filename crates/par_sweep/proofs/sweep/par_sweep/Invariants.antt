@@ -1,5 +1,5 @@
 use Rattle.std.proofs.Common.{◌≡◌, take}
-use Rattle.retro_undo.specs.Undo.{with_counted, states_after_in, undone_in}
+use Rattle.retro_undo.specs.Undo.{states_after_in, undone_in}
 use Rattle.par_sweep.proofs.Swept.{names_within, is_among}
 use Rattle.par_sweep.proofs.sweep.par_sweep.Given as goal
 
@@ -10,5 +10,4 @@ invariant-loop-judgement g l =
     record {
       states : l.states ≡ states_after_in (is_among (take l.judgement-index ids)) names l.policy l.version l.fn.states;
       count : l.count ≡ undone_in (is_among (take l.judgement-index ids)) names l.policy l.fn.states;
-      cells : l.table ≡ with_counted l.fn.table l.states;
     }

@@ -4,7 +4,7 @@ use Rattle.coop_request.specs.Request.{element_of}
 use Rattle.tomb_seq.specs.declared.slot.Slot.{Slot}
 use Rattle.tomb_seq.specs.Slots.{names_in, with_mark}
 use Rattle.peer_tables.specs.Kept.{slots_after, IsGivenState}
-use Rattle.elem_show.specs.Table.{shows_by}
+use Rattle.request_state.specs.Table.{kept_shows}
 use Rattle.peer_tables.proofs.KeptLemmas.Places.{placed_element}
 use Rattle.peer_tables.proofs.join.join.Goals as goal
 
@@ -29,7 +29,7 @@ returns-in-Ok-clause-slots c =
     c.mark.ensures.slots
     ∙ ap (λ (slots : List Slot). with_mark slots c.element.result c.in-Ok.joined.shows) c.in_ok-place.ensures.slots
     ∙ ap (λ (shows : Bool). with_mark (slots_after c.args.seq.now c.args.request.now.id c.args.request.now.edit) c.element.result shows) c.in-Ok.ensures.shows
-    ∙ ap (λ (e : Name). with_mark (slots_after c.args.seq.now c.args.request.now.id c.args.request.now.edit) e (shows_by c.judge.new.cells (element_of c.args.request.now))) c.element.ensures
+    ∙ ap (λ (e : Name). with_mark (slots_after c.args.seq.now c.args.request.now.id c.args.request.now.edit) e (kept_shows c.judge.new.states (element_of c.args.request.now))) c.element.ensures
 
 pub take_back-requires : goal.take_back-requires
 take_back-requires c =

@@ -1,6 +1,5 @@
 use Rattle.std.proofs.Common.{sym, ◌∙◌}
 use Rattle.policy_book.specs.declared.reach.Reach.TheVariants.{Nobody, Users}
-use Rattle.retro_undo.proofs.Undoing.{counted_again}
 use Rattle.retro_undo.proofs.Parts.{states_of_none, undone_of_none}
 use Rattle.retro_undo.proofs.Steps.{states_reached, undone_reached}
 use Rattle.retro_undo.proofs.sweep.sweep_reach.Goals as goal
@@ -12,7 +11,6 @@ returns-in-Nobody g c =
     record {
       states = sym (states_of_none names p c.args.version c.args.states.now)
           ∙ states_reached names p c.args.version c.args.reach Nobody c.args.states.now c.in-Nobody.is c.requires.outside;
-      cells = counted_again c.args.table.now c.args.states.now c.requires.tables.counted;
       count = sym (undone_of_none names p c.args.version c.args.states.now)
           ∙ undone_reached names p c.args.version c.args.reach Nobody c.args.states.now c.in-Nobody.is c.requires.outside;
     }
@@ -25,7 +23,6 @@ returns-in-Users g c =
     record {
       states = c.sweep_users.ensures.states
           ∙ states_reached names p c.args.version c.args.reach (Users users) c.args.states.now c.in-Users.is c.requires.outside;
-      cells = c.sweep_users.ensures.cells;
       count = c.sweep_users.ensures.count
           ∙ undone_reached names p c.args.version c.args.reach (Users users) c.args.states.now c.in-Users.is c.requires.outside;
     }
@@ -33,6 +30,5 @@ returns-in-Users g c =
 pub returns-in-Everyone : goal.returns-in-Everyone
 returns-in-Everyone g c = record {
   states = c.sweep_line.ensures.states;
-  cells = c.sweep_line.ensures.cells;
   count = c.sweep_line.ensures.count;
 }

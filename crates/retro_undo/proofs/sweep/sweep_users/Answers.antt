@@ -3,8 +3,6 @@ use Rattle.std.proofs.lemmas.List.{length-map}
 use Rattle.std.proofs.lemmas.Option.{slice_get-get_or}
 use Rattle.request_state.specs.declared.kept.Kept.{Kept}
 use Rattle.retro_undo.specs.Undo.{have_elements, states_after_in, undone_in}
-use Rattle.elem_show.specs.Table.{Table}
-use Rattle.retro_undo.proofs.Undoing.{counted_again, counted_last}
 use Rattle.retro_undo.proofs.Parts.{states_of_none, undone_of_none, few_undone, elements_after}
 use Rattle.retro_undo.proofs.Steps.{is_of_first, states_more, undone_more, states_of_all, undone_of_all}
 use Rattle.retro_undo.proofs.sweep.sweep_users.Goals as goal
@@ -14,7 +12,6 @@ pub loop-i-init : goal.loop-i-init
 loop-i-init g c = record {
   states = sym (states_of_none (g.P.Places.names c.args.places.now) c.args.policy.now c.args.version c.args.states.now);
   count = sym (undone_of_none (g.P.Places.names c.args.places.now) c.args.policy.now c.args.version c.args.states.now);
-  cells = counted_again c.args.table.now c.args.states.now c.requires.counted;
 }
 
 pub sweep_line-count-requires : goal.sweep_line-count-requires
@@ -24,7 +21,6 @@ sweep_line-count-requires g c =
     record {
       elements = ap (λ (t : List Kept). have_elements names t) c.loop-i.invariant.states
           ∙ elements_after names c.args.policy.now c.args.version (is_of_first c.args.users c.loop-i.i) c.args.states.now ∙ c.requires.elements;
-      counted = ap (λ (t : Table). t.counted) c.loop-i.invariant.cells;
       few = omega (arith, same, c.requires.few);
     }
 
@@ -47,7 +43,6 @@ loop-i-preserved g c =
           record {
             states = w.states-is ∙ states_more names p c.args.version c.args.users c.loop-i.i w.in-Some.user c.args.states.now c.loop-i.states w.sweep_line-count.new.states there c.loop-i.invariant.states w.sweep_line-count.ensures.states;
             count = omega (arith, more, w.count-is, c.loop-i.invariant.count, w.sweep_line-count.ensures.count);
-            cells = rw (w.table-is, w.states-is) (counted_last c.args.table.now c.loop-i.table w.sweep_line-count.new.table c.loop-i.states w.sweep_line-count.new.states c.loop-i.invariant.cells w.sweep_line-count.ensures.cells);
           }
       | in_default w ↦
           let lt : c.loop-i.i < length c.args.users = omega (arith, c.len-i-end.ensures, c.loop-i-test.true) in
@@ -64,7 +59,6 @@ returns g c =
       states = c.loop-i.invariant.states
           ∙ ap (λ (i : ℕ). states_after_in (is_of_first c.args.users i) names p c.args.version c.args.states.now) end
           ∙ states_of_all names p c.args.version c.args.users c.args.states.now;
-      cells = c.loop-i.invariant.cells;
       count = c.loop-i.invariant.count
           ∙ ap (λ (i : ℕ). undone_in (is_of_first c.args.users i) names p c.args.states.now) end
           ∙ undone_of_all names p c.args.version c.args.users c.args.states.now;

@@ -1,5 +1,5 @@
 use Rattle.std.proofs.Common.{◌≡◌}
-use Rattle.retro_undo.specs.Undo.{with_counted, states_after_in, undone_in}
+use Rattle.retro_undo.specs.Undo.{states_after_in, undone_in}
 use Rattle.retro_undo.proofs.Steps.{is_of_first}
 use Rattle.retro_undo.proofs.sweep.sweep_users.Given as goal
 
@@ -9,5 +9,4 @@ invariant-loop-i g l =
     record {
       states : l.states ≡ states_after_in (is_of_first l.users l.i) names l.policy l.version l.fn.states;
       count : l.count ≡ undone_in (is_of_first l.users l.i) names l.policy l.fn.states;
-      cells : l.table ≡ with_counted l.fn.table l.states;
     }

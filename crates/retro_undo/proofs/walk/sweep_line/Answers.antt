@@ -6,8 +6,6 @@ use Rattle.request_state.specs.declared.kept.Kept.{Kept}
 use Rattle.request_state.specs.Table.{kept_state}
 use Rattle.retro_undo.specs.Undo.{have_elements, states_after_in, undone_in}
 use Rattle.retro_undo.specs.Part.{is_in, is_above, is_named}
-use Rattle.elem_show.specs.Table.{Table}
-use Rattle.retro_undo.proofs.Undoing.{counted_again, counted_last}
 use Rattle.retro_undo.proofs.Parts.{few_undone, elements_after}
 use Rattle.retro_undo.proofs.Steps.{next_kept, kept_element, states_at_start, undone_at_start, states_at_end, undone_at_end, walk_judged, walk_smaller, walk_states, walk_count}
 use Rattle.retro_undo.proofs.walk.sweep_line.Goals as goal
@@ -23,7 +21,6 @@ loop-request-init g c =
           let all = undone_at_start names p c.args.version c.args.states.now c.args.whose c.below_all-above.ensures.absent in
           let same = ap (λ (n : Name). undone_in (is_above c.args.whose n) names p c.args.states.now) c.below_all-above.ensures.value in
           omega (arith, all, same);
-      cells = counted_again c.args.table.now c.args.states.now c.requires.counted;
       elements = c.requires.elements;
     }
 
@@ -37,9 +34,6 @@ settle-requires-clause-tentative g c =
     ap (λ (n : Name). kept_state c.loop-request.states n) c.id-above.ensures.value
     ∙ ap (λ (x : Option Kept). option_map (λ (k : Kept). k.state) x)
     (next_kept c.loop-request.states c.args.whose c.loop-request.above c.in-Some.request c.next_tentative.ensures.in_order (sym c.next_tentative.ensures.found ∙ c.in-Some.is))
-
-pub settle-requires-clause-counted : goal.settle-requires-clause-counted
-settle-requires-clause-counted g c = ap (λ (t : Table). t.counted) c.loop-request.invariant.cells
 
 pub overflow_add-count : goal.overflow_add-count
 overflow_add-count g c =
@@ -68,7 +62,6 @@ loop-request-preserved g c =
           ∙ walk_states names p c.args.version c.args.whose c.loop-request.above c.in-Some.request c.loop-request.states c.next_tentative.ensures.in_order found _ _ _
           c.id-above.ensures.value c.request_verdict_lent-verdict.ensures c.settle.ensures.states;
       count = omega (arith, step, c.loop-request.invariant.count);
-      cells = counted_last c.args.table.now c.loop-request.table c.settle.new.table c.loop-request.states c.settle.new.states c.loop-request.invariant.cells c.settle.ensures.cells;
       elements = ap (λ (t : List Kept). have_elements names t)
           (walk_judged names p c.args.version c.args.whose c.loop-request.above c.in-Some.request c.loop-request.states c.next_tentative.ensures.in_order found _ _ _
           c.id-above.ensures.value c.request_verdict_lent-verdict.ensures c.settle.ensures.states)
@@ -82,6 +75,5 @@ returns g c =
     let none = undone_at_end names c.args.policy.now c.args.version c.loop-request.states c.args.whose c.loop-request.above end in
     record {
       states = sym (c.loop-request.invariant.states ∙ states_at_end names c.args.policy.now c.args.version c.loop-request.states c.args.whose c.loop-request.above end);
-      cells = c.loop-request.invariant.cells;
       count = omega (arith, none, c.loop-request.invariant.count);
     }

@@ -1,5 +1,5 @@
 use Rattle.std.proofs.Common.{◌≡◌, ◌+◌, true}
-use Rattle.retro_undo.specs.Undo.{have_elements, with_counted, states_after_in, undone_in}
+use Rattle.retro_undo.specs.Undo.{have_elements, states_after_in, undone_in}
 use Rattle.retro_undo.specs.Part.{is_in, is_above}
 use Rattle.retro_undo.proofs.Steps.{waiting_count}
 use Rattle.retro_undo.proofs.walk.sweep_line.Given as goal
@@ -10,7 +10,6 @@ invariant-loop-request g l =
     record {
       states : states_after_in (is_in l.whose) names l.policy l.version l.fn.states ≡ states_after_in (is_above l.whose l.above) names l.policy l.version l.states;
       count : undone_in (is_in l.whose) names l.policy l.fn.states ≡ l.count + undone_in (is_above l.whose l.above) names l.policy l.states;
-      cells : l.table ≡ with_counted l.fn.table l.states;
       elements : have_elements names l.states ≡ true;
     }
 

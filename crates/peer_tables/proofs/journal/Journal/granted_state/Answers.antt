@@ -20,5 +20,5 @@ returns c =
     c.validated_state.ensures
     ∙ ap (state_by None) c.validated.ensures
     ∙ ap (λ (n : Name). state_by None (validated_at c.self.inside.log n)) c.id.ensures.value
-    ∙ granted_here J _ _ _ _ _ _ c.self.invariant q here granted
+    ∙ granted_here J _ _ _ _ _ c.self.invariant q here granted
     ∙ ap (λ (K : List Message). state_in (requests_of K ++ q ∷ []) (entries_of K) q) c.self.view_is

@@ -6,5 +6,5 @@ use Rattle.peer_tables.proofs.journal.Journal.missing.Goals as goal
 
 pub returns : goal.returns
 returns c =
-    c.missing.ensures ∙ missing_kept c.self.inside.items _ _ _ _ _ _ c.self.invariant c.len.result c.args.message.now c.len.ensures.count
+    c.missing.ensures ∙ missing_kept c.self.inside.items _ _ _ _ _ c.self.invariant c.len.result c.args.message.now c.len.ensures.count
     ∙ ap (λ (J : List Message). missing_in J c.args.message.now) c.self.view_is

@@ -11,5 +11,5 @@ use Rattle.peer_tables.proofs.journal.Journal.missing_end.Goals as goal
 pub returns : goal.returns
 returns c =
     c.missing_end.ensures
-    ∙ missing_end_agree (names_in c.self.inside.seq) (elements_of (requests_of c.self.inside.items)) c.args.op.now (read_has c.self.inside.items c.self.inside.log c.self.inside.seq c.self.inside.cells c.self.inside.states c.self.inside.stamp c.self.inside.requests c.self.invariant)
+    ∙ missing_end_agree (names_in c.self.inside.seq) (elements_of (requests_of c.self.inside.items)) c.args.op.now (read_has c.self.inside.items c.self.inside.log c.self.inside.seq c.self.inside.states c.self.inside.stamp c.self.inside.requests c.self.invariant)
     ∙ ap (λ (J : List Message). missing_end (elements_of (requests_of J)) c.args.op.now) c.self.view_is

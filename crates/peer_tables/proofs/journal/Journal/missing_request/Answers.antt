@@ -7,5 +7,5 @@ use Rattle.peer_tables.proofs.journal.Journal.missing_request.Goals as goal
 
 pub returns : goal.returns
 returns c =
-    c.missed_by_request.ensures ∙ missing_kept c.self.inside.items _ _ _ _ _ _ c.self.invariant c.len.result (Coop c.args.request.now) c.len.ensures.count
+    c.missed_by_request.ensures ∙ missing_kept c.self.inside.items _ _ _ _ _ c.self.invariant c.len.result (Coop c.args.request.now) c.len.ensures.count
     ∙ ap (λ (J : List Message). missing_in J (Coop c.args.request.now)) c.self.view_is

@@ -17,7 +17,7 @@ returns-clause-tentative c =
     (λ v. v.items ≡ taken_within element_of c.reach.result c.self.inside.states)
     (λ v. AreOfTentative (requests_of c.args.self.now) (entries_of c.args.self.now) v.items)
     (λ v is. subst (λ (J : List Message). AreOfTentative (requests_of J) (entries_of J) v.items) c.self.view_is
-    (journal_tentative c.self.inside.items _ _ _ _ _ _ c.self.invariant c.reach.result v.items is))
+    (journal_tentative c.self.inside.items _ _ _ _ _ c.self.invariant c.reach.result v.items is))
     c.list_reach.ensures
 
 pub returns-clause-undone : goal.returns-clause-undone
@@ -28,6 +28,6 @@ returns-clause-undone c =
     → HaveUndone (requests_of c.args.self.now) (entries_of c.args.self.now) (entries_of c.args.self.now ++ e ∷ []) v.items)
     (λ v is. subst (λ (J : List Message). (e : Entry) → FollowsLog (entries_of J) e → option_copied c.args.op ≡ Some e.op
     → HaveUndone (requests_of J) (entries_of J) (entries_of J ++ e ∷ []) v.items) c.self.view_is
-    (journal_undone c.self.inside.items _ _ _ _ _ _ c.self.invariant (option_copied c.args.op) c.reach.result v.items
+    (journal_undone c.self.inside.items _ _ _ _ _ c.self.invariant (option_copied c.args.op) c.reach.result v.items
     (c.reach.ensures ∙ ap (λ (J : List Message). next_reach (entries_of J) (option_copied c.args.op)) (sym c.self.view_is)) is))
     c.list_reach.ensures

@@ -27,8 +27,8 @@ check_local-requires c =
     let q = c.args.request.now in
     let follows : FollowsHistory (requests_of J) q = subst (λ (K : List Message). FollowsHistory (requests_of K) q) (sym c.self.view_is) c.requires in
     let there : IsJudged (text_order (requests_of J)) (judged_by q.id q.edit) =
-    judged (requests_of J) c.self.inside.log (known c.self.inside.items c.self.inside.log c.self.inside.seq c.self.inside.cells c.self.inside.states c.self.inside.stamp c.self.inside.requests c.self.invariant) q follows in
-    subst (λ (names : List Name). IsJudged names c.judged.result) (sym (read_names c.self.inside.items c.self.inside.log c.self.inside.seq c.self.inside.cells c.self.inside.states c.self.inside.stamp c.self.inside.requests c.self.invariant))
+    judged (requests_of J) c.self.inside.log (known c.self.inside.items c.self.inside.log c.self.inside.seq c.self.inside.states c.self.inside.stamp c.self.inside.requests c.self.invariant) q follows in
+    subst (λ (names : List Name). IsJudged names c.judged.result) (sym (read_names c.self.inside.items c.self.inside.log c.self.inside.seq c.self.inside.states c.self.inside.stamp c.self.inside.requests c.self.invariant))
     (subst (λ (j : Judged). IsJudged (text_order (requests_of J)) j) (sym c.judged.ensures) there)
 
 -- the verdict by its parts
@@ -50,7 +50,7 @@ returns c =
     ∙ ap (λ (x : ℕ). verdict_by names p c.len.result x (right_of q.edit) j) c.user.ensures
     ∙ ap (λ (x : ℕ). verdict_by names p x (user_of q) (right_of q.edit) j) c.len.ensures.count
     ∙ ap (λ (x : Policy). verdict_by names x (length L) (user_of q) (right_of q.edit) j) c.policy.ensures
-    ∙ ap (λ (x : List Name). verdict_by x (policy_of L) (length L) (user_of q) (right_of q.edit) j) (read_names c.self.inside.items c.self.inside.log c.self.inside.seq c.self.inside.cells c.self.inside.states c.self.inside.stamp c.self.inside.requests c.self.invariant)
-    ∙ told (requests_of J) L (known c.self.inside.items c.self.inside.log c.self.inside.seq c.self.inside.cells c.self.inside.states c.self.inside.stamp c.self.inside.requests c.self.invariant) q follows
+    ∙ ap (λ (x : List Name). verdict_by x (policy_of L) (length L) (user_of q) (right_of q.edit) j) (read_names c.self.inside.items c.self.inside.log c.self.inside.seq c.self.inside.states c.self.inside.stamp c.self.inside.requests c.self.invariant)
+    ∙ told (requests_of J) L (known c.self.inside.items c.self.inside.log c.self.inside.seq c.self.inside.states c.self.inside.stamp c.self.inside.requests c.self.invariant) q follows
     ∙ ap (λ (M : List Entry). told_at (length M) (verdict_at (text_order (requests_of J ++ q ∷ [])) M q (length M))) c.self.invariant.entries
     ∙ ap (λ (K : List Message). told_at (length (entries_of K)) (verdict_at (text_order (requests_of K ++ q ∷ [])) (entries_of K) q (length (entries_of K)))) c.self.view_is
