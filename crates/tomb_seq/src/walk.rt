@@ -16,7 +16,7 @@ fn push_names(names: &mut Vec<Name>, slots: &[Slot]) -> Result<(), NoMemory>
     ensures { OnOk result (names.new.items ≡ names.old.items ++ names_in slots.now) }
 {
     for s in slots {
-        names.push(s.name)?;
+        names.push(s.name.name())?;
     }
     Ok(())
 }

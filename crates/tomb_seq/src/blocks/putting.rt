@@ -10,6 +10,7 @@ use crate::slot::Slot;
 use crate::spot::Spot;
 use crate::{index, ranks};
 use element_name::{Name, NoMemory};
+use name_index::PackedName;
 
 impl Blocks {
     /// Puts a first element in.
@@ -22,7 +23,10 @@ impl Blocks {
         ensures err { OnErr result (self.new ≡ self.old) }
     {
         let id = self.ranks.len();
-        let slot = Slot { name, shows: false };
+        let slot = Slot {
+            name: PackedName::of(name),
+            shows: false,
+        };
         let block = Block::with_slots(self.alloc, id, &[slot])?;
         ranks::reserve(&mut self.list, &mut self.ranks)?;
         self.lens.reserve()?;
