@@ -1,20 +1,18 @@
 -- A message that a peer has integrated is answered so, and changes nothing.
-use Rattle.std.proofs.Common.{◌≡◌, ℕ, zero, suc, inl, inr, Bool, true, false, cond, List, [], ◌∷◌, ◌++◌, Some, refl, ap, sym, subst, ◌∙◌}
-use Rattle.std.specs.Prelude.{slice_get, find, option_map, unwrap_or, Contains}
+use Rattle.std.proofs.Common.{◌≡◌, ℕ, zero, suc, inl, inr, Bool, true, false, cond, List, [], ◌∷◌, ◌++◌, Some, refl, ap, ◌∙◌}
+use Rattle.std.specs.Prelude.{slice_get, find, option_map, unwrap_or}
 use Rattle.std.specs.declared.option.Option.{Option}
 use Rattle.edit_message.specs.declared.message.Message.{Message}
 use Rattle.edit_message.specs.Message.{key_of, find_key}
-use Rattle.edit_message.specs.Same.{message_eq}
 use Rattle.edit_message.proofs.SameMessages.{message_Decides}
 use Rattle.peer_step.specs.declared.step.Step.TheVariants.{Receive}
-use Rattle.peer_step.specs.declared.answer.Answer.{Answer}
 use Rattle.peer_step.specs.declared.answer.Answer.TheVariants.{Repeat, Conflict}
 use Rattle.element_name.specs.Cases.{first_of}
 use Rattle.tomb_seq.proofs.Has.{Has, Has-from_Contains}
 use Rattle.peer_tables.proofs.ItemLemmas.{found_again}
 use Rattle.peer_core.specs.Peer.{Peer, missing}
 use Rattle.peer_core.specs.Answers.{answer_of, answer_known, answer_missing, answer_taken, rows_of_message}
-use Rattle.peer_core.specs.After.{changed_by, peer_after}
+use Rattle.peer_core.specs.After.{changed_by}
 use Rattle.peer_core.specs.Sound.{IsSound}
 use Rattle.follow_core.specs.Laws.{TakenOnceLaw}
 

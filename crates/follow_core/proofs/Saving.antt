@@ -1,5 +1,5 @@
 -- What is saved, and what was passed of it.
-use Rattle.std.proofs.Common.{◌≡◌, ℕ, ◌+◌, ◌<◌, ◌≤◌, inl, inr, ⊎_elim, List, [], ◌∷◌, ◌++◌, length, Some, None, refl, ap, sym, subst, ◌∙◌, arith}
+use Rattle.std.proofs.Common.{◌≡◌, ℕ, ◌+◌, ◌<◌, ◌≤◌, inl, inr, ⊎_elim, List, [], ◌∷◌, ◌++◌, length, Some, refl, ap, sym, subst, ◌∙◌, arith}
 use Rattle.std.specs.Prelude.{slice_get, fold, Contains}
 use Rattle.std.proofs.lemmas.List.Sums.{fold_push}
 use Rattle.edit_message.specs.declared.message.Message.{Message}
@@ -7,9 +7,10 @@ use Rattle.peer_core.specs.Peer.{Peer}
 use Rattle.peer_core.specs.Answers.{answer_of}
 use Rattle.peer_core.specs.After.{peer_after}
 use Rattle.peer_core.proofs.AfterLemmas.{journal_grows}
-use Rattle.peer_core.proofs.BeginningLemmas.{Begins, same_begins, begins_on, begins_has, begins_short, begins_whole, begins_early, begins_longer, none_before, reads_early}
+use Rattle.peer_core.proofs.BeginningLemmas.{Begins, same_begins, begins_on, begins_has, begins_short, begins_whole, begins_early, begins_longer, none_before}
 use Rattle.peer_core.proofs.KeyLemmas.{one_message}
 use Rattle.tomb_seq.proofs.Has.{Has, Has-from_Contains}
+use Rattle.host_core.proofs.Saving.{held_before}
 use Rattle.follow_core.specs.declared.event.FollowEvent.{FollowEvent}
 use Rattle.follow_core.specs.declared.event.FollowEvent.TheVariants.{Began, Made, Saved, Told, CameBack, Passed}
 use Rattle.follow_core.specs.Past.{starting_peer, follow_peer, follow_saved, back_of, first_back, follow_steps}
@@ -52,15 +53,9 @@ pub next_saved : (es : List FollowEvent) (i : ℕ) (m : Message) → IsFollowPas
     → Contains (follow_saved es) m
 next_saved es i m h next saved = begins_early (follow_saved es) (follow_peer es).journal i m (beginning es h) saved next
 
--- so something stands there
-pub not_there : (es : List FollowEvent) (p : Peer) (i : ℕ) → IsFollowPast es → p ≡ follow_peer es → i < length (follow_saved es) → slice_get p.journal i ≡ None → ⊥
-not_there es p i h same saved none =
-    reads_early (follow_saved es) (follow_peer es).journal i (beginning es h) saved (subst (λ (q : Peer). slice_get q.journal i ≡ None) same none)
-
 -- what happened before is a past
 pub past_before : (later es : List FollowEvent) → IsFollowPast (later ++ es) → IsFollowPast es
-past_before [] es h = h
-past_before (e ∷ later) es h = past_before later es h.1
+past_before later es h = held_before IsFollowPast (λ (e : FollowEvent) (fs : List FollowEvent) past. past.1) later es h
 
 pub saved_before : SavedBeforePassedLaw
 saved_before later earlier m h =

@@ -5,7 +5,7 @@ use Rattle.host_core.specs.Samples.{sample_request}
 use Rattle.edit_message.specs.declared.message.Message.TheVariants.{Coop}
 use Rattle.peer_step.specs.declared.step.LocalEdit.TheVariants.{Insert}
 use Rattle.peer_step.specs.declared.step.Step.TheVariants.{Edit, Receive}
-use Rattle.peer_core.specs.Peer.{Peer, fresh_peer, text}
+use Rattle.peer_core.specs.Peer.{fresh_peer, text}
 use Rattle.peer_core.specs.Restore.{peer_of_journal}
 use Rattle.peer_core.specs.Sound.{IsSound}
 use Rattle.follow_core.specs.declared.event.FollowEvent.{FollowEvent}

@@ -82,12 +82,12 @@ shut_stays (Gave k m) es l s = (shut_given (nat_eq k.site l.site) l.number (link
 shut_stays e es l s = s
 
 -- what is there isn't missing
-none_known : (o : Option OpenLink) → o ≡ None → IsSome o → ⊥
+pub none_known : (o : Option OpenLink) → o ≡ None → IsSome o → ⊥
 none_known None none known = absurd cc
 none_known (Some x) none known = absurd cc
 
 -- nothing is asked for by a link that isn't open
-none_asked : (es : List HostEvent) (l : LinkId) (step : Step) → open_link es l ≡ None → ask_refusal es l step ≡ None → ⊥
+pub none_asked : (es : List HostEvent) (l : LinkId) (step : Step) → open_link es l ≡ None → ask_refusal es l step ≡ None → ⊥
 none_asked es l step none may =
     let refused : Some NoLink ≡ None = subst (λ (o : Option OpenLink). option_map_or (λ (x : OpenLink). refusal_by es l.site x step) o (Some NoLink) ≡ None) none may in
     cc
@@ -164,11 +164,11 @@ device_made (DeviceClosed v ∷ es) u d h is = by (nat_eq v u) is (device_made e
 device_made (e ∷ es) u d h is = device_made es u d h.1 is
 
 -- what isn't there changes nothing where it is closed, changed or given a message
-none_either : {A : Type 0} (b : Bool) (o : Option A) → o ≡ None → cond b None o ≡ None
+pub none_either : {A : Type 0} (b : Bool) (o : Option A) → o ≡ None → cond b None o ≡ None
 none_either true o h = refl
 none_either false o h = h
 
-none_mapped : {A : Type 0} (b : Bool) (f : A → A) (o : Option A) → o ≡ None → cond b (option_map f o) o ≡ None
+pub none_mapped : {A : Type 0} (b : Bool) (f : A → A) (o : Option A) → o ≡ None → cond b (option_map f o) o ≡ None
 none_mapped true f o h = ap (option_map f) h
 none_mapped false f o h = h
 
@@ -207,20 +207,19 @@ gone_stays (Gave l m) es u may g = record { device = g.device; link = none_mappe
 gone_stays e es u may g = record { device = g.device; link = g.link; made = g.made }
 
 -- no link is open at a site that has none
-none_open : (es : List HostEvent) (l : LinkId) → link_of l.site es ≡ None → open_link es l ≡ None
-none_open es l none = ap (numbered l.number) none
+pub none_open : (es : List HostEvent) (u : ℕ) (l : LinkId) → l.site ≡ u → link_of u es ≡ None → open_link es l ≡ None
+none_open es u l same none = ap (numbered l.number) (subst (λ (v : ℕ). link_of v es ≡ None) (sym same) none)
 
 -- nothing of its site happens
 gone_quiet : (e : HostEvent) (es : List HostEvent) (u : ℕ) → MayHappen es e → Gone es u → ¬ IsOfSite u e
 gone_quiet (DeviceMade v d) es u may g same = let old = g.made in let new = may.0 in omega arith
 gone_quiet (LinkOpened hello) es u may g same = none_opened es u hello g.device may same
-gone_quiet (Made (Some l) step) es u may g same = none_asked es l step (none_open es l (subst (λ (v : ℕ). link_of v es ≡ None) (sym same) g.link)) may
+gone_quiet (Made (Some l) step) es u may g same = none_asked es l step (none_open es u l same g.link) may
 gone_quiet (Gave l m) es u may g same =
-    let none : open_link es l ≡ None = none_open es l (subst (λ (v : ℕ). link_of v es ≡ None) (sym same) g.link) in
+    let none : open_link es l ≡ None = none_open es u l same g.link in
     let some = may.open_is in
     cc
-gone_quiet (Told l) es u may g same =
-    none_known (open_link es l) (none_open es l (subst (λ (v : ℕ). link_of v es ≡ None) (sym same) g.link)) may.0
+gone_quiet (Told l) es u may g same = none_known (open_link es l) (none_open es u l same g.link) may.0
 gone_quiet e es u may g of = of
 
 -- a device that is closed is gone

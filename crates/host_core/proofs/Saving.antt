@@ -37,15 +37,18 @@ pub next_saved : (es : List HostEvent) (i : ℕ) (m : Message) → IsPast es →
     → Contains (saved_journal es) m
 next_saved es i m h next saved = begins_early (saved_journal es) (host_peer es).journal i m (beginning es h) saved next
 
--- so something stands there
-pub not_there : (es : List HostEvent) (p : Peer) (i : ℕ) → IsPast es → p ≡ host_peer es → i < length (saved_journal es) → slice_get p.journal i ≡ None → ⊥
-not_there es p i h same saved none =
-    reads_early (saved_journal es) (host_peer es).journal i (beginning es h) saved (subst (λ (q : Peer). slice_get q.journal i ≡ None) same none)
+-- so something stands there, in the journal of any peer that begins with what is saved
+pub not_there : (saved : List Message) (p q : Peer) (i : ℕ) → Begins saved q.journal → p ≡ q → i < length saved → slice_get p.journal i ≡ None → ⊥
+not_there saved p q i begins same within none = reads_early saved q.journal i begins within (subst (λ (r : Peer). slice_get r.journal i ≡ None) same none)
 
--- what happened before is a past
+-- what, where it holds of a past, holds without the newest event too, held at any time before
+pub held_before : {E : Type 0} (Holds : List E → Type 0) → ((e : E) (es : List E) → Holds (e ∷ es) → Holds es) → (later es : List E) → Holds (later ++ es) → Holds es
+held_before Holds one [] es h = h
+held_before Holds one (e ∷ later) es h = held_before Holds one later es (one e (later ++ es) h)
+
+-- so what happened before is a past
 pub past_before : (later es : List HostEvent) → IsPast (later ++ es) → IsPast es
-past_before [] es h = h
-past_before (e ∷ later) es h = past_before later es h.1
+past_before later es h = held_before IsPast (λ (e : HostEvent) (fs : List HostEvent) past. past.1) later es h
 
 pub saved_before : SavedLaw
 saved_before later earlier l m h =

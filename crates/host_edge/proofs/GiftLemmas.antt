@@ -1,5 +1,5 @@
 -- Messages that a document gives a link, one more at a time.
-use Rattle.std.proofs.Common.{◌≡◌, ℕ, List, [], ◌∷◌, ◌++◌, Option, Some, None, length, ◌+◌, refl, sym, ◌∙◌, ap, append_assoc, length-append}
+use Rattle.std.proofs.Common.{◌≡◌, ℕ, List, [], ◌∷◌, ◌++◌, Option, Some, None, ◌+◌, refl, sym, ◌∙◌, ap, append_assoc, length-append}
 use Rattle.std.proofs.lemmas.List.{append-nil}
 use Rattle.edit_message.specs.declared.message.Message.{Message}
 use Rattle.edit_frame.specs.declared.frame.Frame.TheVariants.{Item}

@@ -1,5 +1,5 @@
 -- Requests over HTTP that are refused, and those that show a device.
-use Rattle.std.specs.Prelude.{List, [], ◌∷◌, Option, Some, None, Bool, true, false, not, is_some}
+use Rattle.std.specs.Prelude.{List, [], ◌∷◌, Option, Some, None, Bool, false, not, is_some}
 use Rattle.element_name.specs.Cases.{when, first_of}
 use Rattle.host_people.specs.declared.change.Change.{Change}
 use Rattle.host_people.specs.Holders.{device_holder}

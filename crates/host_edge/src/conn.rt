@@ -112,4 +112,22 @@ impl Conn {
             unread: true,
         }
     }
+
+    /// The link that a connection is, with until when something must have come on it, and whether there may be more to do. The
+    /// connection itself if it is no link.
+    pub(crate) fn into_link(self) -> Result<(Linked, u64, bool), Conn> {
+        let Conn {
+            stage,
+            until,
+            unread,
+        } = self;
+        match stage {
+            Stage::Linked(linked) => Ok((linked, until, unread)),
+            stage => Err(Conn {
+                stage,
+                until,
+                unread,
+            }),
+        }
+    }
 }

@@ -7,7 +7,7 @@ ghost use Rattle.host_socket.specs.Sent.{socket_stays};
 ghost use Rattle.host_edge.specs.Gifts.{behind_gift, GivesFrames, AreGifts, SendsGifts};
 ghost use Rattle.host_edge.specs.declared.conn.Place.{Place};
 
-use crate::conn::{Conn, Linked, Place, Stage};
+use crate::conn::{Conn, Linked, Place};
 use crate::desk::Desk;
 use crate::linking::left_of;
 use crate::telling::tell_news;
@@ -216,18 +216,9 @@ fn push_conn<'a, D: HouseDocument<'a>>(
     slot: usize,
     conn: Conn,
 ) -> Option<Conn> {
-    let Conn {
-        stage,
-        until,
-        unread,
-    } = conn;
-    match stage {
-        Stage::Linked(linked) => push_linked(desk, slot, linked, until, unread),
-        stage => Some(Conn {
-            stage,
-            until,
-            unread,
-        }),
+    match conn.into_link() {
+        Ok((linked, until, unread)) => push_linked(desk, slot, linked, until, unread),
+        Err(conn) => Some(conn),
     }
 }
 

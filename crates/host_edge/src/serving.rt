@@ -113,14 +113,11 @@ fn expired<D>(desk: &mut Desk<'_, D>, stage: Stage) -> Option<Conn> {
 }
 
 // Looks whether the time of a connection is up that is no link.
-fn expire_other<D>(desk: &mut Desk<'_, D>, stage: Stage, until: u64, unread: bool) -> Option<Conn> {
-    if desk.now <= until {
-        return Some(Conn {
-            stage,
-            until,
-            unread,
-        });
+fn expire_other<D>(desk: &mut Desk<'_, D>, conn: Conn) -> Option<Conn> {
+    if desk.now <= conn.until {
+        return Some(conn);
     }
+    let Conn { stage, .. } = conn;
     expired(desk, stage)
 }
 
@@ -130,13 +127,8 @@ pub(crate) fn expire_conn<'a, D: HouseDocument<'a>>(
     slot: usize,
     conn: Conn,
 ) -> Option<Conn> {
-    let Conn {
-        stage,
-        until,
-        unread,
-    } = conn;
-    match stage {
-        Stage::Linked(linked) => expire_linked(desk, slot, linked, until, unread),
-        stage => expire_other(desk, stage, until, unread),
+    match conn.into_link() {
+        Ok((linked, until, unread)) => expire_linked(desk, slot, linked, until, unread),
+        Err(conn) => expire_other(desk, conn),
     }
 }

@@ -158,6 +158,23 @@ fn sync_all_names(rt: &HostRuntime, folders: &[&str]) -> io::Result<()> {
     Ok(())
 }
 
+// Names a folder anew, and waits until that is on the disk, in the folders that have the names. Where it can't be, the folder gets
+// its former name again, if it can: an error comes with whether it has its former name.
+fn rename_or_back(
+    rt: &HostRuntime,
+    old: &str,
+    new: &str,
+    within: &[&str],
+) -> Result<(), (io::Error, bool)> {
+    if let Err(error) = fs::rename(rt, old, new) {
+        return Err((error, true));
+    }
+    match sync_all_names(rt, within) {
+        Ok(()) => Ok(()),
+        Err(error) => Err((error, fs::rename(rt, new, old).is_ok())),
+    }
+}
+
 /// Names a folder anew, and waits until that is on the disk, in the folders that have the names. Where it can't be, the folder gets
 /// its former name again, if it can.
 pub(crate) fn rename_synced(
@@ -166,13 +183,9 @@ pub(crate) fn rename_synced(
     new: &str,
     within: &[&str],
 ) -> io::Result<()> {
-    fs::rename(rt, old, new)?;
-    match sync_all_names(rt, within) {
+    match rename_or_back(rt, old, new, within) {
         Ok(()) => Ok(()),
-        Err(error) => {
-            drop(fs::rename(rt, new, old));
-            Err(error)
-        }
+        Err((error, _)) => Err(error),
     }
 }
 
@@ -184,11 +197,9 @@ pub(crate) fn rename_folder(
     new: &str,
     within: &[&str],
 ) -> io::Result<()> {
-    fs::rename(rt, old, new)?;
-    match sync_all_names(rt, within) {
-        Ok(()) => Ok(()),
-        Err(error) if fs::rename(rt, new, old).is_ok() => Err(error),
-        Err(_) => Ok(()),
+    match rename_or_back(rt, old, new, within) {
+        Err((error, true)) => Err(error),
+        _ => Ok(()),
     }
 }
 

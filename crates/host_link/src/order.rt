@@ -42,20 +42,12 @@ fn number_of(word: &str) -> Option<u16> {
 
 // A name of a person.
 fn person_name(name: &str) -> Option<&str> {
-    if is_person_name(name) {
-        Some(name)
-    } else {
-        None
-    }
+    is_person_name(name).then_some(name)
 }
 
 // A name of a document.
 fn document_name(name: &str) -> Option<&str> {
-    if is_document_name(name) {
-        Some(name)
-    } else {
-        None
-    }
+    is_document_name(name).then_some(name)
 }
 
 fn read_person(rest: &str) -> Option<HouseOrder<'_>> {
@@ -96,26 +88,6 @@ fn read_move(rest: &str) -> Option<HouseOrder<'_>> {
     Some(HouseOrder::Move { from, to })
 }
 
-fn read_invite(rest: &str) -> Option<HouseOrder<'_>> {
-    let person = number_of(rest)?;
-    Some(HouseOrder::Invite { person })
-}
-
-fn read_make(rest: &str) -> Option<HouseOrder<'_>> {
-    let name = document_name(rest)?;
-    Some(HouseOrder::Make { name })
-}
-
-fn read_archive(rest: &str) -> Option<HouseOrder<'_>> {
-    let name = document_name(rest)?;
-    Some(HouseOrder::Archive { name })
-}
-
-fn read_renew(rest: &str) -> Option<HouseOrder<'_>> {
-    let name = document_name(rest)?;
-    Some(HouseOrder::Renew { name })
-}
-
 // An order of one word.
 fn read_word<'a>(word: &str) -> Option<HouseOrder<'a>> {
     match word.as_bytes() {
@@ -135,14 +107,22 @@ pub fn read_house_order(line: &str) -> Option<HouseOrder<'_>> {
     };
     match word.as_bytes() {
         b"person" => read_person(rest),
-        b"invite" => read_invite(rest),
+        b"invite" => Some(HouseOrder::Invite {
+            person: number_of(rest)?,
+        }),
         b"role" => read_role(rest),
         b"rename" => read_rename(rest),
         b"close" => read_close(rest),
-        b"make" => read_make(rest),
+        b"make" => Some(HouseOrder::Make {
+            name: document_name(rest)?,
+        }),
         b"move" => read_move(rest),
-        b"archive" => read_archive(rest),
-        b"renew" => read_renew(rest),
+        b"archive" => Some(HouseOrder::Archive {
+            name: document_name(rest)?,
+        }),
+        b"renew" => Some(HouseOrder::Renew {
+            name: document_name(rest)?,
+        }),
         _ => None,
     }
 }

@@ -1,44 +1,30 @@
 -- A device that was closed stays closed over the lives of a host.
 use Rattle.std.proofs.Common.{◌≡◌, ℕ, inl, inr, Bool, true, false, cond, List, [], ◌∷◌, ◌++◌, Some, None, refl, ap, sym, subst, ◌∙◌}
-use Rattle.std.specs.Prelude.{◌⊎◌, option_map, option_and_then, nat_eq, Contains, IsSome}
+use Rattle.std.specs.Prelude.{◌⊎◌, option_map, nat_eq, Contains}
 use Rattle.std.specs.declared.option.Option.{Option}
-use Rattle.std.specs.Option.{option_map_or}
 use Rattle.std.specs.List.{AllByRecursion}
 use Rattle.std.proofs.lemmas.Bool.{eqb-true}
-use Rattle.element_name.specs.Cases.{when}
 use Rattle.coop_request.specs.Request.{Request}
 use Rattle.edit_message.specs.declared.message.Message.{Message}
 use Rattle.edit_message.specs.declared.message.Message.TheVariants.{Coop}
-use Rattle.peer_step.specs.declared.step.Step.{Step}
 use Rattle.peer_step.specs.declared.step.Step.TheVariants.{Receive}
 use Rattle.host_core.specs.declared.event.Device.{Device}
 use Rattle.host_core.specs.declared.event.Hello.{Hello}
-use Rattle.host_core.specs.declared.event.LinkId.{LinkId}
-use Rattle.host_core.specs.declared.event.OpenLink.{OpenLink}
 use Rattle.host_core.specs.declared.event.HostEvent.{HostEvent}
 use Rattle.host_core.specs.declared.event.HostEvent.TheVariants.{DeviceMade, SecretChanged, DeviceClosed, LinkOpened, LinkClosed, Made, Gave, Told}
-use Rattle.host_core.specs.declared.refusal.Refusal.TheVariants.{NoLink}
 use Rattle.host_core.specs.Past.{device_of, with_digest, links_opened, link_by, moved_on, link_of, open_link}
-use Rattle.host_core.specs.Refusals.{refusal_by, ask_refusal}
 use Rattle.host_core.specs.Happens.{MayHappen}
 use Rattle.host_core.specs.Laws.{AuthenticLaw}
+use Rattle.host_core.proofs.Closing.{none_either, none_mapped, none_open, none_asked, none_known}
 use Rattle.host_people.specs.declared.change.Change.{Change}
 use Rattle.host_people.specs.declared.people.Holder.{Holder}
 use Rattle.host_people.specs.Holders.{device_holder}
 use Rattle.host_lives.specs.Lives.{LifeEvent, PeopleChanged, AtDocument, CloseTold, LifeEnded, changes_saved, this_life, journal_left, IsOpenBy, IsClosedHolder, IsClosedIn, IsByFiles, MayBeNext, AreLives}
 use Rattle.host_lives.specs.Laws.{CameByDevice, IsOnLinkOf, UsesSite, ClosedForGoodLaw, NothingMoreLaw}
 use Rattle.host_lives.proofs.Lasting.{change_keeps_closed}
-use Rattle.host_lives.proofs.Requests.{opens_by_file, From, comes_from}
+use Rattle.host_lives.proofs.Requests.{opens_by_file, From, came_behind, comes_from}
 
 -- ---- what isn't there
-
-none_either : {A : Type 0} (b : Bool) (o : Option A) → o ≡ None → cond b None o ≡ None
-none_either true o h = refl
-none_either false o h = h
-
-none_mapped : {A : Type 0} (b : Bool) (f : A → A) (o : Option A) → o ≡ None → cond b (option_map f o) o ≡ None
-none_mapped true f o h = ap (option_map f) h
-none_mapped false f o h = h
 
 -- where a device isn't there, no link of it is open
 no_link : (es : List HostEvent) (u : ℕ) → device_of u es ≡ None → link_of u es ≡ None
@@ -99,21 +85,7 @@ stays_barred first (AtDocument e) ls u may b = (b.0, still_none (journal_left fi
 stays_barred first (CloseTold v) ls u may b = b
 stays_barred first (LifeEnded journal) ls u may b = (b.0, refl)
 
--- no link of it is known
-none_open : (es : List HostEvent) (u : ℕ) (l : LinkId) → l.site ≡ u → link_of u es ≡ None → open_link es l ≡ None
-none_open es u l same none =
-    ap (λ (o : Option OpenLink). option_and_then (λ (x : OpenLink). when (nat_eq x.number l.number) x) o) (subst (λ (v : ℕ). link_of v es ≡ None) (sym same) none)
-
-none_asked : (es : List HostEvent) (l : LinkId) (step : Step) → open_link es l ≡ None → ask_refusal es l step ≡ None → ⊥
-none_asked es l step none may =
-    let refused : Some NoLink ≡ None = subst (λ (o : Option OpenLink). option_map_or (λ (x : OpenLink). refusal_by es l.site x step) o (Some NoLink) ≡ None) none may in
-    cc
-
-none_known : (o : Option OpenLink) → o ≡ None → IsSome o → ⊥
-none_known None none known = absurd cc
-none_known (Some x) none known = absurd cc
-
--- nothing happens on one
+-- nothing happens on a link of it
 quiet : (left : List Message) (cs : List Change) (es : List HostEvent) (e : HostEvent) (u : ℕ) → MayHappen es e → IsByFiles left cs es e → IsClosedIn cs u → link_of u es ≡ None
     → ¬ IsOnLinkOf u e
 quiet left cs es (LinkOpened hello) u may by shut none same = none_opens left cs es hello u by shut same
@@ -158,21 +130,7 @@ came_earlier first later earlier u q holder h site c =
     let rest : List LifeEvent = c.between ++ AtDocument (LinkOpened c.hello) ∷ c.before in
     let found = stands_earlier u later c.after earlier rest (CloseTold u) (AtDocument (Made (Some c.link) (Receive (Coop q)))) c.came
     (barred_on first later earlier u h).1 (λ none. none) (c.of_site ∙ site) in
-    record {
-      link = c.link;
-      hello = c.hello;
-      after = found.0;
-      between = c.between;
-      before = c.before;
-      came = found.1;
-      of_site = c.of_site;
-      still_open = c.still_open;
-      number = c.number;
-      by_site = c.by_site;
-      known = c.known;
-      is_key = c.is_key;
-      was_open = c.was_open;
-    }
+    came_behind (later ++ CloseTold u ∷ earlier) earlier q holder c found.0 found.1
 
 pub nothing_more : AuthenticLaw → NothingMoreLaw
 nothing_more authentic first later earlier u journal q h may there site = by (comes_from authentic first (later ++ CloseTold u ∷ earlier) q journal h may there)

@@ -5,6 +5,7 @@ use Rattle.std.specs.declared.option.Option.{Option}
 use Rattle.std.proofs.lemmas.Bool.{eqb-true}
 use Rattle.edit_message.specs.declared.message.Message.{Message}
 use Rattle.host_core.specs.Happens.{IsPast}
+use Rattle.host_core.proofs.Saving.{held_before}
 use Rattle.host_people.specs.declared.change.Change.{Change}
 use Rattle.host_people.specs.declared.change.Change.TheVariants.{Joined, Left}
 use Rattle.host_people.specs.declared.people.Holder.{Holder}
@@ -16,8 +17,7 @@ use Rattle.host_lives.specs.Laws.{OneDeviceLaw}
 
 -- what was before is lives too
 pub lives_before : (first : List Message) (more ls : List LifeEvent) → AreLives first (more ++ ls) → AreLives first ls
-lives_before first [] ls h = h
-lives_before first (l ∷ more) ls h = lives_before first more ls h.1
+lives_before first more ls h = held_before (λ (ks : List LifeEvent). AreLives first ks) (λ (l : LifeEvent) (ks : List LifeEvent) lives. lives.1) more ls h
 
 -- what has happened in this life is a past
 pub past_of_life : (first : List Message) (ls : List LifeEvent) → AreLives first ls → IsPast (this_life ls)

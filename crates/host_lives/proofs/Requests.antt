@@ -122,14 +122,16 @@ began_with first (l ∷ ls) h = began_with first ls h.1
 abbrev pub From : List Message → List LifeEvent → Request → Type 0
 From first ls q = Contains first (Coop q) ⊎ ((q.id.site ≡ 0) ⊎ ((holder : Holder) × CameByDevice ls q holder))
 
-came_before : (l : LifeEvent) (ls : List LifeEvent) (q : Request) (holder : Holder) → CameByDevice ls q holder → CameByDevice (l ∷ ls) q holder
-came_before l ls q holder c = record {
+-- what came by a device in some lives did in others too, if those have the same up to where it came
+pub came_behind : (ls ks : List LifeEvent) (q : Request) (holder : Holder) (c : CameByDevice ls q holder) (after : List LifeEvent)
+    → ks ≡ after ++ AtDocument (Made (Some c.link) (Receive (Coop q))) ∷ (c.between ++ AtDocument (LinkOpened c.hello) ∷ c.before) → CameByDevice ks q holder
+came_behind ls ks q holder c after is = record {
   link = c.link;
   hello = c.hello;
-  after = l ∷ c.after;
+  after = after;
   between = c.between;
   before = c.before;
-  came = ap (λ (ks : List LifeEvent). l ∷ ks) c.came;
+  came = is;
   of_site = c.of_site;
   still_open = c.still_open;
   number = c.number;
@@ -142,7 +144,8 @@ came_before l ls q holder c = record {
 from_before : (first : List Message) (l : LifeEvent) (ls : List LifeEvent) (q : Request) → From first ls q → From first (l ∷ ls) q
 from_before first l ls q (inl there) = inl there
 from_before first l ls q (inr (inl own)) = inr (inl own)
-from_before first l ls q (inr (inr came)) = inr (inr (came.0, came_before l ls q came.0 came.1))
+from_before first l ls q (inr (inr came)) =
+    inr (inr (came.0, came_behind ls (l ∷ ls) q came.0 came.1 (l ∷ came.1.after) (ap (λ (ks : List LifeEvent). l ∷ ks) came.1.came)))
 
 none_there : (ms : List Message) (m : Message) → ms ≡ [] → Contains ms m → ⊥
 none_there [] m none there = let less = there.1 in omega arith

@@ -1,8 +1,8 @@
 -- A change that is kept, by the record that was put.
-use Rattle.std.proofs.Common.{◌≡◌, inl, ℕ, List, [], ◌∷◌, ◌++◌, sym, subst}
+use Rattle.std.proofs.Common.{◌≡◌, ℕ, List, sym, subst}
 use Rattle.std.specs.declared.option.Option.{Option}
 use Rattle.peer_disk.specs.Disk.{LeavesOnly}
-use Rattle.peer_disk.specs.Records.{Keeps, HasBodies, IsBeforeOrAfter}
+use Rattle.peer_disk.specs.Records.{Keeps, IsBeforeOrAfter}
 use Rattle.host_people.specs.declared.change.Change.{Change}
 use Rattle.host_people.specs.Bodies.{change_body, change_bodies}
 use Rattle.host_people.specs.Kept.{Kept, KeepsChanges, HasChangesOrOneMore}

@@ -4,7 +4,7 @@
 //! in UTF-8 to the end.
 
 ghost use Rattle.std.specs.Prelude.{◌≡◌, ◌++◌, IfOk, IfSome, OnOk, string_bytes};
-ghost use Rattle.host_people.specs.declared.kinds.TheConstants.{MADE, GIVEN_ROLE, RENAMED, INVITED, JOINED};
+ghost use Rattle.host_people.specs.declared.kinds.TheConstants.{MADE, GIVEN_ROLE, RENAMED};
 ghost use Rattle.host_people.specs.Bodies.{role_byte, change_head, holder_fields, change_body};
 
 use crate::change::{Change, Digest};
@@ -165,26 +165,24 @@ fn held_of(fields: &[u8]) -> Option<(u16, Digest)>
     Some((u16::from_be_bytes([*high, *low]), digest))
 }
 
-fn invited_of(invitation: u16, fields: &[u8]) -> Option<Change>
-    ensures { IfSome result (λ change. change_body change ≡ change_head INVITED invitation ++ fields.now) }
+// A change with the number of a person and a digest: an invitation was made, or a device.
+fn held_change_of(kind: u8, number: u16, fields: &[u8]) -> Option<Change>
+    ensures { IfSome result (λ change. change_body change ≡ change_head kind number ++ fields.now) }
 {
     let (person, digest) = held_of(fields)?;
-    Some(Change::Invited {
-        invitation,
-        person,
-        digest,
-    })
-}
-
-fn joined_of(site: u16, fields: &[u8]) -> Option<Change>
-    ensures { IfSome result (λ change. change_body change ≡ change_head JOINED site ++ fields.now) }
-{
-    let (person, digest) = held_of(fields)?;
-    Some(Change::Joined {
-        site,
-        person,
-        digest,
-    })
+    match kind {
+        INVITED => Some(Change::Invited {
+            invitation: number,
+            person,
+            digest,
+        }),
+        JOINED => Some(Change::Joined {
+            site: number,
+            person,
+            digest,
+        }),
+        _ => None,
+    }
 }
 
 /// The change whose body these bytes are; none where they are no body. Takes memory for a name.
@@ -199,9 +197,8 @@ pub fn read_change(alloc: Global, body: &[u8]) -> Result<Option<Change>, NoMemor
         MADE => made_of(alloc, number, fields),
         GIVEN_ROLE => Ok(role_change_of(number, fields)),
         RENAMED => renamed_of(alloc, number, fields),
-        INVITED => Ok(invited_of(number, fields)),
+        INVITED | JOINED => Ok(held_change_of(*kind, number, fields)),
         UNINVITED if fields.is_empty() => Ok(Some(Change::Uninvited { invitation: number })),
-        JOINED => Ok(joined_of(number, fields)),
         LEFT if fields.is_empty() => Ok(Some(Change::Left { site: number })),
         _ => Ok(None),
     }

@@ -4,7 +4,6 @@ use Rattle.websocket.specs.View.{Leaves}
 use Rattle.tungstenite.specs.Connection.{write_step}
 use Rattle.tungstenite.specs.Content.{Content}
 use Rattle.tungstenite.specs.Socket.{Socket}
-use Rattle.host_link.specs.declared.ending.Ending.{Ending}
 use Rattle.host_socket.specs.declared.socket.After.{After}
 use Rattle.host_socket.specs.declared.socket.After.TheVariants.{Waits, More, Gone, Ends}
 
