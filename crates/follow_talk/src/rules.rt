@@ -33,9 +33,9 @@ fn put_entry_at(alloc: Global, out: &mut Vec<u8>, peer: &Peer, place: u32) -> Re
         return Ok(());
     };
     let message = item.copied()?;
-    put_entry(alloc, out, &message)?;
+    let put = put_entry(alloc, out, &message);
     drop(message);
-    Ok(())
+    Ok(put?)
 }
 
 // Puts the lines of all entries of a peer's journal.

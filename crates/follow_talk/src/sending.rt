@@ -1,5 +1,6 @@
 //! What goes to the host.
-ghost use Rattle.std.specs.Prelude.{◌≡◌, ◌∷◌, ◌++◌, true, false, IfOk};
+ghost use Rattle.std.specs.Prelude.{◌≡◌, ◌∷◌, ◌++◌, true, false, OnOk, IfOk};
+ghost use Rattle.edit_frame.specs.Spelling.{spelling};
 ghost use Rattle.edit_message.specs.declared.message.Message.{Message};
 ghost use Rattle.follow_core.specs.declared.event.FollowEvent.{FollowEvent};
 ghost use Rattle.follow_core.specs.Past.{follow_peer, back_of};
@@ -8,7 +9,20 @@ ghost use Rattle.follow_talk.specs.Sending.{own_frame, PassesFrames};
 use crate::stop::Stop;
 use crate::talk::Talk;
 use edit_frame::{Frame, encode};
+use edit_message::Message;
+use element_name::NoMemory;
 use host_core::Keeper;
+use std::alloc::Global;
+
+// Puts the frame of a message behind others.
+fn put_item(alloc: Global, message: Message, frames: &mut Vec<u8>) -> Result<(), NoMemory>
+    ensures { OnOk result (frames.new.items ≡ frames.old.items ++ spelling (Frame.Item message)) }
+{
+    let frame = Frame::Item(message);
+    let put = encode(alloc, &frame, frames);
+    drop(frame);
+    put
+}
 
 impl<K: Keeper> Talk<K> {
     /// A link stands.
@@ -30,7 +44,9 @@ impl<K: Keeper> Talk<K> {
             return Ok(false);
         };
         if self.follower.is_own(&message) {
-            encode(self.alloc, &Frame::Item(message), frames)?;
+            put_item(self.alloc, message, frames)?;
+        } else {
+            drop(message);
         }
         Ok(true)
     }

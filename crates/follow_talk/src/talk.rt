@@ -130,7 +130,10 @@ impl<K: Keeper> Talk<K> {
         ensures rows { IfOk result (λ told. ∥ text_told self.new.mirror.shown told.rows.items ≡ text (follow_peer self.new.follower.outbox) ∥₁) }
         ensures same { self.new.mirror ≡ self.old.mirror }
     {
-        self.check()?;
+        if self.is_behind {
+            drop(step);
+            return Err(Stop::NoMemory);
+        }
         let told = self.follower.make(step)?;
         self.has_changed = true;
         self.is_behind = true;
@@ -183,17 +186,29 @@ impl<K: Keeper> Talk<K> {
         }
     }
 
-    // Does what a line asks for.
-    fn do_row(&mut self, row: InputRow) -> Result<(), Stop> {
-        self.mirror.tell_pending()?;
+    // Does what a line asks for, once the row that waits is told.
+    fn do_told(&mut self, row: InputRow) -> Result<(), Stop> {
         match row {
             InputRow::Make(step) => self.answer(step),
             InputRow::Replace { from, to, text } => {
-                self.replace(from as usize, to as usize, &text.bytes)
+                let replaced = self.replace(from as usize, to as usize, &text.bytes);
+                drop(text);
+                replaced
             }
             InputRow::Whole => Ok(self.mirror.tell_whole()?),
             InputRow::Rules => self.tell_rules(),
             InputRow::Seen(count) => self.note_seen(count),
+        }
+    }
+
+    // Does what a line asks for.
+    fn do_row(&mut self, row: InputRow) -> Result<(), Stop> {
+        match self.mirror.tell_pending() {
+            Ok(()) => self.do_told(row),
+            Err(fail) => {
+                drop(row);
+                Err(Stop::from(fail))
+            }
         }
     }
 

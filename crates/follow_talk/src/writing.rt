@@ -71,8 +71,11 @@ fn whole_of(carried: &Carried) -> Option<Span> {
 // The line of the answer to a range that ends past a text.
 fn no_place(alloc: Global, bytes: &[u8]) -> Result<Vec<u8>, Stop> {
     let len = u32::try_from(letter_count(bytes)).unwrap_or(u32::MAX);
+    let answer = Answer::BadPlace(len);
     let mut line = Vec::new(alloc);
-    put_answer(alloc, &mut line, &Answer::BadPlace(len))?;
+    let put = put_answer(alloc, &mut line, &answer);
+    drop(answer);
+    put?;
     Ok(line)
 }
 
