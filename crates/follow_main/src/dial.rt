@@ -155,9 +155,16 @@ fn failed(error: &Error) -> Greeted {
 /// Goes on with an upgrade.
 pub(crate) fn greet(greeting: Greeting) -> Greeted {
     match greeting.handshake() {
-        Ok((socket, _)) => Greeted::Open(socket),
+        Ok((socket, answer)) => {
+            drop(answer);
+            Greeted::Open(socket)
+        }
         Err(HandshakeError::Interrupted(greeting)) => Greeted::Waits(greeting),
-        Err(HandshakeError::Failure(error)) => failed(&error),
+        Err(HandshakeError::Failure(error)) => {
+            let greeted = failed(&error);
+            drop(error);
+            greeted
+        }
     }
 }
 
@@ -165,6 +172,9 @@ pub(crate) fn greet(greeting: Greeting) -> Greeted {
 pub(crate) fn begin(rt: &HostRuntime, address: Address<'_>, stream: TcpStream) -> Greeted {
     match asked(rt, address, stream) {
         Ok(greeting) => greet(greeting),
-        Err(_) => Greeted::Failed,
+        Err(error) => {
+            drop(error);
+            Greeted::Failed
+        }
     }
 }

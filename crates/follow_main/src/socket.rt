@@ -1,14 +1,16 @@
 //! The socket of a link, which doesn't wait.
-ghost use Rattle.std.specs.Prelude.{◌≡◌, true};
+ghost use Rattle.std.specs.Prelude.{◌≡◌, true, IfErr};
 ghost use Rattle.tungstenite.specs.Content as content;
 ghost use Rattle.tungstenite.specs.Failure.{IsIo};
+ghost use Rattle.tungstenite.specs.Socket.{content_of};
 ghost use Rattle.follow_main.specs.Sending.{is_taken, StandsWhole};
 
 use mio::net::TcpStream;
 use std::alloc::Global;
 use std::io::{self, ErrorKind};
 use tungstenite::{
-    ClientHandshake, Error, Message, MidHandshake, RandomKeys, WebSocket, WebSocketConfig,
+    ClientHandshake, CloseFrame, Error, Message, MidHandshake, RandomKeys, WebSocket,
+    WebSocketConfig,
 };
 
 /// The masking keys of a client.
@@ -63,26 +65,34 @@ pub(crate) fn must_wait(error: &io::Error) -> bool {
     error.kind() == ErrorKind::WouldBlock || error.kind() == ErrorKind::Interrupted
 }
 
-// What an error of a socket says of what was given to it.
-fn after_error(error: &Error) -> Sent
-    ensures { is_taken result ≡ true → IsIo error.now }
+// What a socket made of what was given to it.
+fn sent_as(outcome: &Result<(), Error>) -> Sent
+    ensures { is_taken result ≡ true → IfErr outcome.now IsIo }
 {
-    match error {
-        Error::Io(error) if must_wait(error) => Sent::Waits,
-        _ => Sent::Gone,
+    match outcome {
+        Ok(()) => Sent::All,
+        Err(Error::Io(error)) if must_wait(error) => Sent::Waits,
+        Err(_) => Sent::Gone,
     }
+}
+
+// Sends a message.
+fn send(socket: &mut Socket, message: Message) -> Sent
+    ensures { is_taken result ≡ true → StandsWhole (content_of message) socket.old socket.new }
+{
+    let outcome = socket.send(message);
+    let sent = sent_as(&outcome);
+    drop(outcome);
+    sent
 }
 
 /// Sends a text.
 pub(crate) fn send_text(alloc: Global, socket: &mut Socket, text: &str) -> Sent
     ensures { is_taken result ≡ true → StandsWhole (content.text text.now) socket.old socket.new }
 {
-    let Ok(message) = Message::text(alloc, text) else {
-        return Sent::Gone;
-    };
-    match socket.send(message) {
-        Ok(()) => Sent::All,
-        Err(error) => after_error(&error),
+    match Message::text(alloc, text) {
+        Ok(message) => send(socket, message),
+        Err(_) => Sent::Gone,
     }
 }
 
@@ -90,33 +100,46 @@ pub(crate) fn send_text(alloc: Global, socket: &mut Socket, text: &str) -> Sent
 pub(crate) fn send_frames(alloc: Global, socket: &mut Socket, frames: &[u8]) -> Sent
     ensures { is_taken result ≡ true → StandsWhole (content.binary frames.now) socket.old socket.new }
 {
-    let Ok(message) = Message::binary(alloc, frames) else {
-        return Sent::Gone;
-    };
-    match socket.send(message) {
-        Ok(()) => Sent::All,
-        Err(error) => after_error(&error),
+    match Message::binary(alloc, frames) {
+        Ok(message) => send(socket, message),
+        Err(_) => Sent::Gone,
     }
 }
 
 /// Goes on with what the stream didn't take.
 pub(crate) fn flush(socket: &mut Socket) -> Sent {
-    match socket.flush() {
-        Ok(()) => Sent::All,
-        Err(error) => after_error(&error),
-    }
+    let outcome = socket.flush();
+    let sent = sent_as(&outcome);
+    drop(outcome);
+    sent
 }
 
 // What an error of reading says.
-fn came_of(error: &Error) -> Came {
+fn came_error(error: &Error) -> Came {
     match error {
         Error::Io(error) if must_wait(error) => Came::Nothing,
         _ => Came::Gone,
     }
 }
 
+// Frames that came.
+fn came_frames(alloc: Global, bytes: &[u8]) -> Came {
+    match Vec::from_slice(alloc, bytes) {
+        Ok(frames) => Came::Frames(frames),
+        Err(_) => Came::Gone,
+    }
+}
+
+// A text that came.
+fn came_text(alloc: Global, text: &str) -> Came {
+    match String::from_str(alloc, text) {
+        Ok(text) => Came::Text(text),
+        Err(_) => Came::Gone,
+    }
+}
+
 // The code and the words of a close.
-fn closed_of(alloc: Global, close: &Option<tungstenite::CloseFrame>) -> Came {
+fn closed_of(alloc: Global, close: &Option<CloseFrame>) -> Came {
     let Some(close) = close else {
         return Came::Gone;
     };
@@ -129,22 +152,24 @@ fn closed_of(alloc: Global, close: &Option<tungstenite::CloseFrame>) -> Came {
     }
 }
 
+// What came with a message of a socket, or its error.
+fn came_of(alloc: Global, read: &Result<Message, Error>) -> Came {
+    match read {
+        Ok(Message::Binary(bytes)) => came_frames(alloc, bytes.as_slice()),
+        Ok(Message::Text(text)) => came_text(alloc, text.as_str()),
+        Ok(Message::Ping(_) | Message::Pong(_)) => Came::Sign,
+        Ok(Message::Close(close)) => closed_of(alloc, close),
+        Err(error) => came_error(error),
+    }
+}
+
 /// The next message of a socket. Pings are answered by reading on.
 pub(crate) fn next_message(alloc: Global, socket: &mut Socket) -> Came {
-    match socket.read() {
-        Ok(Message::Binary(bytes)) => match Vec::from_slice(alloc, bytes.as_slice()) {
-            Ok(frames) => Came::Frames(frames),
-            Err(_) => Came::Gone,
-        },
-        Ok(Message::Text(text)) => match String::from_str(alloc, text.as_str()) {
-            Ok(text) => Came::Text(text),
-            Err(_) => Came::Gone,
-        },
-        Ok(Message::Ping(_) | Message::Pong(_)) => Came::Sign,
-        Ok(Message::Close(close)) => {
-            let _ = socket.flush();
-            closed_of(alloc, &close)
-        }
-        Err(error) => came_of(&error),
+    let read = socket.read();
+    let came = came_of(alloc, &read);
+    if matches!(read, Ok(Message::Close(_))) {
+        drop(socket.flush());
     }
+    drop(read);
+    came
 }
