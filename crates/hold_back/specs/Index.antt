@@ -21,6 +21,12 @@ awaited_need None = Nothing
 awaited_need (Some (Element name)) = awaited.Element name
 awaited_need (Some (Front version)) = awaited.Version version
 
+-- the need of a message that awaits this
+abbrev pub need_awaited : Awaited → Option Need
+need_awaited Nothing = None
+need_awaited (awaited.Element name) = Some (Element name)
+need_awaited (awaited.Version version) = Some (Front version)
+
 -- what has a key: a request's name, or an entry's version
 abbrev pub awaited_key : Key → Awaited
 awaited_key (Coop name) = awaited.Element name

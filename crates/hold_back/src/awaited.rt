@@ -2,7 +2,7 @@
 ghost use Rattle.std.specs.Prelude.{◌≡◌, ◌==◌, ◌<◌, true, nat_lt};
 ghost use Rattle.std.specs.Ordering.{nat_cmp};
 ghost use Rattle.hold_back.specs.declared.awaited.Awaited.TheVariants as awaited;
-ghost use Rattle.hold_back.specs.Index.{awaited_need, awaited_key, awaited_rank, is_ranked, need_fits, key_fits};
+ghost use Rattle.hold_back.specs.Index.{awaited_need, need_awaited, awaited_key, awaited_rank, is_ranked, need_fits, key_fits};
 
 use crate::need::Need;
 use edit_message::Key;
@@ -41,6 +41,17 @@ impl Awaited {
         match key {
             Key::Coop(name) => Awaited::Element(PackedName::of(name)),
             Key::Admin(version) => Awaited::of_version(version),
+        }
+    }
+
+    /// The need of a message that awaits this; none where it is woken.
+    pub(crate) fn need(&self) -> Option<Need>
+        ensures { result ≡ need_awaited self.now }
+    {
+        match *self {
+            Awaited::Nothing => None,
+            Awaited::Version(version) => Some(Need::Front(version)),
+            Awaited::Element(name) => Some(Need::Element(name.name())),
         }
     }
 

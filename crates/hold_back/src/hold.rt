@@ -223,16 +223,6 @@ fn is_due_at<T: Due>(held: &[Parcel], place: u32, test: &T) -> bool
     test.due(held[place as usize].message())
 }
 
-fn wrap(alloc: Global, held: Held) -> Result<Parcel, HoldFault>
-    ensures ok { IfOk result (λ parcel. parcel ≡ held) }
-    ensures err { IfErr result (λ fault. fault ≡ no_memory) }
-{
-    match Parcel::new(alloc, held) {
-        Ok(parcel) => Ok(parcel),
-        Err(_) => Err(HoldFault::NoMemory),
-    }
-}
-
 fn push(held: &mut Vec<Parcel>, parcel: Parcel) -> Result<(), HoldFault>
     ensures ok { OnOk result (held.new.items ≡ held.old.items ++ parcel ∷ []) }
     ensures err { IfErr result (λ fault. (fault ≡ no_memory) × (held.new.items ≡ held.old.items)) }
@@ -253,7 +243,7 @@ fn put(
     ensures err { IfErr result (λ fault. (fault ≡ no_memory) × (held.new.items ≡ held.old.items)) }
 {
     let need = Some(*need);
-    let parcel = wrap(alloc, Held { message, need })?;
+    let parcel = Parcel::new(alloc, Held { message, need })?;
     push(held, parcel)
 }
 
