@@ -6,9 +6,10 @@ use Rattle.element_name.specs.Cases.{when}
 use Rattle.element_name.proofs.CaseLemmas.{when-None, first_of-None}
 use Rattle.edit_frame.specs.declared.frame.FrameKind.TheVariants.{BadLength, Truncated}
 use Rattle.edit_frame.specs.declared.frame.Frame.{Frame}
+use Rattle.edit_frame.specs.declared.lent_frame.LentFrame.{LentFrame}
 use Rattle.edit_frame.specs.declared.frame.FrameKind.{FrameKind}
 use Rattle.edit_frame.specs.declared.fail.FrameFail.{FrameFail}
-use Rattle.edit_frame.specs.Gives.{GivesFrame}
+use Rattle.edit_frame.specs.Gives.{GivesLent}
 use Rattle.edit_frame.specs.Reading.{fault_or, frame_of, length_field, cut_fault, inner, prefix_frame, has_listing, takes_memory}
 
 -- the bytes begin with a whole frame
@@ -45,10 +46,10 @@ unfolding takes_memory
 takes_inside bytes e = ap (λ (k : Option FrameKind). is_none k && has_listing (inner bytes)) e
 
 -- what is answered about the bytes after the length field is the answer about the whole frame
-pub whole_gives : (more : Bool) (bytes inside : List ℕ) (r : Result Frame FrameFail) → cut_fault bytes ≡ None → inside ≡ inner bytes
-    → GivesFrame (has_listing inside) r (frame_of more inside) → GivesFrame (takes_memory bytes) r (prefix_frame more bytes)
-whole_gives more bytes inside r e same h =
-    let at_inner = subst (λ (x : List ℕ). GivesFrame (has_listing x) r (frame_of more x)) same h in
+pub whole_gives_lent : (more : Bool) (bytes inside : List ℕ) (r : Result LentFrame FrameFail) → cut_fault bytes ≡ None → inside ≡ inner bytes
+    → GivesLent (has_listing inside) r (frame_of more inside) → GivesLent (takes_memory bytes) r (prefix_frame more bytes)
+whole_gives_lent more bytes inside r e same h =
+    let at_inner = subst (λ (x : List ℕ). GivesLent (has_listing x) r (frame_of more x)) same h in
     let whole : frame_of more (inner bytes) ≡ prefix_frame more bytes = ap (λ (k : Option FrameKind). fault_or k (frame_of more (inner bytes))) (sym e) in
-    let at_prefix = subst (λ (x : Result Frame FrameKind). GivesFrame (has_listing (inner bytes)) r x) whole at_inner in
-    subst (λ (b : Bool). GivesFrame b r (prefix_frame more bytes)) (sym (takes_inside bytes e)) at_prefix
+    let at_prefix = subst (λ (x : Result Frame FrameKind). GivesLent (has_listing (inner bytes)) r x) whole at_inner in
+    subst (λ (b : Bool). GivesLent b r (prefix_frame more bytes)) (sym (takes_inside bytes e)) at_prefix

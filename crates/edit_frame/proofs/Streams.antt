@@ -12,6 +12,7 @@ use Rattle.coop_request.specs.declared.request.RequestFault.{RequestFault}
 use Rattle.coop_request.specs.Request.{request_fault}
 use Rattle.edit_frame.specs.declared.frame.Frame.{Frame}
 use Rattle.edit_frame.specs.declared.frame.FrameKind.{FrameKind}
+use Rattle.edit_frame.specs.declared.lent_frame.LentFrame.{LentFrame}
 use Rattle.edit_frame.specs.declared.frame.FrameKind.TheVariants.{BadLength, BadKind, BadField, LeftOver, Truncated, BadRequest}
 use Rattle.edit_frame.specs.declared.fail.FrameFail.{FrameFail}
 use Rattle.edit_frame.specs.declared.fail.FrameFail.TheVariants as fails
@@ -20,7 +21,7 @@ use Rattle.edit_frame.specs.Fields.{Field}
 use Rattle.edit_frame.specs.Reading.{request_at, other_at, is_kind, fault_or, request_frame, unless_left_over, frame_by, frame_of, length_field, cut_fault, inner, prefix_frame, frame_at, takes_memory, Stream, stream_with, stream_of, stream, rest_fault}
 use Rattle.edit_frame.specs.Spelling.{body, spelling}
 use Rattle.edit_frame.specs.Spells.{IsBytes, is_frame, Spells}
-use Rattle.edit_frame.specs.Splitter.{Splitter, is_truncated, FirstGives, IsSplit, IsAllOf}
+use Rattle.edit_frame.specs.Splitter.{Splitter, is_truncated, FirstGives, FirstLent, IsSplit, IsAllOf}
 use Rattle.edit_frame.proofs.Readers.{IsBytes-drop, chosen}
 use Rattle.edit_frame.proofs.Outcomes.{good, bad, same_kind, no_frame}
 use Rattle.edit_frame.proofs.Cut.{whole_by}
@@ -177,7 +178,7 @@ rest_fault_by (b ∷ bytes) k e h = ap (λ (r : Result Frame FrameKind). elim r 
 
 -- ---- what follows at a splitter's answers
 
-pub none_follows : (bytes : List ℕ) (o : Option (Frame × ℕ)) (s : Splitter) → o ≡ None → FirstGives bytes (Ok o) → bytes ≡ s.rest → (fed : List ℕ) (frames : List Frame) → IsSplit fed frames s → IsSplit fed frames s × IsAllOf fed frames s.rest
+pub none_follows : (bytes : List ℕ) (o : Option (LentFrame × ℕ)) (s : Splitter) → o ≡ None → FirstLent bytes (Ok o) → bytes ≡ s.rest → (fed : List ℕ) (frames : List Frame) → IsSplit fed frames s → IsSplit fed frames s × IsAllOf fed frames s.rest
 none_follows bytes None s is h same fed frames i = (i, all_of fed frames s Truncated i (ap frame_at (sym same) ∙ h))
 none_follows bytes (Some x) s is h same fed frames i = absurd cc
 

@@ -5,3 +5,4 @@ pub mod Spells
 pub mod Fail
 pub mod Gives
 pub mod Splitter
+pub mod Lent

@@ -9,6 +9,8 @@ use Rattle.edit_frame.specs.declared.fail.FrameFail.{FrameFail}
 use Rattle.edit_frame.specs.declared.fail.FrameFail.TheVariants as frames
 use Rattle.edit_frame.specs.declared.frame.DecodeFail.{DecodeFail}
 use Rattle.edit_frame.specs.declared.frame.DecodeFail.TheVariants as decodes
+use Rattle.edit_frame.specs.declared.lent_frame.LentFrame.{LentFrame}
+use Rattle.edit_frame.specs.Lent.{frame_lent}
 use Rattle.edit_frame.specs.Spelling.{spelling}
 use Rattle.edit_frame.specs.Spells.{is_frame}
 use Rattle.edit_frame.specs.Reading.{length_field, frame_at, takes_memory, stream, rest_fault}
@@ -43,6 +45,34 @@ FirstGives bytes (Ok (Some x)) =
 FirstGives bytes (Ok None) = frame_at bytes ≡ Err Truncated
 FirstGives bytes (Err (frames.Fault kind)) = (frame_at bytes ≡ Err kind) × (is_truncated kind ≡ false)
 FirstGives bytes (Err frames.NoMemory) = IsTrue (takes_memory bytes)
+
+-- what is answered about the first frame of the bytes, where it is lent
+abbrev pub FirstLent : List ℕ → Result (Option (LentFrame × ℕ)) FrameFail → Type 0
+FirstLent bytes (Ok (Some x)) = FirstGives bytes (Ok (Some (frame_lent x.0, x.1)))
+FirstLent bytes (Ok None) = FirstGives bytes (Ok None)
+FirstLent bytes (Err fail) = FirstGives bytes (Err fail)
+
+-- past so many bytes
+abbrev pub past_bytes : ℕ → Splitter → Splitter
+past_bytes len s = record { offset = s.offset + len; rest = drop len s.rest }
+
+-- the same answer with the frame's piece in place, and without its length
+abbrev pub answer_lent : Result (Option (LentFrame × ℕ)) DecodeFail → Result (Option Frame) DecodeFail
+answer_lent (Ok (Some x)) = Ok (Some (frame_lent x.0))
+answer_lent (Ok None) = Ok None
+answer_lent (Err fail) = Err fail
+
+-- past the frame that is answered, if one is
+abbrev pub past_answer : Result (Option (LentFrame × ℕ)) DecodeFail → Splitter → Splitter
+past_answer (Ok (Some x)) s = past_bytes x.1 s
+past_answer (Ok None) s = s
+past_answer (Err fail) s = s
+
+-- the frame that is answered, if one is, lies within the bytes
+abbrev pub IsLentWithin : List ℕ → Result (Option (LentFrame × ℕ)) DecodeFail → Type 0
+IsLentWithin bytes (Ok (Some x)) = x.1 ≤ length bytes
+IsLentWithin bytes (Ok None) = Unit {0}
+IsLentWithin bytes (Err fail) = Unit {0}
 
 -- what is answered about the next frame, and what is left
 abbrev pub NextGives : Splitter → Result (Option Frame) DecodeFail → Splitter → Type 0

@@ -1,5 +1,6 @@
 //! The fields of a frame, each read as a prefix of the bytes.
-ghost use Rattle.std.specs.Prelude.{◌≡◌, ◌<◌, ◌==◌, true, slice_index, Err};
+ghost use Rattle.std.specs.Prelude.{◌≡◌, ◌<◌, ◌==◌, true, slice_index, Err, Some};
+ghost use Rattle.std.specs.Char.{encode_utf8};
 ghost use Rattle.std.specs.Str.{chars};
 ghost use Rattle.std.specs.Int.{w32, w64};
 ghost use Rattle.element_name.specs.Cases.{when};
@@ -10,7 +11,7 @@ ghost use Rattle.edit_frame.specs.Fields.{user_set_at, sign_at, has_bit, rights_
 ghost use Rattle.edit_frame.specs.Fields.{char_at, bytes_at};
 ghost use Rattle.edit_frame.specs.Fields.{long_piece_at, letter_at, edit_at, when_passes};
 ghost use Rattle.edit_frame.specs.declared.fail.FieldFail.TheVariants.{NoMemory as no_memory};
-ghost use Rattle.edit_frame.specs.Gives.{Gives, MayGive};
+ghost use Rattle.edit_frame.specs.Gives.{Gives, GivesEdit, MayGive};
 
 use crate::fail::{Bad, FieldFail};
 use crate::item::items_of;
@@ -22,7 +23,7 @@ use crate::numbers::{
     UPDATE_KIND, UPDATE_WORTH, VALIDATE,
 };
 use bytes::Buf;
-use coop_request::{Edit, Piece};
+use coop_request::{LentEdit, LentPiece};
 use element_name::{Name, NoMemory};
 use policy_book::{AdminOp, Auth, Extent, NameList, NumList, Rights, SharedAuth, UserSet};
 use std::alloc::Global;
@@ -196,16 +197,24 @@ pub fn operation_of(alloc: Global, rest: &mut &[u8]) -> Result<AdminOp, FieldFai
     }
 }
 
+// The piece of one scalar value, which lies in the room.
+fn letter_in(letter: char, room: &mut [u8; 4]) -> Option<LentPiece<'_>>
+    ensures { result ≡ Some (encode_utf8 letter) }
+{
+    let text = letter.encode_utf8(room);
+    LentPiece::checked(text.as_bytes())
+}
+
 #[tactic(auto, unfolding(crate::specs::Fields::char_at))]
-fn char_of(rest: &mut &[u8]) -> Result<Piece, Bad>
+fn char_of<'a>(rest: &mut &'a [u8], room: &'a mut [u8; 4]) -> Result<LentPiece<'a>, Bad>
     ensures { Gives result rest.new.now (char_at rest.old.now) }
 {
     let letter = char::from_u32(u32_of(rest)?).ok_or(Bad)?;
-    Ok(Piece::of(letter))
+    letter_in(letter, room).ok_or(Bad)
 }
 
 // The scalar value of a piece that has only one.
-pub fn only_char(piece: &Piece) -> Option<char>
+pub fn only_char(piece: &LentPiece<'_>) -> Option<char>
     ensures { result ≡ when (is_one_char piece.now) (slice_index (chars piece.now) 0) }
 {
     let Ok(text) = std::str::from_utf8(piece.bytes()) else {
@@ -219,7 +228,7 @@ pub fn only_char(piece: &Piece) -> Option<char>
 }
 
 #[tactic(auto, unfolding(crate::specs::Fields::bytes_at))]
-fn piece_bytes_of(count: u8, rest: &mut &[u8]) -> Result<Piece, Bad>
+fn piece_bytes_of<'a>(count: u8, rest: &mut &'a [u8]) -> Result<LentPiece<'a>, Bad>
     ensures { Gives result rest.new.now (when_passes is_piece (bytes_at count) rest.old.now) }
 {
     let count = count as usize;
@@ -228,11 +237,11 @@ fn piece_bytes_of(count: u8, rest: &mut &[u8]) -> Result<Piece, Bad>
     }
     let (prefix, after) = rest.split_at(count);
     *rest = after;
-    Piece::checked(prefix).ok_or(Bad)
+    LentPiece::checked(prefix).ok_or(Bad)
 }
 
 #[tactic(auto, unfolding(crate::specs::Fields::long_piece_at, crate::specs::Fields::is_long_piece))]
-fn long_piece_of(rest: &mut &[u8]) -> Result<Piece, Bad>
+fn long_piece_of<'a>(rest: &mut &'a [u8]) -> Result<LentPiece<'a>, Bad>
     ensures { Gives result rest.new.now (long_piece_at rest.old.now) }
 {
     let count = byte_of(rest)?;
@@ -244,31 +253,40 @@ fn long_piece_of(rest: &mut &[u8]) -> Result<Piece, Bad>
 }
 
 #[tactic(auto, unfolding(crate::specs::Fields::letter_at))]
-fn letter_of(version: u8, rest: &mut &[u8]) -> Result<Piece, Bad>
+fn letter_of<'a>(
+    version: u8,
+    rest: &mut &'a [u8],
+    room: &'a mut [u8; 4],
+) -> Result<LentPiece<'a>, Bad>
     ensures { Gives result rest.new.now (letter_at version rest.old.now) }
 {
     if version == PLAIN_VERSION {
-        char_of(rest)
+        char_of(rest, room)
     } else {
         long_piece_of(rest)
     }
 }
 
 #[tactic(auto, unfolding(crate::specs::Fields::edit_at))]
-pub fn edit_of(version: u8, kind: u8, rest: &mut &[u8]) -> Result<Edit, Bad>
-    ensures { Gives result rest.new.now (edit_at version kind rest.old.now) }
+pub fn edit_of<'a>(
+    version: u8,
+    kind: u8,
+    rest: &mut &'a [u8],
+    room: &'a mut [u8; 4],
+) -> Result<LentEdit<'a>, Bad>
+    ensures { GivesEdit result rest.new.now (edit_at version kind rest.old.now) }
 {
     match kind {
-        INSERT_KIND => Ok(Edit::Insert {
+        INSERT_KIND => Ok(LentEdit::Insert {
             after: name_of(rest)?,
-            letter: letter_of(version, rest)?,
+            letter: letter_of(version, rest, room)?,
         }),
-        DELETE_KIND => Ok(Edit::Delete {
+        DELETE_KIND => Ok(LentEdit::Delete {
             target: name_of(rest)?,
         }),
-        UPDATE_KIND => Ok(Edit::Update {
+        UPDATE_KIND => Ok(LentEdit::Update {
             target: name_of(rest)?,
-            letter: letter_of(version, rest)?,
+            letter: letter_of(version, rest, room)?,
         }),
         _ => Err(Bad),
     }

@@ -160,7 +160,7 @@ fn put_letter(out: &mut Vec<u8>, piece: &Piece) -> Result<(), AllocError>
     ensures { OnOk result (out.new.items ≡ out.old.items ++ letter_bytes piece.now) }
 {
     let bytes = piece.bytes();
-    match only_char(piece) {
+    match only_char(&piece.lent()) {
         Some(letter) => out.put_u32(letter as u32),
         None => {
             out.put_u8(bytes.len() as u8)?;
@@ -189,7 +189,7 @@ fn put_edit(out: &mut Vec<u8>, e: &Edit) -> Result<(), AllocError>
 fn letter_version(piece: &Piece) -> u8
     ensures { result ≡ letter_version piece.now }
 {
-    if only_char(piece).is_some() {
+    if only_char(&piece.lent()).is_some() {
         PLAIN_VERSION
     } else {
         LONG_VERSION

@@ -7,7 +7,7 @@ ghost use Rattle.form_certificate.specs.Certify.{journal_bytes, certified_bytes,
 ghost use Rattle.form_certificate.specs.Form.{certifier_turn, certifier_closing};
 
 use audit_cert::{CertFail, certify};
-use edit_frame::{Frame, encode};
+use edit_frame::{Frame, LentFrame, encode};
 use edit_io::{Sink, Source};
 use element_name::NoMemory;
 use form_feed::{Intake, feed_intake, take_untold};
@@ -85,7 +85,7 @@ impl Intake for Certifier {
     fn take_in(
         &mut self,
         _alloc: Global,
-        frame: Frame,
+        frame: LentFrame<'_>,
         _out: &mut Vec<u8>,
     ) -> Result<(), NoMemory> {
         take_untold(&mut self.peer, frame)

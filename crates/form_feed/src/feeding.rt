@@ -1,13 +1,15 @@
 //! The form that feeds a stream to an intake.
-ghost use Rattle.std.specs.Prelude.{◌≡◌, ℕ, ◌+◌, List, [], length};
+ghost use Rattle.std.specs.Prelude.{◌≡◌, ℕ, ◌+◌, List, [], length, IfOk};
 ghost use Rattle.line_engine.specs.Engine.{Ran, Reads, StatusCause};
 ghost use Rattle.line_engine.specs.Form.{Rests};
 ghost use Rattle.form_feed.specs.Stream.{stream_output, stream_part, stream_after};
 ghost use Rattle.form_feed.specs.Form.{feed_meaning};
+ghost use Rattle.form_feed.specs.First.{TakesFirst};
 
 use crate::intake::Intake;
 use edit_frame::{DecodeFail, Splitter};
 use edit_io::{Sink, Source};
+use element_name::NoMemory;
 use line_engine::{Form, Next, Status, run};
 use report_text::frame_fault_line;
 use std::alloc::{AllocError, Global};
@@ -17,6 +19,41 @@ use std::alloc::{AllocError, Global};
 struct Feeding<T> {
     intake: T,
     splitter: Splitter,
+}
+
+/// What became of the first frame of the bytes that are held.
+enum First {
+    /// It was taken in, and has so many bytes.
+    Taken(usize),
+    /// Its bytes aren't all there yet.
+    Waiting,
+    /// It is bad.
+    Bad,
+}
+
+// Takes in the first frame of the bytes that are held, where it lies.
+fn take_first<T: Intake>(
+    alloc: Global,
+    splitter: &Splitter,
+    intake: &mut T,
+    out: &mut Vec<u8>,
+) -> Result<First, NoMemory>
+    requires { out.old.items ≡ [] }
+    ensures { IfOk result (λ first. TakesFirst T.turn splitter.now intake.old first intake.new out.new.items) }
+{
+    let mut room = [0; 4];
+    match splitter.first_lent(&mut room) {
+        Ok(Some((frame, len))) => {
+            intake.take_in(alloc, frame, out)?;
+            Ok(First::Taken(len))
+        }
+        Ok(None) => Ok(First::Waiting),
+        Err(DecodeFail::NoMemory) => Err(NoMemory),
+        Err(DecodeFail::Fault(fault)) => {
+            frame_fault_line(alloc, fault, out)?;
+            Ok(First::Bad)
+        }
+    }
 }
 
 impl<T: Intake> Form for Feeding<T> {
@@ -31,17 +68,15 @@ impl<T: Intake> Form for Feeding<T> {
     }
 
     fn next(&mut self, alloc: Global, out: &mut Vec<u8>) -> Result<Next, AllocError> {
-        let frame = match self.splitter.next_frame() {
-            Ok(Some(frame)) => frame,
-            Ok(None) => return Ok(Next::Waiting),
-            Err(DecodeFail::NoMemory) => return Err(AllocError),
-            Err(DecodeFail::Fault(fault)) => {
-                frame_fault_line(alloc, fault, out).or(Err(AllocError))?;
-                return Ok(Next::Bad);
+        match take_first(alloc, &self.splitter, &mut self.intake, out) {
+            Ok(First::Taken(len)) => {
+                self.splitter.pass(len);
+                Ok(Next::Answered)
             }
-        };
-        self.intake.take_in(alloc, frame, out).or(Err(AllocError))?;
-        Ok(Next::Answered)
+            Ok(First::Waiting) => Ok(Next::Waiting),
+            Ok(First::Bad) => Ok(Next::Bad),
+            Err(NoMemory) => Err(AllocError),
+        }
     }
 
     fn end(&mut self, alloc: Global, cut: bool, out: &mut Vec<u8>) -> Result<Status, AllocError> {

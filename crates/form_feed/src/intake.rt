@@ -1,9 +1,10 @@
 //! What takes the frames of a stream in.
 ghost use Rattle.std.specs.Prelude.{◌≡◌, ℕ, ◌++◌, List, OnOk};
 ghost use Rattle.edit_frame.specs.declared.frame.Frame.{Frame};
+ghost use Rattle.edit_frame.specs.Lent.{frame_lent};
 ghost use Rattle.form_feed.specs.Stream.{FrameTurn};
 
-use edit_frame::Frame;
+use edit_frame::LentFrame;
 use element_name::NoMemory;
 use std::alloc::Global;
 
@@ -18,9 +19,14 @@ pub trait Intake {
     ghost closing: { Self → List ℕ };
 
     /// Takes a frame in, and appends what is written of it.
-    fn take_in(&mut self, alloc: Global, frame: Frame, out: &mut Vec<u8>) -> Result<(), NoMemory>
-        ensures reply { OnOk result (out.new.items ≡ out.old.items ++ (turn self.old frame).reply) }
-        ensures after { OnOk result (self.new ≡ (turn self.old frame).after) };
+    fn take_in(
+        &mut self,
+        alloc: Global,
+        frame: LentFrame<'_>,
+        out: &mut Vec<u8>,
+    ) -> Result<(), NoMemory>
+        ensures reply { OnOk result (out.new.items ≡ out.old.items ++ (turn self.old (frame_lent frame.entry)).reply) }
+        ensures after { OnOk result (self.new ≡ (turn self.old (frame_lent frame.entry)).after) };
 
     /// Appends what is written at the end of the stream.
     fn close(&mut self, alloc: Global, out: &mut Vec<u8>) -> Result<(), NoMemory>

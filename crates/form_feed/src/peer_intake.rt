@@ -8,7 +8,7 @@ ghost use Rattle.form_feed.specs.Feed.{fed_output, part_from, peer_fed, feed_out
 use crate::feeding::feed_intake;
 use crate::intake::Intake;
 use crate::turn::answer_frame;
-use edit_frame::Frame;
+use edit_frame::LentFrame;
 use edit_io::{Sink, Source};
 use element_name::NoMemory;
 use line_engine::Status;
@@ -21,7 +21,12 @@ impl Intake for Peer {
 
     ghost closing = { closing_lines };
 
-    fn take_in(&mut self, _alloc: Global, frame: Frame, out: &mut Vec<u8>) -> Result<(), NoMemory> {
+    fn take_in(
+        &mut self,
+        _alloc: Global,
+        frame: LentFrame<'_>,
+        out: &mut Vec<u8>,
+    ) -> Result<(), NoMemory> {
         answer_frame(self, frame, out)
     }
 

@@ -3,15 +3,17 @@ ghost use Rattle.std.specs.Prelude.{◌≡◌, ◌++◌, not, flat_map, OnOk, If
 ghost use Rattle.peer_step.specs.Answers.{is_quiet};
 ghost use Rattle.peer_core.specs.Answers.{answer_of, answer_settle};
 ghost use Rattle.peer_core.specs.After.{peer_after};
+ghost use Rattle.edit_frame.specs.Lent.{frame_lent};
 ghost use Rattle.form_feed.specs.Turn.{settle_told, all_settle_steps, message_told, message_turn, frame_turn};
 
 use crate::telling::{Nobody, Telling};
 use coop_request::LentRequest;
-use edit_frame::Frame;
+use edit_frame::LentFrame;
 use edit_message::Message;
 use element_name::NoMemory;
 use peer_core::Peer;
 use peer_step::{Answer, Step};
+use policy_book::Entry;
 use report_text::{end_line, turn_line};
 
 // Makes a step, and tells its answer. It stands apart from `receive`, since a step and an answer have room for pieces, which is
@@ -80,36 +82,43 @@ fn receive_request<T: Telling>(
     }
 }
 
-// Receives a message, and tells the answer.
-fn receive<T: Telling>(peer: &mut Peer, message: Message, to: &mut T) -> Result<(), NoMemory>
-    ensures told { OnOk result (T.told to.new ≡ T.told to.old ++ T.line (answer_of peer.old (Step.Receive message))) }
-    ensures peer { OnOk result (peer.new ≡ peer_after peer.old (Step.Receive message)) }
+// Receives a request, settles what is due then, and tells the answers.
+fn take_request<T: Telling>(
+    peer: &mut Peer,
+    request: &LentRequest<'_>,
+    to: &mut T,
+) -> Result<(), NoMemory>
+    ensures told { OnOk result (T.told to.new ≡ T.told to.old ++ message_told T.line peer.old (Message.Coop request.now)) }
+    ensures peer { OnOk result (peer.new ≡ (message_turn peer.old (Message.Coop request.now)).after) }
 {
-    match message {
-        Message::Coop(request) => receive_request(peer, &request.lent(), to),
-        Message::Admin(entry) => tell_step(peer, Step::Receive(Message::Admin(entry)), to),
-    }
+    receive_request(peer, request, to)?;
+    settle(peer, to)
 }
 
-// Receives a message, settles what is due then, and tells the answers.
-fn take_message<T: Telling>(peer: &mut Peer, message: Message, to: &mut T) -> Result<(), NoMemory>
-    ensures told { OnOk result (T.told to.new ≡ T.told to.old ++ message_told T.line peer.old message) }
-    ensures peer { OnOk result (peer.new ≡ (message_turn peer.old message).after) }
+// Receives an entry, settles what is due then, and tells the answers.
+fn take_entry<T: Telling>(peer: &mut Peer, entry: Entry, to: &mut T) -> Result<(), NoMemory>
+    ensures told { OnOk result (T.told to.new ≡ T.told to.old ++ message_told T.line peer.old (Message.Admin entry)) }
+    ensures peer { OnOk result (peer.new ≡ (message_turn peer.old (Message.Admin entry)).after) }
 {
-    receive(peer, message, to)?;
+    tell_step(peer, Step::Receive(Message::Admin(entry)), to)?;
     settle(peer, to)
 }
 
 /// Answers a frame.
 #[tactic(auto, unfolding(crate::specs::Turn::frame_turn))]
-pub(crate) fn answer_frame(peer: &mut Peer, frame: Frame, out: &mut Vec<u8>) -> Result<(), NoMemory>
-    ensures reply { OnOk result (out.new.items ≡ out.old.items ++ (frame_turn peer.old frame).reply) }
-    ensures peer { OnOk result (peer.new ≡ (frame_turn peer.old frame).after) }
+pub(crate) fn answer_frame(
+    peer: &mut Peer,
+    frame: LentFrame<'_>,
+    out: &mut Vec<u8>,
+) -> Result<(), NoMemory>
+    ensures reply { OnOk result (out.new.items ≡ out.old.items ++ (frame_turn peer.old (frame_lent frame.entry)).reply) }
+    ensures peer { OnOk result (peer.new ≡ (frame_turn peer.old (frame_lent frame.entry)).after) }
 {
     match frame {
-        Frame::Item(message) => take_message(peer, message, out),
-        Frame::Turn => turn_line(out),
-        Frame::End => end_line(out),
+        LentFrame::Request(request) => take_request(peer, &request, out),
+        LentFrame::Entry(entry) => take_entry(peer, entry, out),
+        LentFrame::Turn => turn_line(out),
+        LentFrame::End => end_line(out),
     }
 }
 
@@ -117,11 +126,12 @@ pub(crate) fn answer_frame(peer: &mut Peer, frame: Frame, out: &mut Vec<u8>) -> 
 ///
 /// It takes the time and the memory of the peer's steps. After a failure the peer may have made a part of them.
 #[tactic(auto, unfolding(crate::specs::Turn::frame_turn))]
-pub fn take_untold(peer: &mut Peer, frame: Frame) -> Result<(), NoMemory>
-    ensures { OnOk result (peer.new ≡ (frame_turn peer.old frame).after) }
+pub fn take_untold(peer: &mut Peer, frame: LentFrame<'_>) -> Result<(), NoMemory>
+    ensures { OnOk result (peer.new ≡ (frame_turn peer.old (frame_lent frame.entry)).after) }
 {
     match frame {
-        Frame::Item(message) => take_message(peer, message, &mut Nobody),
-        Frame::Turn | Frame::End => Ok(()),
+        LentFrame::Request(request) => take_request(peer, &request, &mut Nobody),
+        LentFrame::Entry(entry) => take_entry(peer, entry, &mut Nobody),
+        LentFrame::Turn | LentFrame::End => Ok(()),
     }
 }
