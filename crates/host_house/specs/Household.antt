@@ -1,8 +1,9 @@
 -- A house as a value, and what a call may change of it.
-use Rattle.std.specs.Prelude.{◌≡◌, ◌≢◌, ℕ, ◌&&◌, List, ◌∷◌, Option, Some, IsSome, IsSomeAnd, option_and_then, slice_get, bytes_eq}
+use Rattle.std.specs.Prelude.{◌≡◌, ◌≢◌, ℕ, ◌&&◌, false, List, ◌∷◌, Option, Some, None, IsSome, IfSome, IsSomeAnd, option_and_then, slice_get, bytes_eq}
 use Rattle.sha2.specs.Sha256.{sha256}
 use Rattle.element_name.specs.Cases.{when}
 use Rattle.host_core.specs.declared.event.HostEvent.{HostEvent}
+use Rattle.host_core.specs.Past.{device_of}
 use Rattle.host_people.specs.declared.change.Change.{Change}
 use Rattle.host_people.specs.declared.change.Change.TheVariants.{Invited, Joined}
 use Rattle.host_people.specs.declared.people.Holder.{Holder}
@@ -29,6 +30,15 @@ MakesDevice person site secret old new = new ≡ Joined site person (sha256 secr
 abbrev pub HoldsKey : ℕ → ℕ → List ℕ → List Change → Type 0
 HoldsKey person site secret changes =
     (holder : Holder) × (holder_by secret (device_holder site changes) ≡ Some holder) × (person ≡ holder.person)
+
+-- no document that is open has an open device of a site, by what has happened at each
+abbrev pub IsClosedAtAll : {D : Type 0} → (D → Option (List HostEvent)) → ℕ → List D → Type 0
+IsClosedAtAll past site documents = (k : ℕ) → IfSome (slice_get documents k) (λ document. IfSome (past document) (λ events. device_of site events ≡ None))
+
+-- the device of a site is there, and is closed among the people and at each document that is open
+pub record IsClosedEverywhere {D : Type 0} (past : D → Option (List HostEvent)) (site : ℕ) (house : Household D) : Type 0 where
+  pub people : IsSomeAnd (device_holder site house.changes) (λ h. h.is_open ≡ false)
+  pub documents : IsClosedAtAll past site house.documents
 
 -- the documents of other numbers stay
 abbrev pub OthersStay : {D : Type 0} → ℕ → List D → List D → Type 0

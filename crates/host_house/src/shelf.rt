@@ -1,6 +1,6 @@
 //! Calls that touch one of a house's documents, and leave the others.
 ghost use Rattle.std.specs.Prelude.{◌≡◌, IfOk, IsSome};
-ghost use Rattle.host_house.specs.Household.{OthersStay, StaysOpen};
+ghost use Rattle.host_house.specs.Household.{OthersStay, StaysOpen, IsClosedAtAll};
 
 use crate::seals::{open_sealed, seal_document};
 use host_core::{LinkId, Role};
@@ -134,6 +134,15 @@ pub(crate) fn seal_all<'a, D: HouseDocument<'a>>(
 {
     for number in 0..documents.len() {
         seal_document(rt, folder, &mut documents[number]);
+    }
+}
+
+/// Closes a device in the documents that are open.
+pub(crate) fn close_in_all<'a, D: HouseDocument<'a>>(documents: &mut [D], site: u16)
+    ensures { IsClosedAtAll D.past site documents.new }
+{
+    for number in 0..documents.len() {
+        documents[number].close_device(site);
     }
 }
 

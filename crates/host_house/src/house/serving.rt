@@ -1,12 +1,12 @@
 //! Devices that show secrets, and their links to documents.
-ghost use Rattle.std.specs.Prelude.{◌≡◌, ℕ, OnOk, IfOk};
+ghost use Rattle.std.specs.Prelude.{◌≡◌, ℕ, None, OnOk, IfOk};
 ghost use Rattle.host_people.specs.Holders.{role_of, device_holder};
-ghost use Rattle.host_house.specs.Household.{holder_by, MakesInvitation, MakesDevice, HoldsKey, TouchesDocument};
+ghost use Rattle.host_house.specs.Household.{holder_by, MakesInvitation, MakesDevice, HoldsKey, TouchesDocument, IsClosedAtAll};
 
 use super::House;
 use crate::fault::HouseFault;
 use crate::keys::{digest_of, is_same, new_secret};
-use crate::shelf::{Entrant, admit_at, give_up_at, open_at, seal_all, shut_at};
+use crate::shelf::{Entrant, admit_at, close_in_all, give_up_at, open_at, seal_all, shut_at};
 use hex::encode;
 use host_core::{LinkId, Role};
 use host_interface::{HouseDocument, OpenFault};
@@ -86,6 +86,7 @@ impl<'a, D> House<'a, D> {
 
     // Keeps a new device of a person, with this secret.
     fn keep_device(&mut self, site: u16, person: u16, own: Secret) -> Result<(u16, Secret), Ending>
+        ensures site { IfOk result (λ made. made.0 ≡ site) }
         ensures made { IfOk result (λ made. MakesDevice person made.0 made.1 self.old.changes self.new.changes) }
         ensures documents { self.new.documents ≡ self.old.documents }
     {
@@ -104,6 +105,7 @@ impl<'a, D> House<'a, D> {
     // Makes a device of a person, with a secret of its own.
     fn make_device(&mut self, person: u16) -> Result<(u16, Secret), Ending>
         ensures made { IfOk result (λ made. MakesDevice person made.0 made.1 self.old.changes self.new.changes) }
+        ensures new { IfOk result (λ made. device_holder made.0 self.old.changes ≡ None) }
         ensures documents { self.new.documents ≡ self.old.documents }
     {
         let Some(site) = self.people().next_site() else {
@@ -118,6 +120,9 @@ impl<'a, D> House<'a, D> {
     /// Makes a device of who shows the secret of an open invitation: its site and its own secret. Both are on the disk then.
     pub fn join(&mut self, secret: &Secret) -> Result<(u16, Secret), Ending>
         ensures made { IfOk result (λ made. (person : ℕ) × MakesDevice person made.0 made.1 self.old.changes self.new.changes) }
+
+        // No device had the site before.
+        ensures new { IfOk result (λ made. device_holder made.0 self.old.changes ≡ None) }
         ensures documents { self.new.documents ≡ self.old.documents }
     {
         match self.invited(&digest_of(secret)) {
@@ -228,9 +233,10 @@ impl<'a, D: HouseDocument<'a>> House<'a, D> {
     }
 
     // Closes a device in the documents that are open.
-    pub(super) fn close_in_documents(&mut self, site: u16) {
-        for document in self.documents.iter_mut() {
-            document.close_device(site);
-        }
+    pub(super) fn close_in_documents(&mut self, site: u16)
+        ensures closed { IsClosedAtAll D.past site self.new.documents }
+        ensures changes { self.new.changes ≡ self.old.changes }
+    {
+        close_in_all(&mut self.documents, site);
     }
 }

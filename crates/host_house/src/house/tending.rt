@@ -1,4 +1,6 @@
 //! Orders of owners.
+ghost use Rattle.std.specs.Prelude.{◌≡◌, ◌∷◌, OnOk};
+ghost use Rattle.host_house.specs.Household.{IsClosedEverywhere};
 
 use super::House;
 use super::making::with;
@@ -80,7 +82,9 @@ impl<'a, D> House<'a, D> {
     }
 
     // Keeps a change, and gives the word for it.
-    fn change(&mut self, change: Change, word: &str) -> Result<String, HouseFault> {
+    fn change(&mut self, change: Change, word: &str) -> Result<String, HouseFault>
+        ensures { OnOk result (self.new.changes ≡ change ∷ self.old.changes) }
+    {
         match String::from_str(self.alloc, word) {
             Ok(text) => {
                 self.add(change)?;
@@ -128,8 +132,10 @@ impl<'a, D> House<'a, D> {
 }
 
 impl<'a, D: HouseDocument<'a>> House<'a, D> {
-    // Closes a device that is there, also in the documents that are open.
-    fn close_device(&mut self, site: u16) -> Result<String, HouseFault> {
+    // Closes a device that is there, also in the documents that are open. So it is closed everywhere before that is answered.
+    fn close_device(&mut self, site: u16) -> Result<String, HouseFault>
+        ensures { OnOk result (IsClosedEverywhere D.past site self.new) }
+    {
         if self.people().device(site).is_none() {
             return Err(HouseFault::Nobody);
         }
