@@ -1,6 +1,7 @@
 mod Again
 pub mod Ahead
 mod Changes
+mod MadeBodies
 mod Opening
 mod Putting
 mod Readings

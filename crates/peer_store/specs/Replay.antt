@@ -1,5 +1,5 @@
 -- What a peer is after the steps of bodies.
-use Rattle.std.specs.Prelude.{◌≡◌, ⊤, ℕ, true, List, ◌∷◌, ◌++◌, fold}
+use Rattle.std.specs.Prelude.{◌≡◌, ⊤, ℕ, Bool, true, false, List, ◌∷◌, ◌++◌, Option, Some, None, fold}
 use Rattle.peer_disk.specs.declared.walk.Loaded.{Loaded}
 use Rattle.peer_disk.specs.Records.{gate_place}
 use Rattle.peer_disk.specs.Loading.{Loads}
@@ -17,6 +17,11 @@ pub record MakesBody (old : Peer) (body : List ℕ) (new : Peer) : Type 0 where
   pub spells : IsBodyFor old step body
   pub turns : changes old step ≡ true
   pub after : new ≡ peer_after old step
+
+-- a peer makes the step that was read, if one was, and it is told whether that changes the peer
+abbrev pub IsMade : Peer → Option Step → Bool → Peer → Type 0
+IsMade old (Some step) told new = (told ≡ changes old step) × (new ≡ peer_after old step)
+IsMade old None told new = told ≡ false
 
 -- it makes those of these bodies in order, each of which changes it
 pub record IsReplay (old : Peer) (bodies : List (List ℕ)) (new : Peer) : Type 0 where

@@ -7,5 +7,6 @@ mod kinds;
 mod reading;
 mod writing;
 
-pub(crate) use reading::read_body;
+pub(crate) use kinds::{ADMINISTER, DELETE, INSERT, RECEIVE, SETTLE, UPDATE, VALIDATE_NEXT};
+pub(crate) use reading::{alone, delete_of, insert_of, operation_of, update_of};
 pub(crate) use writing::body_of;

@@ -15,6 +15,7 @@ mod body;
 mod fault;
 pub mod laws;
 mod limits;
+mod making;
 mod replay;
 mod spelled;
 mod stepped;

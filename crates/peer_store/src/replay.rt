@@ -6,27 +6,11 @@ ghost use Rattle.peer_core.specs.Peer.{fresh_peer};
 ghost use Rattle.peer_store.specs.Store.{IsNoStep};
 ghost use Rattle.peer_store.specs.Replay.{MakesBody, IsReplay, IsStoppedBy, IsRefusedBy};
 
-use crate::body::read_body;
 use crate::fault::StoreFault;
-use crate::spelled::next_version;
-use crate::stepped::{Stepped, make_step};
-use element_name::NoMemory;
+use crate::making::make_body;
 use peer_core::Peer;
 use peer_disk::{BESIDE_BODY, Ending, FIRST_GATE, Loaded};
 use std::alloc::Global;
-
-// Makes the step of a body, and says whether it is one that changes the peer.
-fn make_body(alloc: Global, peer: &mut Peer, body: &[u8]) -> Result<bool, NoMemory>
-    ensures made { IfOk result (λ made. IsTrue made → MakesBody peer.old body.now peer.new) }
-    ensures no_step { IfOk result (λ made. made ≡ false → IsNoStep peer.old body.now) }
-{
-    let Some(step) = read_body(alloc, next_version(peer), body)? else {
-        return Ok(false);
-    };
-    let Stepped { answer, changed } = make_step(peer, step)?;
-    drop(answer);
-    Ok(changed)
-}
 
 // Makes the steps of these bodies, and gives the place of the gate behind their records.
 fn replay(alloc: Global, peer: &mut Peer, bodies: &[Vec<u8>]) -> Result<u64, StoreFault>

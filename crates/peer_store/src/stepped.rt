@@ -1,5 +1,5 @@
 //! Steps that were made.
-ghost use Rattle.std.specs.Prelude.{◌≡◌, IfOk, OnOk, OnErr, true, false};
+ghost use Rattle.std.specs.Prelude.{◌≡◌, ◌==◌, ◌||◌, not, length, IfOk, OnOk, OnErr, true, false};
 ghost use Rattle.peer_core.specs.Answers.{answer_of};
 ghost use Rattle.peer_core.specs.After.{peer_after};
 ghost use Rattle.peer_store.specs.Steps.{changes};
@@ -11,6 +11,32 @@ use peer_core::Peer;
 use peer_disk::Records;
 use peer_step::{Answer, Step};
 use std::alloc::Global;
+
+/// How many messages a peer has, and how many it holds.
+#[derive(Clone, Copy)]
+pub(crate) struct Counts {
+    journal: u32,
+    held: u32,
+}
+
+impl Counts {
+    /// Those of the peer.
+    pub(crate) fn of(peer: &Peer) -> Counts
+        ensures { result ≡ record { journal = length peer.now.journal; held = length peer.now.held } }
+    {
+        Counts {
+            journal: peer.journal_len(),
+            held: peer.held_len(),
+        }
+    }
+
+    /// Whether the peer's are others by now.
+    pub(crate) fn changed(self, peer: &Peer) -> bool
+        ensures { result ≡ (not (length peer.now.journal == self.journal) || not (length peer.now.held == self.held)) }
+    {
+        peer.journal_len() != self.journal || peer.held_len() != self.held
+    }
+}
 
 /// A step that was made.
 #[derive(Drop)]
@@ -27,10 +53,9 @@ pub(crate) fn make_step(peer: &mut Peer, step: Step) -> Result<Stepped, NoMemory
     ensures after { OnOk result (peer.new ≡ peer_after peer.old step) }
     ensures unchanged { OnErr result (peer.new ≡ peer.old) }
 {
-    let joined = peer.journal_len();
-    let held = peer.held_len();
+    let before = Counts::of(peer);
     let answer = peer.step(step)?;
-    let changed = peer.journal_len() != joined || peer.held_len() != held;
+    let changed = before.changed(peer);
     Ok(Stepped { answer, changed })
 }
 
